@@ -1,0 +1,131 @@
+-- The number of a string from its fields, as reading gives it: sign 0; sign 1 with a fraction of 0, whose size is the next power of two; sign 1
+-- with another fraction, which counts up from -2. Assumes nothing.
+use mathlib.Core.Path.{_≡_, refl, sym, ap, _∙_, subst, subst₃}
+use mathlib.Core.Bool.{Bool, true, false, cond}
+use Prim.Native.Nat.{ℕ, zero, suc, _+_, _-_, _*_, _%_, _^_, _≤_, _<_}
+use native.Mathlib.Nat.{mod-lt, lt-of-lt-of-le, one-mul, mul-one, pow-suc, sub-zero, pos-of-ne-zero, le-antisymm, le-of-suc-le-suc, div-lt-iff-lt-mul}
+use native.Mathlib.Numerals.{add-one}
+use native.Mathlib.Omega.{arith}
+use borrow.Author.Tests.{eq-eqb, ne-eqb}
+use lib.Dec.{lit≤, eqb}
+use lib.IntN.{ℤ, pos, negsuc, negℤ, _+ℤ_, _-ℤ_, _*ℤ_, +ℤ-assoc, +ℤ-comm, negℤ-+ℤ, -ℤ-+ℤ-cancel}
+use lib.Pow.{pow-pos, pow-add, pow-mono}
+use lib.Signed.{mag}
+use Rattle.word.specs.Takum.{Takum, real, characteristicOf, S, r, p, C, F, c, e, value}
+use Rattle.word.specs.Reads.{num, den, IsSize, signedSize, IsNumber}
+use Rattle.word.proofs.Powers.{pow-sum}
+use Rattle.word.proofs.Integers.{sub-add, neg-add, neg-mul}
+use Rattle.word.proofs.Signed.{difference, difference-mag}
+use Rattle.word.proofs.Cut.{regime-le}
+use Rattle.word.proofs.Meaning.{value-at, exponent-whole}
+
+-- the characteristic is small
+pub characteristic-small : (d r C : ℕ) → r ≤ 7 → C < 2 ^ r → mag (characteristicOf d r C) < 512
+unfolding characteristicOf
+characteristic-small d r C hr hC = by (eqb d 1)
+  where
+    low : 2 ^ r ≤ 128
+    low = pow-mono {i = r} {j = 7} hr
+
+    high : 2 ^ (r + 1) ≡ 2 ^ r * 2
+    high = pow-add 2 r 1
+
+    one : pos (2 ^ r) -ℤ pos 1 ≡ pos (2 ^ r - 1)
+    one = difference (2 ^ r) 1 (pow-pos r)
+
+    by : (b : Bool) → mag (cond b (pos (2 ^ r) -ℤ pos 1 +ℤ pos C) (pos C +ℤ pos 1 -ℤ pos (2 ^ (r + 1)))) < 512
+    by true = subst (λ (z : ℤ). mag (z +ℤ pos C) < 512) (sym one) (omega (arith, low, hC))
+    by false = lt-of-lt-of-le (difference-mag (2 ^ (r + 1) + 1) (C + 1) (2 ^ (r + 1)) (omega (arith, hC, high)) (omega arith)) (omega (arith, low, high))
+
+module _ (n T : ℕ) (lo : 12 ≤ n) (hi : n ≤ 64) (fits : T < 2 ^ n) where
+  K : ℕ
+  K = exponent-whole n T lo hi fits .0
+
+  whole : e n T -ℤ pos (p n T) +ℤ pos 307 ≡ pos K
+  unfolding K
+  whole = exponent-whole n T lo hi fits .1
+
+  fraction-lt : F n T < 2 ^ p n T
+  unfolding F
+  fraction-lt = mod-lt T (pow-pos (p n T))
+
+  double : 2 ^ (p n T + 1) ≡ 2 ^ p n T * 2
+  double = pow-add 2 (p n T) 1
+
+  -- the size m 2^(h - p), where h - p + 307 is the whole number L
+  sized : (m : ℕ) (h : ℤ) (L : ℕ) → h -ℤ pos (p n T) +ℤ pos 307 ≡ pos L → IsSize m (h -ℤ pos (p n T)) (m * 2 ^ L)
+  unfolding IsSize num den
+  sized m h L q = rw q (sym (mul-one (m * 2 ^ L)))
+
+  -- the value with its sign apart
+  plain : S n T ≡ 0 → value n T ≡ signedSize false ((2 ^ p n T + F n T) * 2 ^ K)
+  unfolding signedSize
+  plain s = value-at n T 0 (p n T) (F n T) K s refl refl whole ∙ ap (λ (x : ℕ). pos ((x + F n T) * 2 ^ K)) (one-mul (2 ^ p n T))
+
+  counted : S n T ≡ 1 → value n T ≡ signedSize true ((2 * 2 ^ p n T - F n T) * 2 ^ K)
+  unfolding signedSize
+  counted s =
+      value-at n T 1 (p n T) (F n T) K s refl refl whole ∙ ap (λ (z : ℤ). z *ℤ pos (2 ^ K)) (neg-add (2 * 2 ^ p n T) (F n T) (omega (arith, fraction-lt)))
+      ∙ neg-mul (2 * 2 ^ p n T - F n T) (2 ^ K)
+
+  same : S n T ≡ 0 → e n T ≡ c n T
+  unfolding e
+  same s = rw (ne-eqb (S n T) 1 (λ (q : S n T ≡ 1). omega (arith, s, q)))
+
+  pub positive-number : S n T ≡ 0 → IsNumber (real (value n T)) (p n T) false (c n T) (2 ^ p n T + F n T) (p n T)
+  positive-number s =
+      record {
+        v = (2 ^ p n T + F n T) * 2 ^ K;
+        means = ap real (plain s);
+        size = sized (2 ^ p n T + F n T) (c n T) K (subst (λ (z : ℤ). z -ℤ pos (p n T) +ℤ pos 307 ≡ pos K) (same s) whole);
+        count = refl;
+        low = omega arith;
+        high = omega (arith, fraction-lt, double);
+      }
+
+  negative : S n T ≡ 1 → e n T ≡ negℤ (c n T +ℤ pos 1)
+  unfolding e
+  negative s = rw (eq-eqb (S n T) 1 s)
+
+  pub negative-power : S n T ≡ 1 → F n T ≡ 0 → IsNumber (real (value n T)) (p n T) true (negℤ (c n T)) (2 ^ p n T) (p n T)
+  negative-power s f =
+      record {
+        v = 2 ^ p n T * 2 ^ suc K;
+        means = ap real (counted s ∙ ap (signedSize true) (ap (λ (x : ℕ). (2 * 2 ^ p n T - x) * 2 ^ K) f ∙ twice));
+        size = sized (2 ^ p n T) (negℤ (c n T)) (suc K) up;
+        count = refl;
+        low = omega arith;
+        high = omega (arith, double, pow-pos (p n T));
+      }
+    where
+      above : negℤ (c n T) ≡ e n T +ℤ pos 1
+      above = sym (ap (λ (z : ℤ). z +ℤ pos 1) (negative s ∙ negℤ-+ℤ (c n T) (pos 1)) ∙ -ℤ-+ℤ-cancel (negℤ (c n T)) (pos 1))
+
+      up : negℤ (c n T) -ℤ pos (p n T) +ℤ pos 307 ≡ pos (suc K)
+      up =
+          ap (λ (z : ℤ). z -ℤ pos (p n T) +ℤ pos 307) above ∙ ap (λ (z : ℤ). z +ℤ pos 307) (sym (sub-add (e n T) (pos (p n T)) (pos 1)))
+          ∙ +ℤ-assoc (e n T -ℤ pos (p n T)) (pos 1) (pos 307) ∙ sym (+ℤ-assoc (e n T -ℤ pos (p n T)) (pos 307) (pos 1))
+          ∙ ap (λ (z : ℤ). z +ℤ pos 1) whole ∙ ap pos (add-one K)
+
+      twice : (2 * 2 ^ p n T - 0) * 2 ^ K ≡ 2 ^ p n T * 2 ^ suc K
+      twice = ap (λ (x : ℕ). x * 2 ^ K) (sub-zero (2 * 2 ^ p n T)) ∙ omega (arith, ap (λ (x : ℕ). 2 ^ p n T * x) (pow-suc 2 K))
+
+  pub negative-number : S n T ≡ 1 → (F n T ≡ 0 → ⊥) → IsNumber (real (value n T)) (p n T) true (negsuc 0 -ℤ c n T) (2 ^ (p n T + 1) - F n T) (p n T)
+  negative-number s f =
+      record {
+        v = (2 ^ (p n T + 1) - F n T) * 2 ^ K;
+        means = ap real (counted s ∙ ap (λ (x : ℕ). signedSize true ((x - F n T) * 2 ^ K)) (omega (arith, double)));
+        size = sized (2 ^ (p n T + 1) - F n T) (negsuc 0 -ℤ c n T) K (subst (λ (z : ℤ). z -ℤ pos (p n T) +ℤ pos 307 ≡ pos K) (negative s ∙ negℤ-+ℤ (c n T) (pos 1) ∙ +ℤ-comm (negℤ (c n T)) (negsuc 0)) whole);
+        count = refl;
+        low = omega (arith, fraction-lt, double);
+        high = omega (arith, double, pow-pos (p n T), pos-of-ne-zero f);
+      }
+
+  -- a sign bit that is not 0 is 1
+  pub sign-one : (S n T ≡ 0 → ⊥) → S n T ≡ 1
+  unfolding S
+  sign-one f = le-antisymm (le-of-suc-le-suc (div-lt-iff-lt-mul {x = T} {y = 2} (pow-pos (n - 1)) .1 (omega (arith, pow-sum (n - 1) 1 n (omega arith))))) (pos-of-ne-zero f)
+
+-- the same number by equal parts
+pub same-number : (t : Takum) (b : ℕ) (s : Bool) {h h' : ℤ} {m m' p p' : ℕ} → h ≡ h' → m ≡ m' → p ≡ p' → IsNumber t b s h' m' p' → IsNumber t b s h m p
+same-number t b s qh qm qp x = subst₃ (λ (h : ℤ) (m p : ℕ). IsNumber t b s h m p) (sym qh) (sym qm) (sym qp) x

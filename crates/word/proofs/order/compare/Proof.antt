@@ -1,0 +1,75 @@
+-- `compare` meets its contract: a verdict that refuses is the answer, and one that lets both words through is followed by the order of their numbers. Assumes nothing.
+use mathlib.Core.Path.{_≡_, refl, ap, ap₂, _∙_}
+use borrow.Author.Needs.{needs}
+use borrow.Author.Needs.{sfits-of}
+use mir.Facts.{toZ-ofZ}
+use Rattle.word.specs.Orders.{order, Compares}
+use Rattle.word.specs.declared.order.Comparison.{Comparison}
+use Rattle.word.specs.Refusals.{widthTest, strayTest, _then_, IsWord, through, refused}
+use Rattle.word.proofs.Verdicts.{told-words, words-through}
+use Rattle.word.specs.declared.refusal.Verdict.{Verdict}
+use Rattle.word.proofs.order.compare.Statement.{statement}
+use Rattle.word.proofs.order.compare.Tie as tie
+
+-- the verdict as the tests in their order
+told : (c : tie.After-then2) {u : Verdict} → c .then2 .result ≡ u → widthTest (c .before .before .before .before .before .args .width .bits) then strayTest (c .before .before .before .before .before .args .width .bits) (c .before .before .before .before .before .args .x) then strayTest (c .before .before .before .before .before .args .width .bits) (c .before .before .before .before .before .args .y) ≡ u
+told c h = told-words _ _ _ (c .before .before .before .before .test .ensures) (c .before .before .before .test-word .ensures) (c .before .before .then .ensures) (c .before .test-word2 .ensures) (c .then2 .ensures) h
+
+-- what is known once the verdict has let the words through
+words-in : (c : tie.After-enum-told) → IsWord (c .before .before .before .before .before .before .before .args .width .bits) (c .before .before .before .before .before .before .before .args .x) × IsWord (c .before .before .before .before .before .before .before .args .width .bits) (c .before .before .before .before .before .before .before .args .y)
+words-in c = words-through _ _ _ (told (c .before .before) (c .enum-told .given .1))
+
+test-requires : tie.Need-test-requires
+test-requires c κs = search needs
+
+test-word-requires : tie.Need-test-word-requires
+test-word-requires c κs = search needs
+
+then-requires : tie.Need-then-requires
+then-requires c κs = search needs
+
+test-word-requires-2 : tie.Need-test-word-requires-2
+test-word-requires-2 c κs = search needs
+
+then-requires-2 : tie.Need-then-requires-2
+then-requires-2 c κs = search needs
+
+enum-known-verdict : tie.Need-enum-known-verdict
+enum-known-verdict c = search needs
+
+returns : tie.Need-returns
+unfolding Compares
+returns c = refused (told (c .before .before .before) (c .before .verdict .given .1)) refl
+
+enum-told : tie.Need-enum-told
+enum-told c = search needs
+
+as-signed-requires : tie.Need-as-signed-requires
+as-signed-requires c κs = words-in c .0
+
+as-signed-requires-2 : tie.Need-as-signed-requires-2
+as-signed-requires-2 c κs = words-in (c .before) .1
+
+sign-of-difference-requires : tie.Need-sign-of-difference-requires
+sign-of-difference-requires c κs = search needs
+
+returns-2 : tie.Need-returns-2
+unfolding Compares
+returns-2 c = through (told (c .before .before .before .before .before) (c .before .before .before .enum-told .given .1)) (ap Comparison.Is (toZ-ofZ (sfits-of (c .sign-of-difference .ok)) ∙ c .sign-of-difference .ensures ∙ ap₂ order (toZ-ofZ (sfits-of (c .before .before .as-signed .ok)) ∙ c .before .before .as-signed .ensures) (toZ-ofZ (sfits-of (c .before .as-signed2 .ok)) ∙ c .before .as-signed2 .ensures)))
+
+pub compare-spec : {M : Type 1} → statement M
+compare-spec =
+    tie.close
+    (tie.spec
+    test-requires
+    test-word-requires
+    then-requires
+    test-word-requires-2
+    then-requires-2
+    enum-known-verdict
+    returns
+    enum-told
+    as-signed-requires
+    as-signed-requires-2
+    sign-of-difference-requires
+    returns-2)

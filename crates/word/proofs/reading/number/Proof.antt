@@ -1,0 +1,200 @@
+-- `number` meets its contract: each local is the field of Definition 2 that it is named after. Assumes nothing.
+use mathlib.Core.Bool.{true, false}
+use mathlib.Core.Path.{_≡_, sym, ap, ap₂, _∙_, subst}
+use Prim.Native.Nat.{ℕ, _+_, _-_, _/_, _%_, _^_, _≤_, _<_}
+use native.Mathlib.Omega.{arith}
+use native.Mathlib.Nat.{lt-of-le-of-lt, le-of-eq, mod-lt}
+use borrow.Author.Needs.{needs}
+use borrow.Author.Needs.{needs, sfits-of}
+use lib.Pow.{pow-pos, pow-mono, pow-add}
+use lib.IntN.{ℤ, pos, negsuc, negℤ, _-ℤ_, +ℤ-idl}
+use lib.Signed.{mag}
+use mir.Syntax.{w32}
+use mir.Val.{SFits, toZ, ofZ}
+use mir.Facts.{toZ-ofZ}
+use Rattle.word.proofs.Numbers.{characteristic-small, same-number, sign-one, positive-number, negative-power, negative-number}
+use Rattle.word.specs.Takum.{regimeOf, characteristicOf, S, D, R, C, F}
+use Rattle.word.proofs.Signed.{negative-mag, complement-mag}
+use Rattle.word.specs.Reads.{IsReading}
+use Rattle.word.specs.Takum as Takum
+use Rattle.word.proofs.Cut.{regime-le}
+use Rattle.word.proofs.reading.number.Statement.{statement}
+use Rattle.word.proofs.reading.number.Tie as tie
+
+-- the locals as fields of Definition 2
+regime-is : (c : tie.After-regime) → c .regime .result ≡ Takum.r (c .before .before .before .args .n) (c .before .before .before .args .t)
+unfolding Takum.r D R
+regime-is c = c .regime .ensures ∙ ap₂ regimeOf (c .before .before .low-bits .ensures) (c .before .low-bits2 .ensures)
+
+regime-small : (c : tie.After-regime) → c .regime .result ≤ 7
+regime-small c = subst (λ (x : ℕ). x ≤ 7) (sym (regime-is c)) (regime-le _ _)
+
+count-is : (c : tie.After-regime) → c .before .before .before .args .n - c .regime .result - 5 ≡ Takum.p (c .before .before .before .args .n) (c .before .before .before .args .t)
+unfolding Takum.p
+count-is c = ap (λ (x : ℕ). c .before .before .before .args .n - x - 5) (regime-is c)
+
+characteristic-is : (c : tie.After-characteristic) → c .characteristic .result ≡ Takum.c (c .before .before .before .before .before .args .n) (c .before .before .before .before .before .args .t)
+unfolding Takum.c D C
+characteristic-is c =
+    c .characteristic .ensures ∙ ap₂ (λ (d x : ℕ). characteristicOf d x (c .before .low-bits3 .result)) (c .before .before .before .before .low-bits .ensures) (regime-is (c .before .before))
+    ∙ ap (characteristicOf _ _) (c .before .low-bits3 .ensures ∙ ap₂ (λ (x y : ℕ). c .before .before .before .before .before .args .t / 2 ^ x % 2 ^ y) (count-is (c .before .before)) (regime-is (c .before .before)))
+
+fraction-is : (c : tie.After-low-bits4) → c .low-bits4 .result ≡ F (c .before .before .before .before .before .before .args .n) (c .before .before .before .before .before .before .args .t)
+unfolding F
+fraction-is c = c .low-bits4 .ensures ∙ ap (λ (x : ℕ). c .before .before .before .before .before .before .args .t % 2 ^ x) (count-is (c .before .before .before))
+
+fraction-below : (c : tie.After-low-bits4) → c .low-bits4 .result < 2 ^ (c .before .before .before .before .before .before .args .n - c .before .before .before .regime .result - 5)
+fraction-below c = lt-of-le-of-lt (le-of-eq (c .low-bits4 .ensures)) (mod-lt _ (pow-pos _))
+
+power-small : (c : tie.After-low-bits4) → 2 ^ (c .before .before .before .before .before .before .args .n - c .before .before .before .regime .result - 5) ≤ 2 ^ 59
+power-small c = pow-mono {i = c .before .before .before .before .before .before .args .n - c .before .before .before .regime .result - 5} {j = 59} (omega (arith, c .before .before .before .before .before .before .pre .1))
+
+-- the characteristic as the machine holds it, and the two exponents of words with sign 1
+held : (c : tie.After-characteristic) → toZ w32 (ofZ w32 (c .characteristic .result)) ≡ Takum.c (c .before .before .before .before .before .args .n) (c .before .before .before .before .before .args .t)
+held c = toZ-ofZ (sfits-of (c .characteristic .ok)) ∙ characteristic-is c
+
+small : (c : tie.After-characteristic) → mag (toZ w32 (ofZ w32 (c .characteristic .result))) < 512
+small c =
+    subst (λ (z : ℤ). mag z < 512) (sym (toZ-ofZ (sfits-of (c .characteristic .ok)) ∙ c .characteristic .ensures))
+    (characteristic-small _ _ _ (regime-small (c .before .before)) (lt-of-le-of-lt (le-of-eq (c .before .low-bits3 .ensures)) (mod-lt _ (pow-pos (c .before .before .regime .result)))))
+
+minus-fits : (c : tie.After-characteristic) → SFits w32 (pos 0 -ℤ toZ w32 (ofZ w32 (c .characteristic .result)))
+minus-fits c =
+    let z = toZ w32 (ofZ w32 (c .characteristic .result)) in
+    subst (λ (y : ℤ). SFits w32 y) (sym (+ℤ-idl (negℤ z))) (record { sfits = omega (arith, negative-mag z, small c) })
+
+less-fits : (c : tie.After-characteristic) → SFits w32 (negsuc 0 -ℤ toZ w32 (ofZ w32 (c .characteristic .result)))
+less-fits c =
+    let z = toZ w32 (ofZ w32 (c .characteristic .result)) in
+    record { sfits = omega (arith, complement-mag z, small c) }
+
+sub-low-bits : tie.Need-sub-low-bits
+sub-low-bits c = search needs
+
+cast-low-bits : tie.Need-cast-low-bits
+cast-low-bits c = search needs
+
+shr-low-bits : tie.Need-shr-low-bits
+shr-low-bits c = search needs
+
+low-bits-requires : tie.Need-low-bits-requires
+low-bits-requires c κs = search needs
+
+sub-low-bits-2 : tie.Need-sub-low-bits-2
+sub-low-bits-2 c = search needs
+
+cast-low-bits-2 : tie.Need-cast-low-bits-2
+cast-low-bits-2 c = search needs
+
+shr-low-bits-2 : tie.Need-shr-low-bits-2
+shr-low-bits-2 c = search needs
+
+low-bits-requires-2 : tie.Need-low-bits-requires-2
+low-bits-requires-2 c κs = search needs
+
+regime-requires : tie.Need-regime-requires
+regime-requires c κs = search needs
+
+sub-p : tie.Need-sub-p
+sub-p c = omega (arith, regime-small c)
+
+sub-p-2 : tie.Need-sub-p-2
+sub-p-2 c = omega (arith, regime-small c, c .before .before .before .pre .0)
+
+cast-low-bits-3 : tie.Need-cast-low-bits-3
+cast-low-bits-3 c = search needs
+
+shr-low-bits-3 : tie.Need-shr-low-bits-3
+shr-low-bits-3 c = search needs
+
+low-bits-requires-3 : tie.Need-low-bits-requires-3
+low-bits-requires-3 c κs = omega (arith, regime-small c)
+
+characteristic-requires : tie.Need-characteristic-requires
+characteristic-requires c κs = (regime-small (c .before), lt-of-le-of-lt (le-of-eq (c .low-bits3 .ensures)) (mod-lt _ (pow-pos (c .before .regime .result))))
+
+low-bits-requires-4 : tie.Need-low-bits-requires-4
+low-bits-requires-4 c κs = search needs
+
+sub-if1 : tie.Need-sub-if1
+sub-if1 c = search needs
+
+cast-if1 : tie.Need-cast-if1
+cast-if1 c = search needs
+
+shr-if1 : tie.Need-shr-if1
+shr-if1 c = search needs
+
+power-of-two-requires : tie.Need-power-of-two-requires
+power-of-two-requires c κs = search needs
+
+add-t14 : tie.Need-add-t14
+add-t14 c = record { fits = omega (arith, c .power-of-two .ensures, fraction-below (c .before .before), power-small (c .before .before)) }
+
+returns : tie.Need-returns
+unfolding IsReading S
+returns c = let known = c .before .before in
+    same-number _ _ false (held (known .before)) (ap₂ (λ (x y : ℕ). x + y) (c .power-of-two .ensures ∙ ap (λ (x : ℕ). 2 ^ x) (count-is (known .before .before .before))) (fraction-is known)) (count-is (known .before .before .before)) (positive-number (c .before .before .before .before .before .before .before .before .args .n) (c .before .before .before .before .before .before .before .before .args .t) (c .before .before .before .before .before .before .before .before .pre .0) (c .before .before .before .before .before .before .before .before .pre .1) (c .before .before .before .before .before .before .before .before .pre .2) (c .before .if1 .taken))
+
+sub-t15 : tie.Need-sub-t15
+sub-t15 c = minus-fits (c .before .before .before)
+
+power-of-two-requires-2 : tie.Need-power-of-two-requires-2
+power-of-two-requires-2 c κs = search needs
+
+returns-2 : tie.Need-returns-2
+unfolding IsReading S
+returns-2 c = let known = c .before .before .before in
+    same-number _ _ true (toZ-ofZ (minus-fits (known .before)) ∙ +ℤ-idl _ ∙ ap negℤ (held (known .before))) (c .power-of-two2 .ensures ∙ ap (λ (x : ℕ). 2 ^ x) (count-is (known .before .before .before))) (count-is (known .before .before .before)) (negative-power (c .before .before .before .before .before .before .before .before .before .args .n) (c .before .before .before .before .before .before .before .before .before .args .t) (c .before .before .before .before .before .before .before .before .before .pre .0) (c .before .before .before .before .before .before .before .before .before .pre .1) (c .before .before .before .before .before .before .before .before .before .pre .2) (sign-one (c .before .before .before .before .before .before .before .before .before .args .n) (c .before .before .before .before .before .before .before .before .before .args .t) (c .before .before .before .before .before .before .before .before .before .pre .0) (c .before .before .before .before .before .before .before .before .before .pre .1) (c .before .before .before .before .before .before .before .before .before .pre .2) (c .before .before .if1 .left)) (sym (fraction-is known) ∙ c .before .if2 .taken))
+
+sub-t17 : tie.Need-sub-t17
+sub-t17 c = less-fits (c .before .before .before)
+
+add-power-of-two : tie.Need-add-power-of-two
+add-power-of-two c = search needs
+
+power-of-two-requires-3 : tie.Need-power-of-two-requires-3
+power-of-two-requires-3 c κs = search needs
+
+sub-t10 : tie.Need-sub-t10
+sub-t10 c = omega (arith, c .power-of-two3 .ensures, fraction-below (c .before .before .before), pow-add 2 (c .before .before .before .before .before .before .before .before .before .args .n - c .before .before .before .before .before .before .regime .result - 5) 1)
+
+returns-3 : tie.Need-returns-3
+unfolding IsReading S
+returns-3 c = let known = c .before .before .before in
+    same-number _ _ true (toZ-ofZ (less-fits (known .before)) ∙ ap (λ (z : ℤ). negsuc 0 -ℤ z) (held (known .before))) (ap₂ (λ (x y : ℕ). x - y) (c .power-of-two3 .ensures ∙ ap (λ (x : ℕ). 2 ^ (x + 1)) (count-is (known .before .before .before))) (fraction-is known)) (count-is (known .before .before .before)) (negative-number (c .before .before .before .before .before .before .before .before .before .args .n) (c .before .before .before .before .before .before .before .before .before .args .t) (c .before .before .before .before .before .before .before .before .before .pre .0) (c .before .before .before .before .before .before .before .before .before .pre .1) (c .before .before .before .before .before .before .before .before .before .pre .2) (sign-one (c .before .before .before .before .before .before .before .before .before .args .n) (c .before .before .before .before .before .before .before .before .before .args .t) (c .before .before .before .before .before .before .before .before .before .pre .0) (c .before .before .before .before .before .before .before .before .before .pre .1) (c .before .before .before .before .before .before .before .before .before .pre .2) (c .before .before .if1 .left)) (λ q. c .before .if2 .left (fraction-is known ∙ q)))
+
+pub number-spec : {M : Type 1} → statement M
+number-spec =
+    tie.close
+    (tie.spec
+    sub-low-bits
+    cast-low-bits
+    shr-low-bits
+    low-bits-requires
+    sub-low-bits-2
+    cast-low-bits-2
+    shr-low-bits-2
+    low-bits-requires-2
+    regime-requires
+    sub-p
+    sub-p-2
+    cast-low-bits-3
+    shr-low-bits-3
+    low-bits-requires-3
+    characteristic-requires
+    low-bits-requires-4
+    sub-if1
+    cast-if1
+    shr-if1
+    power-of-two-requires
+    add-t14
+    returns
+    sub-t15
+    power-of-two-requires-2
+    returns-2
+    sub-t17
+    add-power-of-two
+    power-of-two-requires-3
+    sub-t10
+    returns-3)

@@ -1,0 +1,142 @@
+-- `read` meets its contract: zero and NaR by their words, every other word by the number of its padded string. Assumes nothing.
+use mathlib.Core.Path.{_≡_, refl, sym, ap, ap₂, _∙_, subst₂}
+use Prim.Native.Nat.{ℕ, _*_, _-_, _%_, _^_, _≤_, _<_, max}
+use native.Mathlib.Nat.{max-eq-left, max-eq-right, le-of-lt, mul-one, sub-self, lt-of-le-of-lt, le-of-eq}
+use native.Mathlib.Omega.{arith}
+use borrow.Author.Needs.{needs}
+use lib.Dec.{lit≤}
+use lib.Pow.{shl-exact}
+use Rattle.word.specs.Refusals.{widthTest, strayTest, _then_, IsWord, through, refused}
+use Rattle.word.specs.Reads.{IsReading, Reads}
+use Rattle.word.specs.declared.reading.Reading.{Reading}
+use Rattle.word.proofs.Powers.{shl-below}
+use Rattle.word.specs.Takum.{Takum, real, value, p, N, padded, takum, fractionBits}
+use Rattle.word.proofs.Verdicts.{told-word, word-through}
+use Rattle.word.proofs.Words.{takum-zero, takum-NaR, takum-number}
+use Rattle.word.specs.declared.refusal.Verdict.{Verdict}
+use Rattle.word.proofs.reading.read.Statement.{statement}
+use Rattle.word.proofs.reading.read.Tie as tie
+
+-- the verdict as the tests in their order
+told : (c : tie.After-then) {u : Verdict} → c .then .result ≡ u → widthTest (c .before .before .before .args .width .bits) then strayTest (c .before .before .before .args .width .bits) (c .before .before .before .args .word) ≡ u
+told c h = told-word _ _ (c .before .before .test .ensures) (c .before .test-word .ensures) (c .then .ensures) h
+
+-- what is known once the verdict has let the word through
+word-in : (c : tie.After-enum-told) → IsWord (c .before .before .before .before .before .args .width .bits) (c .before .before .before .before .before .args .word)
+word-in c = word-through _ _ (told (c .before .before) (c .enum-told .given .1))
+
+module _ (n w : ℕ) (i : IsWord n w) where
+  -- below 12 bits zeros are appended
+  module _ (short : n < 12) where
+    shifted : w * 2 ^ (12 - n) % 2 ^ 64 ≡ w * 2 ^ (12 - n)
+    shifted = shl-exact n (12 - n) 64 (i .fits) (omega arith)
+
+    narrow-fits : w * 2 ^ (12 - n) % 2 ^ 64 < 2 ^ 12
+    narrow-fits = lt-of-le-of-lt (le-of-eq shifted) (shl-below n (12 - n) 12 (i .fits) (omega arith))
+
+  -- the reading of the padded string is the word's
+  of-string : (w ≡ 0 → ⊥) → (w ≡ 2 ^ (n - 1) → ⊥) → (m x : ℕ) → N n ≡ m → padded n w ≡ x → (a : Reading) → IsReading (real (value m x)) (p m x) a → IsReading (takum n w) (fractionBits n w) a
+  unfolding fractionBits
+  of-string f g m x qm qx a h =
+      subst₂ (λ (t : Takum) (k : ℕ). IsReading t k a) (sym (takum-number n w (i .least) (i .most) (i .fits) f g ∙ ap₂ (λ (m x : ℕ). real (value m x)) qm qx)) (sym (ap₂ p qm qx)) h
+
+  length-narrow : n < 12 → N n ≡ 12
+  unfolding N
+  length-narrow short = max-eq-right (le-of-lt short)
+
+  length-wide : 12 ≤ n → N n ≡ n
+  unfolding N
+  length-wide long = max-eq-left long
+
+  string-narrow : (short : n < 12) → padded n w ≡ w * 2 ^ (12 - n) % 2 ^ 64
+  unfolding padded
+  string-narrow short = ap (λ (m : ℕ). w * 2 ^ (m - n)) (length-narrow short) ∙ sym (shifted short)
+
+  string-wide : 12 ≤ n → padded n w ≡ w
+  unfolding padded
+  string-wide long = ap (λ (m : ℕ). w * 2 ^ (m - n)) (length-wide long) ∙ ap (λ (m : ℕ). w * 2 ^ m) (sub-self n) ∙ mul-one w
+
+test-requires : tie.Need-test-requires
+test-requires c κs = search needs
+
+test-word-requires : tie.Need-test-word-requires
+test-word-requires c κs = search needs
+
+then-requires : tie.Need-then-requires
+then-requires c κs = search needs
+
+enum-known-verdict : tie.Need-enum-known-verdict
+enum-known-verdict c = search needs
+
+returns : tie.Need-returns
+unfolding Reads
+returns c = refused (told (c .before .before .before) (c .before .verdict .given .1)) refl
+
+enum-told : tie.Need-enum-told
+enum-told c = search needs
+
+returns-2 : tie.Need-returns-2
+unfolding Reads IsReading
+returns-2 c = through (told (c .before .before .before) (c .before .enum-told .given .1)) (ap (takum _) (c .if1 .taken) ∙ takum-zero _)
+
+sub-power-of-two : tie.Need-sub-power-of-two
+sub-power-of-two c = omega (arith, word-in (c .before) .least)
+
+power-of-two-requires : tie.Need-power-of-two-requires
+power-of-two-requires c κs = omega (arith, word-in (c .before) .most)
+
+returns-3 : tie.Need-returns-3
+unfolding Reads IsReading
+returns-3 c = let i = word-in (c .before .before .before) in
+    through (told (c .before .before .before .before .before) (c .before .before .before .enum-told .given .1)) (takum-NaR _ _ (i .least) (i .most) (c .if2 .taken ∙ c .before .power-of-two .ensures))
+
+sub-number : tie.Need-sub-number
+sub-number c = search needs
+
+cast-number : tie.Need-cast-number
+cast-number c = search needs
+
+shl-number : tie.Need-shl-number
+shl-number c = search needs
+
+number-requires : tie.Need-number-requires
+number-requires c κs = let i = word-in (c .before .before .before .before) in
+    (lit≤ tt, lit≤ tt, narrow-fits _ _ i (c .if3 .taken))
+
+returns-4 : tie.Need-returns-4
+unfolding Reads
+returns-4 c = let i = word-in (c .before .before .before .before .before) in
+    let short = c .before .if3 .taken in
+    through (told (c .before .before .before .before .before .before .before) (c .before .before .before .before .before .enum-told .given .1)) (of-string _ _ i (c .before .before .before .before .if1 .left) (λ q. c .before .before .if2 .left (q ∙ sym (c .before .before .before .power-of-two .ensures))) _ _ (length-narrow _ _ i short) (string-narrow _ _ i short) _ (c .number .ensures))
+
+number-requires-2 : tie.Need-number-requires-2
+number-requires-2 c κs = let i = word-in (c .before .before .before .before) in
+    (c .if3 .left, i .most, i .fits)
+
+returns-5 : tie.Need-returns-5
+unfolding Reads
+returns-5 c = let i = word-in (c .before .before .before .before .before) in
+    let long = c .before .if3 .left in
+    through (told (c .before .before .before .before .before .before .before) (c .before .before .before .before .before .enum-told .given .1)) (of-string _ _ i (c .before .before .before .before .if1 .left) (λ q. c .before .before .if2 .left (q ∙ sym (c .before .before .before .power-of-two .ensures))) _ _ (length-wide _ _ i long) (string-wide _ _ i long) _ (c .number2 .ensures))
+
+pub read-spec : {M : Type 1} → statement M
+read-spec =
+    tie.close
+    (tie.spec
+    test-requires
+    test-word-requires
+    then-requires
+    enum-known-verdict
+    returns
+    enum-told
+    returns-2
+    sub-power-of-two
+    power-of-two-requires
+    returns-3
+    sub-number
+    cast-number
+    shl-number
+    number-requires
+    returns-4
+    number-requires-2
+    returns-5)

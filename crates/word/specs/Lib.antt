@@ -1,0 +1,6 @@
+-- What the contracts of this crate cite.
+pub mod Orders
+pub mod Reads
+pub mod Refusals
+pub mod Takum
+pub mod Widths

@@ -1,0 +1,29 @@
+-- The order of words of one width, and their negation (paper 01).
+use mathlib.Core.Path.{_≡_}
+use mathlib.Core.Bool.{cond}
+use Prim.Native.Nat.{ℕ, _-_, _%_, _^_}
+use lib.Dec.{ltb}
+use lib.IntN.{ℤ, pos, negsuc, _-ℤ_}
+use lib.Signed.{ltZ}
+use Rattle.word.specs.declared.answer.Answer.{Answer}
+use Rattle.word.specs.declared.order.Comparison.{Comparison}
+use Rattle.word.specs.Refusals.{widthTest, strayTest, _then_, Decided}
+
+-- the word as an n-bit two's complement number
+unfoldable pub signed : ℕ → ℕ → ℤ
+signed n w = cond (ltb w (2 ^ (n - 1))) (pos w) (pos w -ℤ pos (2 ^ n))
+
+-- -1, 0 or 1
+unfoldable pub order : ℤ → ℤ → ℤ
+order x y = cond (ltZ x y) (negsuc 0) (cond (ltZ y x) (pos 1) (pos 0))
+
+-- two's complement negation in n bits
+unfoldable pub negated : ℕ → ℕ → ℕ
+negated n w = (2 ^ n - w) % 2 ^ n
+
+-- ---- what the calls answer
+unfoldable pub Compares : ℕ → ℕ → ℕ → Comparison → Type 0
+Compares n x y a = Decided (widthTest n then strayTest n x then strayTest n y) (λ q. a ≡ Comparison.Refused q) (a ≡ Comparison.Is (order (signed n x) (signed n y)))
+
+unfoldable pub Negates : ℕ → ℕ → Answer → Type 0
+Negates n w a = Decided (widthTest n then strayTest n w) (λ q. a ≡ Answer.Refused q) (a ≡ Answer.Word (negated n w))

@@ -1,0 +1,67 @@
+// The order of words of one width, and their negation.
+use crate::answer::Answer;
+use crate::bits::ones;
+use crate::refusal::Refusal;
+use crate::refusal::Verdict;
+use crate::width::Width;
+ghost use mathlib.Core.Path.{_≡_};
+ghost use Rattle.word.specs.Orders.{signed, order, Compares, Negates};
+ghost use Rattle.word.specs.Refusals.{IsWord};
+
+pub enum Comparison {
+    Is(i32),
+    Refused(Refusal),
+}
+
+// -1, 0 or 1 as the first word is below, equal to or above the second; NaR is below everything.
+pub fn compare(width: Width, x: u64, y: u64) -> Comparison
+    ensures { λ r. ⌜ Compares (width .bits) x y r ⌝ }
+{
+    let verdict = width
+        .test()
+        .then(width.test_word(x))
+        .then(width.test_word(y));
+    if let Verdict::Refused(q) = verdict {
+        return Comparison::Refused(q);
+    }
+    let n = width.bits;
+    Comparison::Is(sign_of_difference(as_signed(n, x), as_signed(n, y)))
+}
+
+// The word with the negated value; zero and NaR stay as they are.
+pub fn negate(width: Width, word: u64) -> Answer
+    ensures { λ r. ⌜ Negates (width .bits) word r ⌝ }
+{
+    let verdict = width.test().then(width.test_word(word));
+    if let Verdict::Refused(q) = verdict {
+        return Answer::Refused(q);
+    }
+    if word == 0 {
+        return Answer::Word(0);
+    }
+    Answer::Word(ones(width.bits) - word + 1)
+}
+
+// The word as an n-bit two's complement number.
+fn as_signed(n: u32, word: u64) -> i64
+    requires { ⌜ IsWord n word ⌝ }
+    ensures { λ r. ⌜ r ≡ signed n word ⌝ }
+{
+    let all = ones(n);
+    if word <= all >> 1 {
+        return word as i64;
+    }
+    -1 - (all - word) as i64
+}
+
+fn sign_of_difference(x: i64, y: i64) -> i32
+    ensures { λ r. ⌜ r ≡ order x y ⌝ }
+{
+    if x < y {
+        return -1;
+    }
+    if y < x {
+        return 1;
+    }
+    0
+}

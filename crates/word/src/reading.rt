@@ -1,0 +1,100 @@
+// Reading a word: its fields are cut out of the carrier by shifts and masks, in the letters of document 004, Definition 2.
+use crate::bits::low_bits;
+use crate::bits::power_of_two;
+use crate::refusal::Refusal;
+use crate::refusal::Verdict;
+use crate::width::Width;
+ghost use mathlib.Core.Path.{_≡_};
+ghost use Prim.Native.Nat.{_≤_, _<_, _^_};
+ghost use Rattle.word.specs.Takum as Takum;
+ghost use Rattle.word.specs.Takum.{real, regimeOf, characteristicOf};
+ghost use Rattle.word.specs.Reads.{IsReading, Reads};
+
+// A number is its sign and the size m * 2^(h - p), with 2^p <= m < 2^(p + 1).
+pub enum Reading {
+    Zero,
+    NotReal,
+    Number {
+        negative: bool,
+        h: i32,
+        m: u64,
+        p: u32,
+    },
+    Refused(Refusal),
+}
+
+// What a word of the width means.
+pub fn read(width: Width, word: u64) -> Reading
+    ensures { λ r. ⌜ Reads (width .bits) word r ⌝ }
+{
+    let verdict = width.test().then(width.test_word(word));
+    if let Verdict::Refused(q) = verdict {
+        return Reading::Refused(q);
+    }
+    let n = width.bits;
+    if word == 0 {
+        return Reading::Zero;
+    }
+    if word == power_of_two(n - 1) {
+        return Reading::NotReal;
+    }
+    if n < 12 {
+        return number(12, word << (12 - n));
+    }
+    number(n, word)
+}
+
+// The number of a string t of n bits, n at least 12, that is neither zero nor NaR.
+fn number(n: u32, t: u64) -> Reading
+    requires { ⌜ (12 ≤ n) × (n ≤ 64) × (t < 2 ^ n) ⌝ }
+    ensures { λ a. ⌜ IsReading (real (Takum.value n t)) (Takum.p n t) a ⌝ }
+{
+    let d = low_bits(t >> (n - 2), 1);
+    let r = regime(d, low_bits(t >> (n - 5), 3));
+    let p = n - r - 5;
+    let c = characteristic(d, r, low_bits(t >> p, r));
+    let f = low_bits(t, p);
+    if t >> (n - 1) == 0 {
+        return Reading::Number {
+            negative: false,
+            h: c,
+            m: power_of_two(p) + f,
+            p,
+        };
+    }
+    // With sign 1 the fraction counts up from -2, so a fraction of 0 is the next power of two.
+    if f == 0 {
+        return Reading::Number {
+            negative: true,
+            h: -c,
+            m: power_of_two(p),
+            p,
+        };
+    }
+    Reading::Number {
+        negative: true,
+        h: -1 - c,
+        m: power_of_two(p + 1) - f,
+        p,
+    }
+}
+
+fn regime(direction: u64, bits: u64) -> u32
+    requires { ⌜ bits < 8 ⌝ }
+    ensures { λ r. ⌜ r ≡ regimeOf direction bits ⌝ }
+{
+    if direction == 1 {
+        return bits as u32;
+    }
+    7 - bits as u32
+}
+
+fn characteristic(direction: u64, r: u32, bits: u64) -> i32
+    requires { ⌜ (r ≤ 7) × (bits < 2 ^ r) ⌝ }
+    ensures { λ c. ⌜ c ≡ characteristicOf direction r bits ⌝ }
+{
+    if direction == 1 {
+        return power_of_two(r) as i32 - 1 + bits as i32;
+    }
+    bits as i32 + 1 - power_of_two(r + 1) as i32
+}

@@ -10,3 +10,5 @@ pub mod Words
 pub mod Verdicts
 pub mod Signed
 pub mod Limits
+pub mod Values
+pub mod Binades

@@ -84,6 +84,9 @@ words-through n x y h = (good, record { least = good .least; most = good .most; 
 pub word-passes : (n w : ℕ) → IsWord n w → widthTest n then strayTest n w ≡ Verdict.Through
 word-passes n w i = rw (width-fits n (i .least) (i .most)) (stray-fits n w (i .fits))
 
+pub words-pass : (n x y : ℕ) → IsWord n x → IsWord n y → widthTest n then strayTest n x then strayTest n y ≡ Verdict.Through
+words-pass n x y ix iy = rw (word-passes n x ix) (stray-fits n y (iy .fits))
+
 -- a contract decides by the verdict: what it says where the input is let through, and where it is refused
 pub answered : {v : Verdict} {P : Refusal → Type 0} {Q : Type 0} → v ≡ Verdict.Through → Decided v P Q → Q
 unfolding refuses

@@ -3,10 +3,11 @@ use mathlib.Core.Path.{_≡_}
 use mathlib.Core.Bool.{cond}
 use Prim.Native.Nat.{ℕ, _-_, _%_, _^_}
 use lib.Dec.{ltb}
-use lib.IntN.{ℤ, pos, negsuc, _-ℤ_}
+use lib.IntN.{ℤ, pos, negsuc, negℤ, _-ℤ_}
 use lib.Signed.{ltZ}
 use Rattle.word.specs.declared.answer.Answer.{Answer}
 use Rattle.word.specs.declared.order.Comparison.{Comparison}
+use Rattle.word.specs.Takum.{Takum, real, NaR}
 use Rattle.word.specs.Refusals.{widthTest, strayTest, _then_, Decided}
 
 -- the word as an n-bit two's complement number
@@ -20,6 +21,11 @@ order x y = cond (ltZ x y) (negsuc 0) (cond (ltZ y x) (pos 1) (pos 0))
 -- two's complement negation in n bits
 unfoldable pub negated : ℕ → ℕ → ℕ
 negated n w = (2 ^ n - w) % 2 ^ n
+
+-- the value that negation is to give; NaR has none and stays
+unfoldable pub opposite : Takum → Takum
+opposite (real z) = real (negℤ z)
+opposite NaR = NaR
 
 -- ---- what the calls answer
 unfoldable pub Compares : ℕ → ℕ → ℕ → Comparison → Type 0

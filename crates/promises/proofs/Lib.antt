@@ -1,0 +1,4 @@
+-- The promises, proved from what the other crates make public.
+pub mod Demands
+pub mod Figures
+pub mod OneOutcome

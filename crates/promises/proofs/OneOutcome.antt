@@ -1,0 +1,63 @@
+-- Two outcomes that a public contract allows are equal, for each public call. Assumes nothing.
+use mathlib.Core.Path.{_≡_, refl, sym, ap, _∙_, subst}
+use Prim.Native.Nat.{ℕ, _^_}
+use native.Mathlib.Nat.{le-antisymm}
+use Rattle.word.specs.declared.answer.Answer.{Answer}
+use Rattle.word.specs.declared.order.Comparison.{Comparison}
+use Rattle.word.specs.declared.reading.Reading.{Reading}
+use Rattle.word.specs.declared.refusal.Refusal.{Refusal}
+use Rattle.word.specs.declared.refusal.Verdict.{Verdict}
+use Rattle.word.specs.declared.width.Limit.{Limit}
+use Rattle.word.specs.declared.width.Made.{Made}
+use Rattle.word.specs.Takum.{takum, fractionBits}
+use Rattle.word.specs.Refusals.{Decided, through, refused}
+use Rattle.word.specs.Widths.{Greatest, greatest, none, IsLimit, Makes, GivesWord, GivesLimit}
+use Rattle.word.specs.Reads.{IsReading, Reads}
+use Rattle.word.specs.Orders.{signed, order, negated, Compares, Negates}
+use Rattle.word.proofs.Verdicts.{answered, refused-as}
+use Rattle.word.proofs.Binades.{reading-one}
+
+-- a contract that decides by a verdict allows one outcome, where it does for input that is let through
+module _ {A : Type 0} (R : Refusal → A) (Q : A → Type 0) (one : (a b : A) → Q a → Q b → a ≡ b) where
+  pub decided-one : {v : Verdict} (a b : A) → Decided v (λ q. a ≡ R q) (Q a) → Decided v (λ q. b ≡ R q) (Q b) → a ≡ b
+  decided-one a b (through h x) y = one a b x (answered h y)
+  decided-one a b (refused h x) y = x ∙ sym (refused-as _ h y)
+
+-- an answer that is given outright
+given : {A : Type 0} (x : A) (a b : A) → a ≡ x → b ≡ x → a ≡ b
+given x a b p q = p ∙ sym q
+
+pub makes-one : (n : ℕ) (a b : Made) → Makes n a → Makes n b → a ≡ b
+unfolding Makes
+makes-one n a b = decided-one Made.Refused (λ x. x ≡ Made.Width (record { bits = n })) (given (Made.Width (record { bits = n }))) a b
+
+-- largest, smallest and NaR word
+pub gives-word-one : (f : ℕ → ℕ) (n : ℕ) (a b : Answer) → GivesWord f n a → GivesWord f n b → a ≡ b
+unfolding GivesWord
+gives-word-one f n a b = decided-one Answer.Refused (λ x. x ≡ Answer.Word (f n)) (given (Answer.Word (f n))) a b
+
+exponent-one : (n : ℕ) {u v : ℕ} → Greatest n u → Greatest n v → u ≡ v
+exponent-one n {u} {v} (greatest x f) (greatest y g) = le-antisymm (g u x) (f v y)
+exponent-one n {u} (greatest x f) (none g) = absurd (g u x)
+exponent-one n {v = v} (none f) (greatest y g) = absurd (f v y)
+exponent-one n (none f) (none g) = refl
+
+pub gives-limit-one : (n : ℕ) (a b : Limit) → GivesLimit n a → GivesLimit n b → a ≡ b
+unfolding GivesLimit
+gives-limit-one n a b = decided-one Limit.Refused (λ x. (l : ℕ) × (x ≡ Limit.Count l) × IsLimit n l) limits-one a b
+  where
+    limits-one : (a b : Limit) → ((l : ℕ) × (a ≡ Limit.Count l) × IsLimit n l) → ((l : ℕ) × (b ≡ Limit.Count l) × IsLimit n l) → a ≡ b
+    limits-one a b x y =
+        x .1 ∙ ap Limit.Count (x .2 .limit ∙ ap (λ (v : ℕ). 2 ^ v) (exponent-one n (x .2 .is) (y .2 .is)) ∙ sym (y .2 .limit)) ∙ sym (y .1)
+
+pub reads-one : (n w : ℕ) (a b : Reading) → Reads n w a → Reads n w b → a ≡ b
+unfolding Reads
+reads-one n w a b = decided-one Reading.Refused (IsReading (takum n w) (fractionBits n w)) (reading-one (takum n w) (fractionBits n w)) a b
+
+pub compares-one : (n x y : ℕ) (a b : Comparison) → Compares n x y a → Compares n x y b → a ≡ b
+unfolding Compares
+compares-one n x y a b = decided-one Comparison.Refused (λ z. z ≡ Comparison.Is (order (signed n x) (signed n y))) (given (Comparison.Is (order (signed n x) (signed n y)))) a b
+
+pub negates-one : (n w : ℕ) (a b : Answer) → Negates n w a → Negates n w b → a ≡ b
+unfolding Negates
+negates-one n w a b = decided-one Answer.Refused (λ z. z ≡ Answer.Word (negated n w)) (given (Answer.Word (negated n w))) a b

@@ -1,0 +1,3 @@
+-- What is promised, as statements that a reader can hold against the letter and paper 01.
+pub mod Demands
+pub mod Figures

@@ -9,6 +9,7 @@ pub mod Numbers
 pub mod Words
 pub mod Verdicts
 pub mod Signed
+pub mod Casts
 pub mod Limits
 pub mod Values
 pub mod Binades

@@ -3,7 +3,7 @@
 use mathlib.Core.Path.{_≡_, refl, sym, ap, _∙_, subst, subst₃}
 use mathlib.Core.Bool.{Bool, true, false, cond}
 use Prim.Native.Nat.{ℕ, zero, suc, _+_, _-_, _*_, _%_, _^_, _≤_, _<_}
-use native.Mathlib.Nat.{mod-lt, lt-of-lt-of-le, one-mul, mul-one, pow-suc, sub-zero, pos-of-ne-zero, le-antisymm, le-of-suc-le-suc, div-lt-iff-lt-mul}
+use native.Mathlib.Nat.{mod-lt, one-mul, mul-one, pow-suc, sub-zero, pos-of-ne-zero, le-antisymm, le-of-suc-le-suc, div-lt-iff-lt-mul}
 use native.Mathlib.Numerals.{add-one}
 use native.Mathlib.Omega.{arith}
 use borrow.Author.Tests.{eq-eqb, ne-eqb}
@@ -15,7 +15,7 @@ use Rattle.word.specs.Takum.{Takum, real, characteristicOf, S, r, p, C, 
 use Rattle.word.specs.Reads.{num, den, IsSize, signedSize, IsNumber}
 use Rattle.word.proofs.Powers.{pow-sum}
 use Rattle.word.proofs.Integers.{sub-add, neg-add, neg-mul}
-use Rattle.word.proofs.Signed.{difference, difference-mag}
+use Rattle.word.proofs.Signed.{difference, sub-mag}
 use Rattle.word.proofs.Cut.{regime-le}
 use Rattle.word.proofs.Meaning.{value-at, exponent-whole}
 
@@ -35,7 +35,7 @@ characteristic-small d r C hr hC = by (eqb d 1)
 
     by : (b : Bool) → mag (cond b (pos (2 ^ r) -ℤ pos 1 +ℤ pos C) (pos C +ℤ pos 1 -ℤ pos (2 ^ (r + 1)))) < 512
     by true = subst (λ (z : ℤ). mag (z +ℤ pos C) < 512) (sym one) (omega (arith, low, hC))
-    by false = lt-of-lt-of-le (difference-mag (2 ^ (r + 1) + 1) (C + 1) (2 ^ (r + 1)) (omega (arith, hC, high)) (omega arith)) (omega (arith, low, high))
+    by false = omega (arith, sub-mag (pos (C + 1)) (pos (2 ^ (r + 1))), hC, low, high)
 
 module _ (n T : ℕ) (lo : 12 ≤ n) (hi : n ≤ 64) (fits : T < 2 ^ n) where
   K : ℕ
@@ -110,16 +110,19 @@ module _ (n T : ℕ) (lo : 12 ≤ n) (hi : n ≤ 64) (fits : T < 2 ^ n) where
       twice : (2 * 2 ^ p n T - 0) * 2 ^ K ≡ 2 ^ p n T * 2 ^ suc K
       twice = ap (λ (x : ℕ). x * 2 ^ K) (sub-zero (2 * 2 ^ p n T)) ∙ omega (arith, ap (λ (x : ℕ). 2 ^ p n T * x) (pow-suc 2 K))
 
-  pub negative-number : S n T ≡ 1 → (F n T ≡ 0 → ⊥) → IsNumber (real (value n T)) (p n T) true (negsuc 0 -ℤ c n T) (2 ^ (p n T + 1) - F n T) (p n T)
+  pub negative-number : S n T ≡ 1 → (F n T ≡ 0 → ⊥) → IsNumber (real (value n T)) (p n T) true (negsuc 0 -ℤ c n T) (2 ^ p n T + (2 ^ p n T - F n T)) (p n T)
   negative-number s f =
       record {
-        v = (2 ^ (p n T + 1) - F n T) * 2 ^ K;
-        means = ap real (counted s ∙ ap (λ (x : ℕ). signedSize true ((x - F n T) * 2 ^ K)) (omega (arith, double)));
-        size = sized (2 ^ (p n T + 1) - F n T) (negsuc 0 -ℤ c n T) K (subst (λ (z : ℤ). z -ℤ pos (p n T) +ℤ pos 307 ≡ pos K) (negative s ∙ negℤ-+ℤ (c n T) (pos 1) ∙ +ℤ-comm (negℤ (c n T)) (negsuc 0)) whole);
+        v = m * 2 ^ K;
+        means = ap real (counted s ∙ ap (λ (x : ℕ). signedSize true (x * 2 ^ K)) (omega (arith, fraction-lt)));
+        size = sized m (negsuc 0 -ℤ c n T) K (subst (λ (z : ℤ). z -ℤ pos (p n T) +ℤ pos 307 ≡ pos K) (negative s ∙ negℤ-+ℤ (c n T) (pos 1) ∙ +ℤ-comm (negℤ (c n T)) (negsuc 0)) whole);
         count = refl;
-        low = omega (arith, fraction-lt, double);
+        low = omega arith;
         high = omega (arith, double, pow-pos (p n T), pos-of-ne-zero f);
       }
+    where
+      m : ℕ
+      m = 2 ^ p n T + (2 ^ p n T - F n T)
 
   -- a sign bit that is not 0 is 1
   pub sign-one : (S n T ≡ 0 → ⊥) → S n T ≡ 1

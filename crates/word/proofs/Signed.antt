@@ -1,12 +1,12 @@
 -- A word as a two's complement number, and its negation, by where it lies. Assumes nothing.
 use mathlib.Core.Path.{_≡_, refl, sym, ap, ap₂, _∙_, subst}
 use mathlib.Core.Bool.{Bool, true, false, cond}
-use Prim.Native.Nat.{ℕ, zero, suc, _-_, _%_, _^_, _≤_, _<_, zero-le}
+use Prim.Native.Nat.{ℕ, zero, suc, _+_, _-_, _%_, _^_, _≤_, _<_, zero-le}
 use native.Mathlib.Nat.{sub-zero, mod-self, mod-eq-of-lt, zero-add, add-zero, sub-add-cancel, le-refl, zero-lt-suc}
 use native.Mathlib.Omega.{arith}
 use borrow.Author.Tests.{lt-ltb, le-ltb}
 use lib.Dec.{ltb}
-use lib.IntN.{ℤ, pos, negsuc, negℤ, _-ℤ_}
+use lib.IntN.{ℤ, pos, negsuc, negℤ, _+ℤ_, _-ℤ_}
 use lib.Pow.{pow-pos}
 use lib.Signed.{ltZ, mag}
 use mir.Facts.{toZ-ofZ}
@@ -57,25 +57,25 @@ pub order-equal : (x y : ℤ) → ltZ x y ≡ false → ltZ y x ≡ false → or
 unfolding order
 order-equal x y h g = rw (h, g)
 
--- the difference of two numbers is no larger than both
-pub difference-mag : (b x y : ℕ) → x < b → y < b → mag (pos x -ℤ pos y) < b
-difference-mag b x zero hx hy = subst (λ (n : ℕ). n < b) (sym (add-zero x)) hx
-difference-mag b x (suc y) hx hy = by (ltb x (suc y)) (suc y - suc x) (x - suc y) (omega (arith, hy)) (omega (arith, hx))
-  where
-    by : (t : Bool) (m n : ℕ) → m < b → n < b → mag (cond t (negsuc m) (pos n)) < b
-    by true m n hm hn = hm
-    by false m n hm hn = hn
+-- how large a sum and a difference can be
+either : (t : Bool) {m n k : ℕ} → m ≤ k → n ≤ k → mag (cond t (negsuc m) (pos n)) ≤ k
+either true hm hn = hm
+either false hm hn = hn
+
+pub add-mag : (x y : ℤ) → mag (x +ℤ y) ≤ mag x + mag y + 1
+add-mag (pos a) (pos b) = omega arith
+add-mag (pos a) (negsuc b) = either (ltb a (suc b)) (omega arith) (omega arith)
+add-mag (negsuc a) (pos b) = either (ltb b (suc a)) (omega arith) (omega arith)
+add-mag (negsuc a) (negsuc b) = omega arith
+
+pub sub-mag : (x y : ℤ) → mag (x -ℤ y) ≤ mag x + mag y + 1
+sub-mag (pos a) (pos zero) = omega arith
+sub-mag (pos a) (pos (suc b)) = either (ltb a (suc b)) (omega arith) (omega arith)
+sub-mag (pos a) (negsuc b) = omega arith
+sub-mag (negsuc a) (pos zero) = either (ltb 0 (suc a)) (omega arith) (omega arith)
+sub-mag (negsuc a) (pos (suc b)) = omega arith
+sub-mag (negsuc a) (negsuc b) = either (ltb (suc b) (suc a)) (omega arith) (omega arith)
 
 -- a number less a smaller one, or an equal one
 pub difference : (x y : ℕ) → y ≤ x → pos x -ℤ pos y ≡ pos (x - y)
 difference x y h = ap (λ (n : ℕ). pos n -ℤ pos y) (sym (sub-add-cancel h)) ∙ pos-sub (x - y) y
-
--- -z and -1 - z
-pub negative-mag : (z : ℤ) → mag (negℤ z) ≤ suc (mag z)
-negative-mag (pos zero) = zero-le
-negative-mag (pos (suc n)) = omega arith
-negative-mag (negsuc n) = le-refl (suc n)
-
-pub complement-mag : (z : ℤ) → mag (negsuc 0 -ℤ z) ≡ mag z
-complement-mag (pos n) = ap mag (minus-one-less n)
-complement-mag (negsuc n) = ap mag (difference (suc n) 1 (zero-lt-suc n)) ∙ omega arith

@@ -1,6 +1,7 @@
 // The order of words of one width, and their negation.
 use crate::answer::Answer;
 use crate::bits::ones;
+use crate::bits::power_of_two;
 use crate::refusal::Refusal;
 use crate::refusal::Verdict;
 use crate::width::Width;
@@ -47,11 +48,10 @@ fn as_signed(n: u32, word: u64) -> i64
     requires { ⌜ IsWord n word ⌝ }
     ensures { λ r. ⌜ r ≡ signed n word ⌝ }
 {
-    let all = ones(n);
-    if word <= all >> 1 {
+    if word < power_of_two(n - 1) {
         return word as i64;
     }
-    -1 - (all - word) as i64
+    -1 - (ones(n) - word) as i64
 }
 
 fn sign_of_difference(x: i64, y: i64) -> i32

@@ -62,7 +62,7 @@ fn number(n: u32, t: u64) -> Reading
             p,
         };
     }
-    // With sign 1 the fraction counts up from -2, so a fraction of 0 is the next power of two.
+    // With sign 1 the fraction counts up from -2: the size is 2 - f = 1 + (1 - f), and 2 where f is 0.
     if f == 0 {
         return Reading::Number {
             negative: true,
@@ -71,10 +71,11 @@ fn number(n: u32, t: u64) -> Reading
             p,
         };
     }
+    let rest = power_of_two(p) - f;
     Reading::Number {
         negative: true,
         h: -1 - c,
-        m: power_of_two(p + 1) - f,
+        m: power_of_two(p) + rest,
         p,
     }
 }

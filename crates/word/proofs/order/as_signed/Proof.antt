@@ -1,71 +1,81 @@
 -- `as_signed` meets its contract: below half the words the number is the word, above it is the word less 2^n. Assumes nothing.
 use mathlib.Core.Path.{_≡_, sym, ap, _∙_, subst}
-use Prim.Native.Nat.{ℕ, _-_, _/_, _^_, _≤_, _<_}
-use native.Mathlib.Omega.{arith}
+use Prim.Native.Nat.{ℕ, _-_, _^_, _≤_, _<_}
 use native.Mathlib.Nat.{lt-of-lt-of-le}
+use native.Mathlib.Omega.{arith}
 use borrow.Author.Needs.{needs}
+use lib.Pow.{pow-mono, pow-pos}
 use lib.IntN.{ℤ, pos, negsuc, _-ℤ_}
-use lib.Pow.{pow-pos, pow-mono, pow-add}
-use mir.Val.{SFits, toZ, ofZ}
 use mir.Syntax.{w64}
+use mir.Val.{SFits, toZ, ofZ}
 use mir.Facts.{toZ-pos, toZ-ofZ}
-use Rattle.word.specs.Orders.{signed}
 use Rattle.word.proofs.Signed.{signed-low, signed-high, minus-one-less}
+use Rattle.word.proofs.Powers.{pow-sum}
+use Rattle.word.specs.Orders.{signed}
 use Rattle.word.specs.Refusals.{IsWord}
-use Rattle.word.proofs.Powers.{ones-shr, pow-sum}
 use Rattle.word.proofs.order.as_signed.Statement.{statement}
 use Rattle.word.proofs.order.as_signed.Tie as tie
 
-module _ (n w all : ℕ) (is : all ≡ 2 ^ n - 1) (word : IsWord n w) where
-  half : all / 2 ^ 1 ≡ 2 ^ (n - 1) - 1
-  half = ap (λ (x : ℕ). x / 2 ^ 1) is ∙ ones-shr (n - 1) 1 n (omega arith)
+small : (n w : ℕ) → IsWord n w → w < 2 ^ (n - 1) → w < 2 ^ 63
+small n w word h = lt-of-lt-of-le h (pow-mono {i = n - 1} {j = 63} (omega arith))
 
-  half-le : 2 ^ (n - 1) ≤ 2 ^ 63
-  half-le = pow-mono {i = n - 1} {j = 63} (omega arith)
-
-  low : w ≤ all / 2 ^ 1 → toZ w64 w ≡ signed n w
-  low h = toZ-pos w64 (lt-of-lt-of-le below half-le) ∙ sym (signed-low n w below)
-    where
-      below : w < 2 ^ (n - 1)
-      below = omega (arith, h, half, pow-pos (n - 1))
-
+module _ (n w all : ℕ) (is : all ≡ 2 ^ n - 1) (word : IsWord n w) (half : 2 ^ (n - 1) ≤ w) where
   -- how far the word is below all ones
-  gap : all / 2 ^ 1 < w → all - w < 2 ^ 63
-  gap h = lt-of-lt-of-le (omega (arith, half, pow-sum (n - 1) 1 n (omega arith), pow-pos (n - 1))) half-le
+  gap : all - w < 2 ^ 63
+  gap = lt-of-lt-of-le (omega (arith, pow-sum (n - 1) 1 n (omega arith), pow-pos (n - 1))) (pow-mono {i = n - 1} {j = 63} (omega arith))
 
-  less : (h : all / 2 ^ 1 < w) → negsuc 0 -ℤ toZ w64 (all - w) ≡ negsuc (all - w)
-  less h = ap (λ (z : ℤ). negsuc 0 -ℤ z) (toZ-pos w64 (gap h)) ∙ minus-one-less (all - w)
+  less : negsuc 0 -ℤ toZ w64 (all - w) ≡ negsuc (all - w)
+  less = ap (λ (z : ℤ). negsuc 0 -ℤ z) (toZ-pos w64 gap) ∙ minus-one-less (all - w)
 
-  high-fits : all / 2 ^ 1 < w → SFits w64 (negsuc 0 -ℤ toZ w64 (all - w))
-  high-fits h = subst (λ (z : ℤ). SFits w64 z) (sym (less h)) (record { sfits = gap h })
+  high-fits : SFits w64 (negsuc 0 -ℤ toZ w64 (all - w))
+  high-fits = subst (λ (z : ℤ). SFits w64 z) (sym less) (record { sfits = gap })
 
-  high : all / 2 ^ 1 < w → toZ w64 (ofZ w64 (negsuc 0 -ℤ toZ w64 (all - w))) ≡ signed n w
-  high h =
-      toZ-ofZ (high-fits h) ∙ less h ∙ ap (λ (x : ℕ). negsuc (x - w)) is
-      ∙ sym (signed-high n w (omega (arith, half)) (word .fits))
+  high : toZ w64 (ofZ w64 (negsuc 0 -ℤ toZ w64 (all - w))) ≡ signed n w
+  high = toZ-ofZ high-fits ∙ less ∙ ap (λ (x : ℕ). negsuc (x - w)) is ∙ sym (signed-high n w half (word .fits))
+
+below : (c : tie.Then1) → c .before .before .args .word < 2 ^ (c .before .before .args .n - 1)
+below c = subst (λ (x : ℕ). c .before .before .args .word < x) (c .before .power-of-two .ensures) (c .if1 .taken)
+
+from-half : (c : tie.After-ones) → 2 ^ (c .before .before .before .args .n - 1) ≤ c .before .before .before .args .word
+from-half c = subst (λ (x : ℕ). x ≤ c .before .before .before .args .word) (c .before .before .power-of-two .ensures) (c .before .if1 .left)
+
+sub-power-of-two : tie.Need-sub-power-of-two
+sub-power-of-two c = search needs
+
+power-of-two-requires : tie.Need-power-of-two-requires
+power-of-two-requires c κs = search needs
+
+cast-result : tie.Need-cast-result
+cast-result c = record { sfits = small _ _ (c .before .before .pre) (below c) }
+
+returns : tie.Need-returns
+returns c = toZ-pos w64 (small _ _ (c .before .before .pre) (below c)) ∙ sym (signed-low _ _ (below c))
 
 ones-requires : tie.Need-ones-requires
 ones-requires c κs = search needs
-
-cast-result : tie.Need-cast-result
-cast-result c = search needs
-
-returns : tie.Need-returns
-returns c = low _ _ _ (c .before .ones .ensures) (c .before .before .pre) (c .if1 .taken)
 
 sub-result : tie.Need-sub-result
 sub-result c = search needs
 
 cast-result-2 : tie.Need-cast-result-2
-cast-result-2 c = search needs
+cast-result-2 c = record { sfits = gap _ _ _ (c .ones .ensures) (c .before .before .before .pre) (from-half c) }
 
 sub-result-2 : tie.Need-sub-result-2
-sub-result-2 c = high-fits _ _ _ (c .before .ones .ensures) (c .before .before .pre) (c .if1 .left)
+sub-result-2 c = high-fits _ _ _ (c .ones .ensures) (c .before .before .before .pre) (from-half c)
 
 returns-2 : tie.Need-returns-2
-returns-2 c = high _ _ _ (c .before .ones .ensures) (c .before .before .pre) (c .if1 .left)
+returns-2 c = high _ _ _ (c .ones .ensures) (c .before .before .before .pre) (from-half c)
 
 pub as-signed-spec : {M : Type 1} → statement M
 as-signed-spec =
     tie.close
-    (tie.spec ones-requires cast-result returns sub-result cast-result-2 sub-result-2 returns-2)
+    (tie.spec
+    sub-power-of-two
+    power-of-two-requires
+    cast-result
+    returns
+    ones-requires
+    sub-result
+    cast-result-2
+    sub-result-2
+    returns-2)

@@ -1,18 +1,18 @@
 -- `characteristic` meets its contract, by the direction bit: no step leaves the 32 bits. Assumes nothing.
 use mathlib.Core.Path.{_≡_, sym, ap, ap₂, _∙_, subst}
 use Prim.Native.Nat.{ℕ, suc, _+_, _-_, _^_, _≤_, _<_}
-use native.Mathlib.Nat.{lt-of-lt-of-le, lt-of-le-of-lt, le-of-eq, le-trans}
+use native.Mathlib.Nat.{lt-of-lt-of-le, le-of-eq, le-trans}
 use native.Mathlib.Omega.{arith}
 use borrow.Author.Tests.{eq-eqb, ne-eqb}
 use borrow.Author.Needs.{needs}
-use lib.Dec.{lit<, lit≤}
-use lib.Pow.{pow-mono, pow-pos}
 use lib.IntN.{ℤ, pos, _+ℤ_, _-ℤ_}
+use lib.Dec.{lit≤}
+use lib.Pow.{pow-mono, pow-pos}
 use mir.Syntax.{w32}
 use mir.Val.{SFits, toZ, ofZ}
 use mir.Facts.{toZ-pos, toZ-ofZ}
-use Rattle.word.proofs.Signed.{difference, difference-mag}
 use Rattle.word.specs.Takum.{characteristicOf}
+use Rattle.word.proofs.Signed.{difference, sub-mag}
 use Rattle.word.proofs.reading.characteristic.Statement.{statement}
 use Rattle.word.proofs.reading.characteristic.Tie as tie
 
@@ -52,14 +52,17 @@ module _ (r b : ℕ) (seven : r ≤ 7) (fits : b < 2 ^ r) where
   next-fits = subst (λ (z : ℤ). SFits w32 z) (sym next) (record { sfits = omega (arith, fits, power-le) })
 
   module _ (a : ℕ) (is : a ≡ 2 ^ (r + 1)) where
+    less-than-half : a ≤ 256
+    less-than-half = le-trans (le-of-eq is) (pow-mono {i = r + 1} {j = 8} (omega (arith, seven)))
+
     small-next : a < 2 ^ 31
-    small-next = lt-of-le-of-lt (le-of-eq is) (lt-of-le-of-lt (pow-mono {i = r + 1} {j = 8} (omega (arith, seven))) (lit< tt))
+    small-next = omega (arith, less-than-half)
 
     less : toZ w32 (ofZ w32 (toZ w32 b +ℤ pos 1)) -ℤ toZ w32 a ≡ pos (b + 1) -ℤ pos a
     less = ap₂ (λ (y z : ℤ). y -ℤ z) (toZ-ofZ next-fits ∙ next) (toZ-pos w32 small-next)
 
     below-fits : SFits w32 (toZ w32 (ofZ w32 (toZ w32 b +ℤ pos 1)) -ℤ toZ w32 a)
-    below-fits = subst (λ (z : ℤ). SFits w32 z) (sym less) (record { sfits = difference-mag (2 ^ 31) (b + 1) a (omega (arith, fits, power-le)) small-next })
+    below-fits = subst (λ (z : ℤ). SFits w32 z) (sym less) (record { sfits = omega (arith, sub-mag (pos (b + 1)) (pos a), fits, power-le, less-than-half) })
 
     below : (d : ℕ) → (d ≡ 1 → ⊥) → toZ w32 (ofZ w32 (toZ w32 (ofZ w32 (toZ w32 b +ℤ pos 1)) -ℤ toZ w32 a)) ≡ characteristicOf d r b
     unfolding characteristicOf

@@ -1,23 +1,24 @@
 -- `number` meets its contract: each local is the field of Definition 2 that it is named after. Assumes nothing.
-use mathlib.Core.Bool.{true, false}
 use mathlib.Core.Path.{_≡_, sym, ap, ap₂, _∙_, subst}
+use mathlib.Core.Bool.{true, false}
 use Prim.Native.Nat.{ℕ, _+_, _-_, _/_, _%_, _^_, _≤_, _<_}
-use native.Mathlib.Omega.{arith}
 use native.Mathlib.Nat.{lt-of-le-of-lt, le-of-eq, mod-lt}
+use native.Mathlib.Omega.{arith}
 use borrow.Author.Needs.{needs}
 use borrow.Author.Needs.{needs, sfits-of}
+use lib.Signed.{mag}
 use lib.Pow.{pow-pos, pow-mono, pow-add}
 use lib.IntN.{ℤ, pos, negsuc, negℤ, _-ℤ_, +ℤ-idl}
-use lib.Signed.{mag}
+use lib.Dec.{lit≤}
+use mir.Facts.{toZ-ofZ}
 use mir.Syntax.{w32}
 use mir.Val.{SFits, toZ, ofZ}
-use mir.Facts.{toZ-ofZ}
+use Rattle.word.specs.Reads.{IsReading}
+use Rattle.word.proofs.Cut.{regime-le}
+use Rattle.word.proofs.Signed.{sub-mag}
+use Rattle.word.specs.Takum as Takum
 use Rattle.word.proofs.Numbers.{characteristic-small, same-number, sign-one, positive-number, negative-power, negative-number}
 use Rattle.word.specs.Takum.{regimeOf, characteristicOf, S, D, R, C, F}
-use Rattle.word.proofs.Signed.{negative-mag, complement-mag}
-use Rattle.word.specs.Reads.{IsReading}
-use Rattle.word.specs.Takum as Takum
-use Rattle.word.proofs.Cut.{regime-le}
 use Rattle.word.proofs.reading.number.Statement.{statement}
 use Rattle.word.proofs.reading.number.Tie as tie
 
@@ -58,15 +59,11 @@ small c =
     subst (λ (z : ℤ). mag z < 512) (sym (toZ-ofZ (sfits-of (c .characteristic .ok)) ∙ c .characteristic .ensures))
     (characteristic-small _ _ _ (regime-small (c .before .before)) (lt-of-le-of-lt (le-of-eq (c .before .low-bits3 .ensures)) (mod-lt _ (pow-pos (c .before .before .regime .result)))))
 
-minus-fits : (c : tie.After-characteristic) → SFits w32 (pos 0 -ℤ toZ w32 (ofZ w32 (c .characteristic .result)))
-minus-fits c =
+-- an exponent that is 0 or -1 less the characteristic
+exponent-fits : (c : tie.After-characteristic) (k : ℤ) → mag k ≤ 1 → SFits w32 (k -ℤ toZ w32 (ofZ w32 (c .characteristic .result)))
+exponent-fits c k h =
     let z = toZ w32 (ofZ w32 (c .characteristic .result)) in
-    subst (λ (y : ℤ). SFits w32 y) (sym (+ℤ-idl (negℤ z))) (record { sfits = omega (arith, negative-mag z, small c) })
-
-less-fits : (c : tie.After-characteristic) → SFits w32 (negsuc 0 -ℤ toZ w32 (ofZ w32 (c .characteristic .result)))
-less-fits c =
-    let z = toZ w32 (ofZ w32 (c .characteristic .result)) in
-    record { sfits = omega (arith, complement-mag z, small c) }
+    record { sfits = omega (arith, sub-mag k z, small c, h) }
 
 sub-low-bits : tie.Need-sub-low-bits
 sub-low-bits c = search needs
@@ -128,16 +125,16 @@ shr-if1 c = search needs
 power-of-two-requires : tie.Need-power-of-two-requires
 power-of-two-requires c κs = search needs
 
-add-t14 : tie.Need-add-t14
-add-t14 c = record { fits = omega (arith, c .power-of-two .ensures, fraction-below (c .before .before), power-small (c .before .before)) }
+add-t15 : tie.Need-add-t15
+add-t15 c = record { fits = omega (arith, c .power-of-two .ensures, fraction-below (c .before .before), power-small (c .before .before)) }
 
 returns : tie.Need-returns
 unfolding IsReading S
 returns c = let known = c .before .before in
     same-number _ _ false (held (known .before)) (ap₂ (λ (x y : ℕ). x + y) (c .power-of-two .ensures ∙ ap (λ (x : ℕ). 2 ^ x) (count-is (known .before .before .before))) (fraction-is known)) (count-is (known .before .before .before)) (positive-number (c .before .before .before .before .before .before .before .before .args .n) (c .before .before .before .before .before .before .before .before .args .t) (c .before .before .before .before .before .before .before .before .pre .0) (c .before .before .before .before .before .before .before .before .pre .1) (c .before .before .before .before .before .before .before .before .pre .2) (c .before .if1 .taken))
 
-sub-t15 : tie.Need-sub-t15
-sub-t15 c = minus-fits (c .before .before .before)
+sub-t16 : tie.Need-sub-t16
+sub-t16 c = exponent-fits (c .before .before .before) (pos 0) (lit≤ tt)
 
 power-of-two-requires-2 : tie.Need-power-of-two-requires-2
 power-of-two-requires-2 c κs = search needs
@@ -145,24 +142,28 @@ power-of-two-requires-2 c κs = search needs
 returns-2 : tie.Need-returns-2
 unfolding IsReading S
 returns-2 c = let known = c .before .before .before in
-    same-number _ _ true (toZ-ofZ (minus-fits (known .before)) ∙ +ℤ-idl _ ∙ ap negℤ (held (known .before))) (c .power-of-two2 .ensures ∙ ap (λ (x : ℕ). 2 ^ x) (count-is (known .before .before .before))) (count-is (known .before .before .before)) (negative-power (c .before .before .before .before .before .before .before .before .before .args .n) (c .before .before .before .before .before .before .before .before .before .args .t) (c .before .before .before .before .before .before .before .before .before .pre .0) (c .before .before .before .before .before .before .before .before .before .pre .1) (c .before .before .before .before .before .before .before .before .before .pre .2) (sign-one (c .before .before .before .before .before .before .before .before .before .args .n) (c .before .before .before .before .before .before .before .before .before .args .t) (c .before .before .before .before .before .before .before .before .before .pre .0) (c .before .before .before .before .before .before .before .before .before .pre .1) (c .before .before .before .before .before .before .before .before .before .pre .2) (c .before .before .if1 .left)) (sym (fraction-is known) ∙ c .before .if2 .taken))
-
-sub-t17 : tie.Need-sub-t17
-sub-t17 c = less-fits (c .before .before .before)
-
-add-power-of-two : tie.Need-add-power-of-two
-add-power-of-two c = search needs
+    same-number _ _ true (toZ-ofZ (exponent-fits (known .before) (pos 0) (lit≤ tt)) ∙ +ℤ-idl _ ∙ ap negℤ (held (known .before))) (c .power-of-two2 .ensures ∙ ap (λ (x : ℕ). 2 ^ x) (count-is (known .before .before .before))) (count-is (known .before .before .before)) (negative-power (c .before .before .before .before .before .before .before .before .before .args .n) (c .before .before .before .before .before .before .before .before .before .args .t) (c .before .before .before .before .before .before .before .before .before .pre .0) (c .before .before .before .before .before .before .before .before .before .pre .1) (c .before .before .before .before .before .before .before .before .before .pre .2) (sign-one (c .before .before .before .before .before .before .before .before .before .args .n) (c .before .before .before .before .before .before .before .before .before .args .t) (c .before .before .before .before .before .before .before .before .before .pre .0) (c .before .before .before .before .before .before .before .before .before .pre .1) (c .before .before .before .before .before .before .before .before .before .pre .2) (c .before .before .if1 .left)) (sym (fraction-is known) ∙ c .before .if2 .taken))
 
 power-of-two-requires-3 : tie.Need-power-of-two-requires-3
 power-of-two-requires-3 c κs = search needs
 
-sub-t10 : tie.Need-sub-t10
-sub-t10 c = omega (arith, c .power-of-two3 .ensures, fraction-below (c .before .before .before), pow-add 2 (c .before .before .before .before .before .before .before .before .before .args .n - c .before .before .before .before .before .before .regime .result - 5) 1)
+sub-rest : tie.Need-sub-rest
+sub-rest c = omega (arith, c .power-of-two3 .ensures, fraction-below (c .before .before .before))
+
+sub-t18 : tie.Need-sub-t18
+sub-t18 c = exponent-fits (c .before .before .before .before) (negsuc 0) (lit≤ tt)
+
+power-of-two-requires-4 : tie.Need-power-of-two-requires-4
+power-of-two-requires-4 c κs = search needs
+
+add-t10 : tie.Need-add-t10
+add-t10 c = record { fits = omega (arith, c .power-of-two4 .ensures, c .before .power-of-two3 .ensures, fraction-below (c .before .before .before .before), power-small (c .before .before .before .before)) }
 
 returns-3 : tie.Need-returns-3
 unfolding IsReading S
-returns-3 c = let known = c .before .before .before in
-    same-number _ _ true (toZ-ofZ (less-fits (known .before)) ∙ ap (λ (z : ℤ). negsuc 0 -ℤ z) (held (known .before))) (ap₂ (λ (x y : ℕ). x - y) (c .power-of-two3 .ensures ∙ ap (λ (x : ℕ). 2 ^ (x + 1)) (count-is (known .before .before .before))) (fraction-is known)) (count-is (known .before .before .before)) (negative-number (c .before .before .before .before .before .before .before .before .before .args .n) (c .before .before .before .before .before .before .before .before .before .args .t) (c .before .before .before .before .before .before .before .before .before .pre .0) (c .before .before .before .before .before .before .before .before .before .pre .1) (c .before .before .before .before .before .before .before .before .before .pre .2) (sign-one (c .before .before .before .before .before .before .before .before .before .args .n) (c .before .before .before .before .before .before .before .before .before .args .t) (c .before .before .before .before .before .before .before .before .before .pre .0) (c .before .before .before .before .before .before .before .before .before .pre .1) (c .before .before .before .before .before .before .before .before .before .pre .2) (c .before .before .if1 .left)) (λ q. c .before .if2 .left (fraction-is known ∙ q)))
+returns-3 c = let known = c .before .before .before .before in
+    let power = ap (λ (x : ℕ). 2 ^ x) (count-is (known .before .before .before)) in
+    same-number _ _ true (toZ-ofZ (exponent-fits (known .before) (negsuc 0) (lit≤ tt)) ∙ ap (λ (z : ℤ). negsuc 0 -ℤ z) (held (known .before))) (ap₂ (λ (x y : ℕ). x + y) (c .power-of-two4 .ensures ∙ power) (ap₂ (λ (x y : ℕ). x - y) (c .before .power-of-two3 .ensures ∙ power) (fraction-is known))) (count-is (known .before .before .before)) (negative-number (c .before .before .before .before .before .before .before .before .before .before .args .n) (c .before .before .before .before .before .before .before .before .before .before .args .t) (c .before .before .before .before .before .before .before .before .before .before .pre .0) (c .before .before .before .before .before .before .before .before .before .before .pre .1) (c .before .before .before .before .before .before .before .before .before .before .pre .2) (sign-one (c .before .before .before .before .before .before .before .before .before .before .args .n) (c .before .before .before .before .before .before .before .before .before .before .args .t) (c .before .before .before .before .before .before .before .before .before .before .pre .0) (c .before .before .before .before .before .before .before .before .before .before .pre .1) (c .before .before .before .before .before .before .before .before .before .before .pre .2) (c .before .before .before .if1 .left)) (λ q. c .before .before .if2 .left (fraction-is known ∙ q)))
 
 pub number-spec : {M : Type 1} → statement M
 number-spec =
@@ -188,13 +189,14 @@ number-spec =
     cast-if1
     shr-if1
     power-of-two-requires
-    add-t14
+    add-t15
     returns
-    sub-t15
+    sub-t16
     power-of-two-requires-2
     returns-2
-    sub-t17
-    add-power-of-two
     power-of-two-requires-3
-    sub-t10
+    sub-rest
+    sub-t18
+    power-of-two-requires-4
+    add-t10
     returns-3)

@@ -1,0 +1,50 @@
+-- `print_words_of` is safe and ends. The measure is the places that are left; nothing has to hold from turn to turn. Assumes nothing.
+use Prim.Native.Nat.{_-_}
+use native.Mathlib.Omega.{arith}
+use Rattle.census.proofs.words.print_words_of.Statement.{statement}
+use Rattle.census.proofs.words.print_words_of.Tie as tie
+
+abbrev Inv-loop : tie.InvT-loop
+Inv-loop n end state₀ first₀ state first = Unit {0}
+
+abbrev μ-loop : tie.MeasureT-loop
+μ-loop n end state₀ first₀ state first = end - first
+
+places-requires : tie.Need-places-requires Inv-loop μ-loop
+places-requires c κs = omega arith
+
+first-state-requires : tie.Need-first-state-requires Inv-loop μ-loop
+first-state-requires c κs = omega arith
+
+loop-holds : tie.Need-loop-holds Inv-loop μ-loop
+loop-holds c = tt
+
+run-end-requires : tie.Need-run-end-requires Inv-loop μ-loop
+run-end-requires c κs = omega arith
+
+print-run-requires : tie.Need-print-run-requires Inv-loop μ-loop
+print-run-requires c κs = omega arith
+
+loop-less : tie.Need-loop-less Inv-loop μ-loop
+loop-less c = omega arith
+
+loop-again : tie.Need-loop-again Inv-loop μ-loop
+loop-again c = tt
+
+returns : tie.Need-returns Inv-loop μ-loop
+returns c = tt
+
+pub print-words-of-spec : {M : Type 1} → statement M
+print-words-of-spec =
+    tie.close
+    (tie.spec
+    Inv-loop
+    μ-loop
+    places-requires
+    first-state-requires
+    loop-holds
+    run-end-requires
+    print-run-requires
+    loop-less
+    loop-again
+    returns)

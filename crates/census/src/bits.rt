@@ -1,0 +1,16 @@
+// Bits of the 64-bit carrier: powers of two, and the low bits of a number.
+ghost use Prim.Native.Nat.{_^_, _≤_, _<_};
+
+pub(crate) fn power_of_two(k: u32) -> u64
+    requires { ⌜ k < 64 ⌝ }
+    ensures { λ r. ⌜ (1 ≤ r) × (r ≤ 2 ^ 63) ⌝ }
+{
+    1 << k
+}
+
+// The number modulo 2^n.
+pub(crate) fn low_bits(x: u64, n: u32) -> u64
+    requires { ⌜ (1 ≤ n) × (n ≤ 64) ⌝ }
+{
+    x & (0xffff_ffff_ffff_ffff >> (64 - n))
+}

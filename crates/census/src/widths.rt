@@ -1,0 +1,41 @@
+// Part 1: the numbers that belong to each width.
+use crate::line::print_end;
+use crate::line::print_number;
+use crate::line::print_text;
+use word::answer::Answer;
+use word::width::Limit;
+use word::width::Width;
+
+pub(crate) fn print_widths() {
+    let mut n = Width::LEAST;
+    while n <= Width::GREATEST {
+        print_width(n);
+        n += 1;
+    }
+}
+
+fn print_width(n: u32) {
+    let width = Width { bits: n };
+    print_text(b"width");
+    print_number(n as u64);
+    print_word(width.largest());
+    print_word(width.smallest());
+    print_word(width.nar());
+    print_limit(width.limit());
+    print_end();
+}
+
+// A width of this part is never refused; where the library refuses it all the same, the line has to show it.
+fn print_word(answer: Answer) {
+    match answer {
+        Answer::Word(word) => print_number(word),
+        Answer::Refused(_) => print_text(b" refused"),
+    }
+}
+
+fn print_limit(limit: Limit) {
+    match limit {
+        Limit::Count(count) => print_number(count),
+        Limit::Refused(_) => print_text(b" refused"),
+    }
+}

@@ -78,7 +78,9 @@ impl Whole {
     /// The number times 2^exponent; the exponent is not negative.
     pub fn times_power_of_two(&self, exponent: i64) -> Whole {
         assert!(exponent >= 0, "a whole number is multiplied by a whole power of two");
-        let mut digits = vec![0; (exponent / 32) as usize];
+        let zeros = (exponent / 32) as usize;
+        let mut digits = Vec::with_capacity(zeros + self.digits.len() + 1);
+        digits.resize(zeros, 0);
         let mut carry: u64 = 0;
         for &digit in &self.digits {
             let shifted = (u64::from(digit) << (exponent % 32)) + carry;
@@ -101,6 +103,18 @@ impl Whole {
         let quotient = Whole::from_parts(self.negative, digits);
         assert!(quotient.times_power_of_two(exponent) == *self, "the division leaves a remainder");
         quotient
+    }
+
+    /// How many binary digits the size has: b, with 2^(b-1) <= size < 2^b. The number is not zero.
+    pub fn count_of_bits(&self) -> i64 {
+        let highest_digit = *self.digits.last().expect("zero has no highest binary digit");
+        32 * self.digits.len() as i64 - i64::from(highest_digit.leading_zeros())
+    }
+
+    /// How often 2 divides the number, which is not zero.
+    pub fn count_of_twos(&self) -> i64 {
+        let place = self.digits.iter().position(|&digit| digit != 0).expect("zero can be halved without end");
+        32 * place as i64 + i64::from(self.digits[place].trailing_zeros())
     }
 
     /// The same number as a 64-bit unsigned one. Stops the program if it is not in their range.
@@ -142,9 +156,10 @@ fn compare_sizes(left: &[u32], right: &[u32]) -> Ordering {
 }
 
 fn add_sizes(left: &[u32], right: &[u32]) -> Vec<u32> {
-    let mut digits = Vec::new();
+    let longer = left.len().max(right.len());
+    let mut digits = Vec::with_capacity(longer + 1);
     let mut carry: u64 = 0;
-    for place in 0..left.len().max(right.len()) {
+    for place in 0..longer {
         let left_digit = u64::from(*left.get(place).unwrap_or(&0));
         let right_digit = u64::from(*right.get(place).unwrap_or(&0));
         let sum = left_digit + right_digit + carry;
@@ -157,7 +172,7 @@ fn add_sizes(left: &[u32], right: &[u32]) -> Vec<u32> {
 
 /// The larger size less the smaller one, as on paper: a digit that is too small borrows from the next.
 fn subtract_sizes(larger: &[u32], smaller: &[u32]) -> Vec<u32> {
-    let mut digits = Vec::new();
+    let mut digits = Vec::with_capacity(larger.len());
     let mut borrow: i64 = 0;
     for place in 0..larger.len() {
         let smaller_digit = i64::from(*smaller.get(place).unwrap_or(&0));
@@ -199,6 +214,10 @@ fn check_one(a: i64) {
         assert!(product == from_machine(i128::from(a) << exponent));
         assert!(product.divided_by_power_of_two(exponent) == exact);
     }
+    if a != 0 {
+        check_bits(&exact);
+        check_bits(&exact.times_power_of_two(500));
+    }
     // Sizes beyond the machine's numbers: doubling 600 times is the same as one multiplication by 2^600.
     let mut doubled = exact.clone();
     for _ in 0..600 {
@@ -206,6 +225,15 @@ fn check_one(a: i64) {
     }
     assert!(doubled == exact.times_power_of_two(600));
     assert!(doubled.minus(&doubled).is_zero());
+}
+
+/// The count of bits puts the size between two powers of two; without its twos a number is odd.
+fn check_bits(exact: &Whole) {
+    let size = exact.size();
+    let bits = exact.count_of_bits();
+    assert!(Whole::power_of_two(bits - 1) <= size && size < Whole::power_of_two(bits));
+    let odd = exact.divided_by_power_of_two(exact.count_of_twos());
+    assert!(odd.digits[0] % 2 == 1);
 }
 
 fn check_two(a: i64, b: i64) {

@@ -1,14 +1,21 @@
-//! The independent program: it reads linear takums and prints the census, and is written from the papers alone.
+//! The independent program: it reads, writes and moves linear takums and prints the census, and is written from the
+//! papers alone.
 //!
 //! The papers are paper 01 (the requirements), document 004, Definition 2 (the linear takum), and docs/CENSUS.md (the
 //! lines to print). Nothing here was taken from the library. Every word is turned into its exact value. The sign, h and
 //! m of a reading and every comparison are found from exact values; a reading's p is the word's own fraction count, and
-//! negation is two's complement negation of the word, held against the exact value. All is meant to be obvious, not
-//! quick.
+//! negation is two's complement negation of the word, held against the exact value. Writing and moving, which have
+//! files of their own, find the nearest word by exact values too. All is meant to be obvious, not quick.
 //!
 //! The assertions are statements of the papers, or follow from them. If one of them fails, the program stops.
 
 mod exact;
+mod moving;
+mod nearest;
+mod offers;
+mod writing;
+mod writing_checks;
+mod writing_lines;
 
 use exact::Whole;
 use std::cmp::Ordering;
@@ -23,11 +30,12 @@ use std::sync::LazyLock;
 // Refusals (paper 01, "Refusal numbers")
 // ---------------------------------------------------------------------------------------------------------------------
 
-/// The refusals that reading, comparing and negating can give, with their numbers in paper 01.
+/// The refusals that reading, comparing, negating, writing and moving can give, with their numbers in paper 01.
 #[derive(Clone, Copy, Debug, PartialEq, Eq)]
 enum Refusal {
     Width = 1,
     Stray = 2,
+    Inexact = 4,
 }
 
 /// "A width isn't 2 to 64."
@@ -86,10 +94,7 @@ struct Quantities {
 
 /// The word as a string of bits, highest bit first, with zero bits appended on the right until there are 12.
 fn bits_of(width: u32, word: u64) -> Vec<bool> {
-    let mut bits = Vec::new();
-    for place in (0..width).rev() {
-        bits.push((word >> place) & 1 == 1);
-    }
+    let mut bits: Vec<bool> = (0..width).rev().map(|place| (word >> place) & 1 == 1).collect();
     while bits.len() < 12 {
         bits.push(false);
     }
@@ -548,10 +553,14 @@ impl Sequence {
         Sequence(D0.wrapping_add(u64::from(start)))
     }
 
+    fn next_number(&mut self) -> u64 {
+        self.0 = scramble(self.0);
+        self.0
+    }
+
     /// The low n bits of the next number.
     fn next_word(&mut self, width: u32) -> u64 {
-        self.0 = scramble(self.0);
-        (u128::from(self.0) % count_of_words(width)) as u64
+        (u128::from(self.next_number()) % count_of_words(width)) as u64
     }
 }
 
@@ -668,6 +677,7 @@ fn main() {
     check_order_and_widening();
     check_end_words();
     check_limits();
+    writing_checks::check();
 
     let mut lines = Vec::new();
     width_lines(&mut lines);
@@ -676,6 +686,7 @@ fn main() {
     edge_lines(&mut lines);
     refused_lines(&mut lines);
     stray_lines(&mut lines);
+    writing_lines::push(&mut lines);
 
     let text = lines.join("\n") + "\n";
     std::io::stdout().write_all(text.as_bytes()).expect("standard output takes the lines");

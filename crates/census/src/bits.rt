@@ -1,5 +1,9 @@
-// Bits of the 64-bit carrier: powers of two, and the low bits of a number.
+// Bits of the 64-bit carrier: its top bit and all its bits, powers of two, and the low bits of a number.
 ghost use Prim.Native.Nat.{_^_, _≤_, _<_};
+
+pub(crate) const TOP_BIT: u64 = 0x8000_0000_0000_0000;
+
+pub(crate) const ALL_BITS: u64 = 0xffff_ffff_ffff_ffff;
 
 pub(crate) fn power_of_two(k: u32) -> u64
     requires { ⌜ k < 64 ⌝ }
@@ -12,5 +16,5 @@ pub(crate) fn power_of_two(k: u32) -> u64
 pub(crate) fn low_bits(x: u64, n: u32) -> u64
     requires { ⌜ (1 ≤ n) × (n ≤ 64) ⌝ }
 {
-    x & (0xffff_ffff_ffff_ffff >> (64 - n))
+    x & (ALL_BITS >> (64 - n))
 }

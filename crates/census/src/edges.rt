@@ -2,26 +2,13 @@
 use crate::bits::power_of_two;
 use crate::digest::EMPTY;
 use crate::facts::take_facts;
-use crate::line::print_digest;
-use crate::line::print_number;
-use crate::line::print_text;
-use word::width::Width;
+use crate::line::print_of_width;
 ghost use Prim.Native.Nat.{_≤_, _<_};
 
-pub(crate) fn print_edges() {
-    let mut n = Width::LEAST;
-    while n <= Width::GREATEST {
-        print_edge(n);
-        n += 1;
-    }
-}
-
-fn print_edge(n: u32)
+pub(crate) fn print_edge(n: u32)
     requires { ⌜ (2 ≤ n) × (n ≤ 64) ⌝ }
 {
-    print_text(b"edge");
-    print_number(n as u64);
-    print_digest(take_powers(n));
+    print_of_width(b"edge", n, take_powers(n));
 }
 
 fn take_powers(n: u32) -> u64

@@ -10,6 +10,13 @@ pub(crate) fn print_number(x: u64) {
     io::print_decimal(STDOUT_FILENO, x);
 }
 
+// A whole line of one width.
+pub(crate) fn print_of_width(text: &[u8], n: u32, digest: u64) {
+    print_text(text);
+    print_number(n as u64);
+    print_digest(digest);
+}
+
 // A digest is the last of a line.
 pub(crate) fn print_digest(digest: u64) {
     io::write_all(STDOUT_FILENO, b" ");

@@ -1,81 +1,66 @@
-// Parts 5 and 6: what is refused, bad widths first and then words with a bit at or above their width.
+// Parts 5, 6, 11 and 12: what is refused, at bad widths and of words with a bit at or above their width.
+use crate::bits::ALL_BITS;
+use crate::bits::TOP_BIT;
 use crate::bits::power_of_two;
 use crate::digest::EMPTY;
-use crate::digest::take_answer;
-use crate::digest::take_comparison;
-use crate::digest::take_limit;
-use crate::digest::take_made;
-use crate::facts::take_itself;
-use crate::line::print_digest;
-use crate::line::print_number;
-use crate::line::print_text;
-use word::order::compare;
+use crate::line::print_of_width;
+use crate::unmoved::take_moves_of_stray;
+use crate::unmoved::take_unmoved;
+use crate::unread::take_facts_of_stray;
+use crate::unread::take_unread;
 use word::width::Width;
 ghost use Prim.Native.Nat.{_≤_};
 
-const TOP_BIT: u64 = 0x8000_0000_0000_0000;
-
-const ALL_BITS: u64 = 0xffff_ffff_ffff_ffff;
-
-pub(crate) fn print_bad_widths() {
-    print_bad_width(0);
-    print_bad_width(1);
-    print_bad_width(65);
-    print_bad_width(0x8000_0000);
-    print_bad_width(0xffff_ffff);
+// What the library is asked.
+pub(crate) enum Asked {
+    Reading,
+    Moving,
 }
 
-fn print_bad_width(n: u32) {
-    let width = Width { bits: n };
-    let after_width = take_of_width(EMPTY, width);
-    let after_zero = take_at_bad_width(after_width, width, 0);
-    let after_one = take_at_bad_width(after_zero, width, 1);
-    let after_top = take_at_bad_width(after_one, width, TOP_BIT);
-    let digest = take_at_bad_width(after_top, width, ALL_BITS);
-    print_text(b"refused");
-    print_number(n as u64);
-    print_digest(digest);
+pub(crate) fn print_bad_widths(asked: Asked) {
+    print_bad_width(asked, 0);
+    print_bad_width(asked, 1);
+    print_bad_width(asked, 65);
+    print_bad_width(asked, 0x8000_0000);
+    print_bad_width(asked, 0xffff_ffff);
 }
 
-fn take_of_width(digest: u64, width: Width) -> u64 {
-    let after_new = take_made(digest, Width::new(width.bits));
-    let after_largest = take_answer(after_new, width.largest());
-    let after_smallest = take_answer(after_largest, width.smallest());
-    let after_nar = take_answer(after_smallest, width.nar());
-    take_limit(after_nar, width.limit())
-}
-
-fn take_at_bad_width(digest: u64, width: Width, word: u64) -> u64 {
-    let after_itself = take_itself(digest, width, word);
-    take_comparison(after_itself, compare(width, word, word))
-}
-
-// At width 64 no word is stray.
-pub(crate) fn print_strays() {
-    let mut n = Width::LEAST;
-    while n < Width::GREATEST {
-        print_stray(n);
-        n += 1;
+fn print_bad_width(asked: Asked, n: u32) {
+    match asked {
+        Asked::Reading => print_of_width(b"refused", n, take_unread(EMPTY, n)),
+        Asked::Moving => print_of_width(b"unmoved", n, take_unmoved(EMPTY, n)),
     }
 }
 
-fn print_stray(n: u32)
-    requires { ⌜ n ≤ 63 ⌝ }
-{
-    let width = Width { bits: n };
-    let least = power_of_two(n);
-    let after_least = take_stray(EMPTY, width, least);
-    let after_next = take_stray(after_least, width, least + 1);
-    let after_top = take_stray(after_next, width, TOP_BIT);
-    let digest = take_stray(after_top, width, ALL_BITS);
-    print_text(b"stray");
-    print_number(n as u64);
-    print_digest(digest);
+// At width 64 no word is stray.
+pub(crate) fn print_strays(asked: Asked, n: u32) {
+    if n < Width::GREATEST {
+        print_stray_line(asked, n);
+    }
 }
 
-fn take_stray(digest: u64, width: Width, word: u64) -> u64 {
-    let after_itself = take_itself(digest, width, word);
-    let after_first = take_comparison(after_itself, compare(width, word, 1));
-    let after_second = take_comparison(after_first, compare(width, 1, word));
-    take_comparison(after_second, compare(width, word, word))
+fn print_stray_line(asked: Asked, n: u32)
+    requires { ⌜ n ≤ 63 ⌝ }
+{
+    match asked {
+        Asked::Reading => print_of_width(b"stray", n, take_strays(asked, n)),
+        Asked::Moving => print_of_width(b"strayed", n, take_strays(asked, n)),
+    }
+}
+
+fn take_strays(asked: Asked, n: u32) -> u64
+    requires { ⌜ n ≤ 63 ⌝ }
+{
+    let least = power_of_two(n);
+    let after_least = take_stray(asked, EMPTY, n, least);
+    let after_next = take_stray(asked, after_least, n, least + 1);
+    let after_top = take_stray(asked, after_next, n, TOP_BIT);
+    take_stray(asked, after_top, n, ALL_BITS)
+}
+
+fn take_stray(asked: Asked, digest: u64, n: u32, word: u64) -> u64 {
+    match asked {
+        Asked::Reading => take_facts_of_stray(digest, n, word),
+        Asked::Moving => take_moves_of_stray(digest, n, word),
+    }
 }

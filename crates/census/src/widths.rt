@@ -6,15 +6,7 @@ use word::answer::Answer;
 use word::width::Limit;
 use word::width::Width;
 
-pub(crate) fn print_widths() {
-    let mut n = Width::LEAST;
-    while n <= Width::GREATEST {
-        print_width(n);
-        n += 1;
-    }
-}
-
-fn print_width(n: u32) {
+pub(crate) fn print_width(n: u32) {
     let width = Width { bits: n };
     print_text(b"width");
     print_number(n as u64);

@@ -1,22 +1,22 @@
-// Figures of paper 01 on reading, limits and refusals: those that are run and compared, one line each.
+// Figures of paper 01: those that are run and compared, one line each.
+mod lines;
 mod text;
 mod value;
 
-use crate::text::print_bytes;
-use crate::text::print_hex;
-use crate::text::print_number;
-use crate::value::print_value;
-use word::reading::Reading;
-use word::reading::read;
-use word::refusal::Refusal;
-use word::width::Limit;
-use word::width::Made;
-use word::width::Width;
+use crate::lines::print_limit;
+use crate::lines::print_made;
+use crate::lines::print_move;
+use crate::lines::print_word;
+use crate::lines::print_writing;
+use write::value::Rule;
+use write::value::Value;
 
 fn main() {
     print_words();
     print_limits();
     print_refusals();
+    print_writings();
+    print_errors();
 }
 
 fn print_words() {
@@ -50,52 +50,84 @@ fn print_refusals() {
     print_word(16, 0x10000);
 }
 
-fn print_word(n: u32, word: u64) {
-    print_width(n);
-    print_bytes(b" word ");
-    print_hex(word);
-    print_bytes(b" is ");
-    print_reading(read(Width { bits: n }, word));
-    print_bytes(b"\n");
+fn print_writings() {
+    print_rounded(16, plus(514, 0));
+    print_strict(16, plus(514, 0));
+    print_rounded(16, plus(515, 0));
+    print_rounded(16, plus(1, -300));
+    print_rounded(16, plus(1, 300));
+    print_rounded(8, plus(7, 0));
+    print_strict(8, plus(7, 0));
+    print_rounded(8, plus(8, 0));
+    print_strict(8, plus(8, 0));
+    print_rounded(8, plus(9, 0));
+    print_strict(8, plus(9, 0));
+    print_rounded(8, plus(10, 0));
+    print_rounded(2, plus(1, 0));
+    print_rounded(2, plus(3, 0));
+    print_rounded(2, plus(1, -300));
+    print_rounded(2, plus(1, 300));
 }
 
-fn print_reading(reading: Reading) {
-    match reading {
-        Reading::Zero => print_number(0),
-        Reading::NotReal => print_bytes(b"nar"),
-        Reading::Number { negative, h, m, p } => print_value(negative, h, m, p),
-        Reading::Refused(refusal) => print_refusal(refusal),
+// The errors that look right, each by cases that it would get wrong.
+fn print_errors() {
+    print_sign_beside_size();
+    print_next_bit();
+    print_middle_width();
+    print_tiny();
+    print_carry();
+}
+
+fn print_sign_beside_size() {
+    print_word(16, 0xbc00);
+    print_strict(16, minus(3, -1));
+}
+
+fn print_next_bit() {
+    print_rounded(8, plus(1, 231));
+}
+
+// 513 + 2^-20 goes straight to the word of 514, and by way of width 32 to that of 512.
+fn print_middle_width() {
+    print_strict(64, plus((513 << 20) + 1, -20));
+    print_move(64, 16, Rule::Rounded, 0x5a00_8000_0800_0000);
+    print_move(64, 32, Rule::Rounded, 0x5a00_8000_0800_0000);
+    print_move(32, 16, Rule::Rounded, 0x5a00_8000);
+}
+
+fn print_tiny() {
+    print_rounded(16, minus(1, -300));
+    print_rounded(64, plus(1, -2147483648));
+}
+
+// Just below 2, 4, 2^7 and 2^15, whose words begin another regime or, at 4, another characteristic.
+fn print_carry() {
+    print_rounded(16, plus(0xffff_ffff_ffff_ffff, -63));
+    print_rounded(16, plus(0xffff_ffff_ffff_ffff, -62));
+    print_rounded(16, plus(0xffff_ffff_ffff_ffff, -57));
+    print_rounded(16, plus(0xffff_ffff_ffff_ffff, -49));
+}
+
+fn plus(m: u64, k: i32) -> Value {
+    Value {
+        negative: false,
+        m,
+        k,
     }
 }
 
-fn print_limit(n: u32) {
-    let width = Width { bits: n };
-    print_width(n);
-    print_bytes(b" limit ");
-    match width.limit() {
-        Limit::Count(count) => print_number(count),
-        Limit::Refused(refusal) => print_refusal(refusal),
+fn minus(m: u64, k: i32) -> Value {
+    Value {
+        negative: true,
+        m,
+        k,
     }
-    print_bytes(b"\n");
 }
 
-// Whether there is a width of a number.
-fn print_made(n: u32) {
-    print_width(n);
-    print_bytes(b" is ");
-    match Width::new(n) {
-        Made::Width(_) => print_bytes(b"made"),
-        Made::Refused(refusal) => print_refusal(refusal),
-    }
-    print_bytes(b"\n");
+fn print_rounded(n: u32, value: Value) {
+    print_writing(n, Rule::Rounded, value);
 }
 
-fn print_width(n: u32) {
-    print_bytes(b"width ");
-    print_number(n as u64);
-}
-
-fn print_refusal(refusal: Refusal) {
-    print_bytes(b"refused ");
-    print_number(refusal.number() as u64);
+fn print_strict(n: u32, value: Value) {
+    print_writing(n, Rule::Strict, value);
 }

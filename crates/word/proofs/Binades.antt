@@ -91,7 +91,7 @@ size-not-zero m k zero h q = absurd (lt-irrefl 0 (subst (λ (x : ℕ). zero < x)
 size-not-zero m k (suc v) h q = zero-lt-suc v
 
 -- a size with its sign gives back both
-signed-one : (s t : Bool) (v w : ℕ) → zero < v → signedSize s v ≡ signedSize t w → (s ≡ t) × (v ≡ w)
+pub signed-one : (s t : Bool) (v w : ℕ) → zero < v → signedSize s v ≡ signedSize t w → (s ≡ t) × (v ≡ w)
 unfolding signedSize
 signed-one false false v w h q = (refl, ap natAbs q)
 signed-one false true v zero h q = absurd (lt-irrefl 0 (subst (λ (x : ℕ). zero < x) (ap natAbs q) h))

@@ -12,7 +12,7 @@ use mir.Facts.{toZ-ofZ}
 use mir.Syntax.{Width, w64}
 use mir.Val.{Fits, SFits, toZ, ofZ, hbits}
 
-not-negative : (z : ℤ) → ltZ z (pos 0) ≡ false → z ≡ pos (mag z)
+pub not-negative : (z : ℤ) → ltZ z (pos 0) ≡ false → z ≡ pos (mag z)
 not-negative (pos n) h = refl
 not-negative (negsuc n) h = absurd (subst T h tt)
 
@@ -20,13 +20,17 @@ negative : (z : ℤ) → ltZ z (pos 0) ≡ true → negsuc 0 -ℤ z ≡ pos (mag
 negative (pos n) h = absurd (omega (arith, ltb-true n 0 h))
 negative (negsuc n) h = rw (le-ltb (suc n) 1 (omega arith)) (ap pos (omega arith))
 
+pub is-negative : (z : ℤ) → ltZ z (pos 0) ≡ true → z ≡ negsuc (mag z)
+is-negative (pos n) h = absurd (omega (arith, ltb-true n 0 h))
+is-negative (negsuc n) h = refl
+
 -- what the cast asks
 abbrev Unsigned : ℤ → Type 0
 Unsigned z = T (nonNeg z) × Fits w64 (natAbs z)
 
 -- z is a number of the width w, as the machine holds it
 module _ (w : Width) (narrow : T (leb (hbits w) 63)) {z : ℤ} (fits : SFits w z) where
-  tested : {b : Bool} → ltZ (toZ w (ofZ w z)) (pos 0) ≡ b → ltZ z (pos 0) ≡ b
+  pub tested : {b : Bool} → ltZ (toZ w (ofZ w z)) (pos 0) ≡ b → ltZ z (pos 0) ≡ b
   tested h = ap (λ (x : ℤ). ltZ x (pos 0)) (sym (toZ-ofZ fits)) ∙ h
 
   room : 2 ^ hbits w ≤ 2 ^ 63
@@ -51,3 +55,10 @@ module _ (w : Width) (narrow : T (leb (hbits w) 63)) {z : ℤ} (fits : SFits w z
   complement-more h =
       subst (λ (x : ℤ). Fits w64 (natAbs x + 1)) (sym (toZ-ofZ (complement-fits h) ∙ complement h))
       (record { fits = omega (arith, fits .sfits, room) })
+
+  -- the numbers that the casts give
+  pub plain-value : ltZ (toZ w (ofZ w z)) (pos 0) ≡ false → natAbs (toZ w (ofZ w z)) ≡ mag z
+  plain-value h = ap natAbs (toZ-ofZ fits ∙ not-negative z (tested h))
+
+  pub complement-value : ltZ (toZ w (ofZ w z)) (pos 0) ≡ true → natAbs (toZ w (ofZ w (negsuc 0 -ℤ toZ w (ofZ w z)))) ≡ mag z
+  complement-value h = ap natAbs (toZ-ofZ (complement-fits h) ∙ complement h)

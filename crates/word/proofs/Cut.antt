@@ -35,7 +35,7 @@ module _ (j G t : ℕ) (tail : t < 2 ^ j) where
   unfolding R
   R-head = ap (λ (x : ℕ). x % 8) (shift (12 + j - 5) 7 (omega arith))
 
-  r-head : r (12 + j) (G * 2 ^ j + t) ≡ r 12 G
+  pub r-head : r (12 + j) (G * 2 ^ j + t) ≡ r 12 G
   unfolding r
   r-head = ap₂ regimeOf D-head R-head
 
@@ -56,7 +56,7 @@ module _ (j G t : ℕ) (tail : t < 2 ^ j) where
       ap (λ (q : ℕ). (G * 2 ^ j + t) % 2 ^ q) p-head ∙ mod-pow-add (G * 2 ^ j + t) (p 12 G) j
       ∙ ap₂ (λ (x y : ℕ). x % 2 ^ p 12 G * 2 ^ j + y) (high G j tail) (low G j tail)
 
-  c-head : c (12 + j) (G * 2 ^ j + t) ≡ c 12 G
+  pub c-head : c (12 + j) (G * 2 ^ j + t) ≡ c 12 G
   unfolding c
   c-head = rw (D-head, r-head, C-head)
 

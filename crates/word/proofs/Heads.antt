@@ -11,22 +11,18 @@ use lib.Signed.{nonNeg, pos-natAbs}
 use Rattle.word.specs.Takum.{regimeOf, characteristicOf, S, D, R, r, p, C, F, c, e}
 
 -- ---- a test at every number below a bound
-abbrev below : (ℕ → Bool) → ℕ → Bool
+abbrev pub below : (ℕ → Bool) → ℕ → Bool
 below f zero = true
 below f (suc n) = f n && below f n
 
-left : (a b : Bool) → T (a && b) → T a
-left true b t = tt
-left false b t = t
+pub both : (a b : Bool) → T (a && b) → T a × T b
+both true b t = (tt, t)
+both false b t = absurd t
 
-right : (a b : Bool) → T (a && b) → T b
-right true b t = t
-right false b t = absurd t
-
-at-each : (f : ℕ → Bool) (n : ℕ) → T (below f n) → (i : ℕ) → i < n → T (f i)
+pub at-each : (f : ℕ → Bool) (n : ℕ) → T (below f n) → (i : ℕ) → i < n → T (f i)
 at-each f zero t i h = absurd (not-suc-le-zero h)
 at-each f (suc n) t i h =
-    ⊎-elim (λ (q : i ≡ n). subst (λ (m : ℕ). T (f m)) (sym q) (left (f n) (below f n) t)) (λ (q : i < n). at-each f n (right (f n) (below f n) t) i q)
+    ⊎-elim (λ (q : i ≡ n). subst (λ (m : ℕ). T (f m)) (sym q) (both (f n) (below f n) t .0)) (λ (q : i < n). at-each f n (both (f n) (below f n) t .1) i q)
     (eq-or-lt-of-le (le-of-suc-le-suc h))
 
 -- ---- what is tested

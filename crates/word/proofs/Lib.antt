@@ -13,3 +13,4 @@ pub mod Casts
 pub mod Limits
 pub mod Values
 pub mod Binades
+pub mod Readings

@@ -18,7 +18,7 @@ log : (a : ℕ) → zero < a → (L : ℕ) × (2 ^ L ≤ a) × (a < 2 ^ suc L)
 log a h = let t = leading-top a a h (below-power a) in (t .0, t .2, t .3)
 
 -- a smaller power has the smaller exponent
-exponent-lt : (i j : ℕ) → 2 ^ i < 2 ^ j → i < j
+pub exponent-lt : (i j : ℕ) → 2 ^ i < 2 ^ j → i < j
 exponent-lt i j h = lt-of-not-le (λ (g : j ≤ i). not-both (pow-mono g) h)
   where
     not-both : {a b : ℕ} → a ≤ b → b < a → ⊥

@@ -2,7 +2,7 @@
 -- with another fraction, which counts up from -2. Assumes nothing.
 use mathlib.Core.Path.{_≡_, refl, sym, ap, _∙_, subst, subst₃}
 use mathlib.Core.Bool.{Bool, true, false, cond}
-use Prim.Native.Nat.{ℕ, zero, suc, _+_, _-_, _*_, _%_, _^_, _≤_, _<_}
+use Prim.Native.Nat.{ℕ, zero, suc, _+_, _-_, _*_, _/_, _%_, _^_, _≤_, _<_}
 use native.Mathlib.Nat.{mod-lt, one-mul, mul-one, pow-suc, sub-zero, pos-of-ne-zero, le-antisymm, le-of-suc-le-suc, div-lt-iff-lt-mul}
 use native.Mathlib.Numerals.{add-one}
 use native.Mathlib.Omega.{arith}
@@ -11,18 +11,18 @@ use lib.Dec.{lit≤, eqb}
 use lib.IntN.{ℤ, pos, negsuc, negℤ, _+ℤ_, _-ℤ_, _*ℤ_, +ℤ-assoc, +ℤ-comm, negℤ-+ℤ, -ℤ-+ℤ-cancel}
 use lib.Pow.{pow-pos, pow-add, pow-mono}
 use lib.Signed.{mag}
-use Rattle.word.specs.Takum.{Takum, real, characteristicOf, S, r, p, C, F, c, e, value}
+use Rattle.word.specs.Takum.{Takum, real, characteristicOf, S, D, r, p, C, F, c, e, value}
 use Rattle.word.specs.Reads.{num, den, IsSize, signedSize, IsNumber}
 use Rattle.word.proofs.Powers.{pow-sum}
 use Rattle.word.proofs.Integers.{sub-add, neg-add, neg-mul}
-use Rattle.word.proofs.Signed.{difference, sub-mag}
+use Rattle.word.proofs.Signed.{difference, short-by}
 use Rattle.word.proofs.Cut.{regime-le}
 use Rattle.word.proofs.Meaning.{value-at, exponent-whole}
 
--- the characteristic is small
-pub characteristic-small : (d r C : ℕ) → r ≤ 7 → C < 2 ^ r → mag (characteristicOf d r C) < 512
+-- the characteristic runs from -255 to 254
+pub characteristic-range : (d r C : ℕ) → r ≤ 7 → C < 2 ^ r → mag (characteristicOf d r C) ≤ 254
 unfolding characteristicOf
-characteristic-small d r C hr hC = by (eqb d 1)
+characteristic-range d r C hr hC = by (eqb d 1)
   where
     low : 2 ^ r ≤ 128
     low = pow-mono {i = r} {j = 7} hr
@@ -33,9 +33,16 @@ characteristic-small d r C hr hC = by (eqb d 1)
     one : pos (2 ^ r) -ℤ pos 1 ≡ pos (2 ^ r - 1)
     one = difference (2 ^ r) 1 (pow-pos r)
 
-    by : (b : Bool) → mag (cond b (pos (2 ^ r) -ℤ pos 1 +ℤ pos C) (pos C +ℤ pos 1 -ℤ pos (2 ^ (r + 1)))) < 512
-    by true = subst (λ (z : ℤ). mag (z +ℤ pos C) < 512) (sym one) (omega (arith, low, hC))
-    by false = omega (arith, sub-mag (pos (C + 1)) (pos (2 ^ (r + 1))), hC, low, high)
+    below : pos C +ℤ pos 1 -ℤ pos (2 ^ (r + 1)) ≡ negsuc (2 ^ (r + 1) - 1 - (C + 1))
+    below = short-by (C + 1) (2 ^ (r + 1)) (omega (arith, hC, high))
+
+    by : (b : Bool) → mag (cond b (pos (2 ^ r) -ℤ pos 1 +ℤ pos C) (pos C +ℤ pos 1 -ℤ pos (2 ^ (r + 1)))) ≤ 254
+    by true = subst (λ (z : ℤ). mag (z +ℤ pos C) ≤ 254) (sym one) (omega (arith, low, hC))
+    by false = subst (λ (z : ℤ). mag z ≤ 254) (sym below) (omega (arith, low, high, hC))
+
+pub characteristic-of-string : (n T : ℕ) → mag (c n T) ≤ 254
+unfolding c C
+characteristic-of-string n T = characteristic-range (D n T) (r n T) (C n T) (regime-le n T) (mod-lt (T / 2 ^ p n T) (pow-pos (r n T)))
 
 module _ (n T : ℕ) (lo : 12 ≤ n) (hi : n ≤ 64) (fits : T < 2 ^ n) where
   K : ℕ

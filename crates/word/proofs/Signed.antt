@@ -20,7 +20,7 @@ unfolding signed
 signed-low n w h = rw (lt-ltb w (2 ^ (n - 1)) h)
 
 -- a number less a larger one
-short-by : (a b : ℕ) → a < b → pos a -ℤ pos b ≡ negsuc (b - 1 - a)
+pub short-by : (a b : ℕ) → a < b → pos a -ℤ pos b ≡ negsuc (b - 1 - a)
 short-by a zero h = absurd (omega (arith, h))
 short-by a (suc b) h = rw (lt-ltb a (suc b) h) (ap negsuc (omega arith))
 

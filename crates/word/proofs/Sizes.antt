@@ -38,14 +38,21 @@ seam g s h b = ⊎-elim at-end (λ (q : s < 2 ^ 52). inside g s q) (eq-or-lt-of-
         ap size (omega (arith, q)) ∙ inside (suc g) 0 (lit< tt)
         ∙ scaled (lead (suc g)) (lead g) (2 ^ k (suc g)) (2 ^ k g) (next g (omega (arith, q, b))) ∙ ap (onward g) (sym q)
 
-step : (u : ℕ) → suc u < 2 ^ 63 → size u < size (suc u)
+-- the next word is one step up
+pub size-next : (u : ℕ) → suc u < 2 ^ 63 → size (suc u) ≡ size u + 2 ^ k (u / 2 ^ 52)
 unfolding onward size
-step u h =
-    subst (λ (v : ℕ). size u < v) (sym (ap size up ∙ seam (u / 2 ^ 52) (suc (u % 2 ^ 52)) (mod-lt u (lit< tt)) (subst (λ (v : ℕ). v < 2 ^ 63) up h)))
-    (mul-lt-mul-of-pos-right {m = lead (u / 2 ^ 52) * 2 ^ 52 + u % 2 ^ 52} {n = lead (u / 2 ^ 52) * 2 ^ 52 + suc (u % 2 ^ 52)} (omega arith) (pow-pos (k (u / 2 ^ 52))))
+size-next u h =
+    ap size up ∙ seam (u / 2 ^ 52) (suc (u % 2 ^ 52)) (mod-lt u (lit< tt)) (subst (λ (v : ℕ). v < 2 ^ 63) up h)
+    ∙ more (lead (u / 2 ^ 52) * 2 ^ 52) (u % 2 ^ 52) (2 ^ k (u / 2 ^ 52))
   where
     up : suc u ≡ u / 2 ^ 52 * 2 ^ 52 + suc (u % 2 ^ 52)
     up = omega (arith, split u 52)
+
+    more : (a b c : ℕ) → (a + suc b) * c ≡ (a + b) * c + c
+    more a b c = omega arith
+
+step : (u : ℕ) → suc u < 2 ^ 63 → size u < size (suc u)
+step u h = omega (arith, size-next u h, pow-pos (k (u / 2 ^ 52)))
 
 pub size-lt : (u v : ℕ) → u < v → v < 2 ^ 63 → size u < size v
 size-lt u zero h b = absurd (not-suc-le-zero h)
@@ -53,16 +60,9 @@ size-lt u (suc v) h b =
     ⊎-elim (λ (q : u ≡ v). subst (λ (x : ℕ). size x < size (suc v)) (sym q) (step v b)) (λ (q : u < v). lt-trans (size-lt u v q (omega (arith, b))) (step v b))
     (eq-or-lt-of-le (le-of-suc-le-suc h))
 
--- two sizes are in the order of their words, and equal only for one word
+-- two sizes are in the order of their words
 pub size-le : (u v : ℕ) → u ≤ v → v < 2 ^ 63 → size u ≤ size v
 size-le u v h b = ⊎-elim (λ (q : u ≡ v). le-of-eq (ap size q)) (λ (q : u < v). le-of-lt (size-lt u v q b)) (eq-or-lt-of-le h)
-
-pub size-inj : (u v : ℕ) → u < 2 ^ 63 → v < 2 ^ 63 → size u ≡ size v → u ≡ v
-size-inj u v hu hv q =
-    le-antisymm (le-of-not-lt (λ (h : v < u). ne-of-lt (size-lt v u h hu) (sym q))) (le-of-not-lt (λ (h : u < v). ne-of-lt (size-lt u v h hv) q))
-  where
-    le-of-not-lt : {a b : ℕ} → ¬ (b < a) → a ≤ b
-    le-of-not-lt {a} {b} f = le-of-suc-le-suc (lt-of-not-le f)
 
 -- every size is at least 2^-255 and below 2^255, counted in 2^-307
 pub size-above : (u : ℕ) → u < 2 ^ 63 → 2 ^ 52 ≤ size u

@@ -50,7 +50,7 @@ pub record Form (n w : ℕ) : Type 0 where
   pub word : signed n w ≡ signedSize negative v
   pub means : takum n w ≡ real (signedSize negative (grown n v))
 
-grown-suc : (n v : ℕ) → zero < v → grown n v ≡ size (v * 2 ^ (64 - n))
+pub grown-suc : (n v : ℕ) → zero < v → grown n v ≡ size (v * 2 ^ (64 - n))
 unfolding grown
 grown-suc n zero h = absurd (omega (arith, h))
 grown-suc n (suc v) h = refl

@@ -57,8 +57,8 @@ width-through n h = (leb-true 2 n (t .0), leb-true n 64 (t .1))
 pub told-word : (n w : ℕ) {a b v u : Verdict} → a ≡ widthTest n → b ≡ strayTest n w → v ≡ (a then b) → v ≡ u → widthTest n then strayTest n w ≡ u
 told-word n w ha hb hv hu = sym (hv ∙ ap₂ (λ (x y : Verdict). x then y) ha hb) ∙ hu
 
-pub told-words : (n x y : ℕ) {a b c v v' u : Verdict} → a ≡ widthTest n → b ≡ strayTest n x → v ≡ (a then b) → c ≡ strayTest n y → v' ≡ (v then c) → v' ≡ u → widthTest n then strayTest n x then strayTest n y ≡ u
-told-words n x y ha hb hv hc hv' hu = sym (hv' ∙ ap₂ (λ (p q : Verdict). p then q) (hv ∙ ap₂ (λ (p q : Verdict). p then q) ha hb) hc) ∙ hu
+pub told-three : {a a' b b' c c' v v' u : Verdict} → a ≡ a' → b ≡ b' → v ≡ (a then b) → c ≡ c' → v' ≡ (v then c) → v' ≡ u → a' then b' then c' ≡ u
+told-three ha hb hv hc hv' hu = sym (hv' ∙ ap₂ (λ (p q : Verdict). p then q) (hv ∙ ap₂ (λ (p q : Verdict). p then q) ha hb) hc) ∙ hu
 
 then-through : (a b : Verdict) → a then b ≡ Verdict.Through → (a ≡ Verdict.Through) × (b ≡ Verdict.Through)
 unfolding refuses
@@ -79,6 +79,15 @@ words-through n x y h = (good, record { least = good .least; most = good .most; 
 
     good : IsWord n x
     good = word-through n x (t .0)
+
+pub move-through : (n n' w : ℕ) → widthTest n then widthTest n' then strayTest n w ≡ Verdict.Through → IsWord n w × (widthTest n' ≡ Verdict.Through)
+move-through n n' w h = (record { least = width-through n (u .0) .0; most = width-through n (u .0) .1; fits = stray-through n w (t .1) }, u .1)
+  where
+    t : (widthTest n then widthTest n' ≡ Verdict.Through) × (strayTest n w ≡ Verdict.Through)
+    t = then-through (widthTest n then widthTest n') (strayTest n w) h
+
+    u : (widthTest n ≡ Verdict.Through) × (widthTest n' ≡ Verdict.Through)
+    u = then-through (widthTest n) (widthTest n') (t .0)
 
 -- and the other way round
 pub word-passes : (n w : ℕ) → IsWord n w → widthTest n then strayTest n w ≡ Verdict.Through

@@ -6,14 +6,14 @@ use mir.Facts.{toZ-ofZ}
 use Rattle.word.specs.Orders.{order, Compares}
 use Rattle.word.specs.declared.order.Comparison.{Comparison}
 use Rattle.word.specs.Refusals.{widthTest, strayTest, _then_, IsWord, through, refused}
-use Rattle.word.proofs.Verdicts.{told-words, words-through}
+use Rattle.word.proofs.Verdicts.{told-three, words-through}
 use Rattle.word.specs.declared.refusal.Verdict.{Verdict}
 use Rattle.word.proofs.order.compare.Statement.{statement}
 use Rattle.word.proofs.order.compare.Tie as tie
 
 -- the verdict as the tests in their order
 told : (c : tie.After-then2) {u : Verdict} → c .then2 .result ≡ u → widthTest (c .before .before .before .before .before .args .width .bits) then strayTest (c .before .before .before .before .before .args .width .bits) (c .before .before .before .before .before .args .x) then strayTest (c .before .before .before .before .before .args .width .bits) (c .before .before .before .before .before .args .y) ≡ u
-told c h = told-words _ _ _ (c .before .before .before .before .test .ensures) (c .before .before .before .test-word .ensures) (c .before .before .then .ensures) (c .before .test-word2 .ensures) (c .then2 .ensures) h
+told c h = told-three (c .before .before .before .before .test .ensures) (c .before .before .before .test-word .ensures) (c .before .before .then .ensures) (c .before .test-word2 .ensures) (c .then2 .ensures) h
 
 -- what is known once the verdict has let the words through
 words-in : (c : tie.After-enum-told) → IsWord (c .before .before .before .before .before .before .before .args .width .bits) (c .before .before .before .before .before .before .before .args .x) × IsWord (c .before .before .before .before .before .before .before .args .width .bits) (c .before .before .before .before .before .before .before .args .y)

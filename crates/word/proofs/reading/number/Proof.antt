@@ -4,7 +4,6 @@ use mathlib.Core.Bool.{true, false}
 use Prim.Native.Nat.{ℕ, _+_, _-_, _/_, _%_, _^_, _≤_, _<_}
 use native.Mathlib.Nat.{lt-of-le-of-lt, le-of-eq, mod-lt}
 use native.Mathlib.Omega.{arith}
-use borrow.Author.Needs.{needs}
 use borrow.Author.Needs.{needs, sfits-of}
 use lib.Signed.{mag}
 use lib.Pow.{pow-pos, pow-mono, pow-add}
@@ -17,7 +16,7 @@ use Rattle.word.specs.Reads.{IsReading}
 use Rattle.word.proofs.Cut.{regime-le}
 use Rattle.word.proofs.Signed.{sub-mag}
 use Rattle.word.specs.Takum as Takum
-use Rattle.word.proofs.Numbers.{characteristic-small, same-number, sign-one, positive-number, negative-power, negative-number}
+use Rattle.word.proofs.Numbers.{characteristic-of-string, same-number, sign-one, positive-number, negative-power, negative-number}
 use Rattle.word.specs.Takum.{regimeOf, characteristicOf, S, D, R, C, F}
 use Rattle.word.proofs.reading.number.Statement.{statement}
 use Rattle.word.proofs.reading.number.Tie as tie
@@ -54,10 +53,8 @@ power-small c = pow-mono {i = c .before .before .before .before .before .before 
 held : (c : tie.After-characteristic) → toZ w32 (ofZ w32 (c .characteristic .result)) ≡ Takum.c (c .before .before .before .before .before .args .n) (c .before .before .before .before .before .args .t)
 held c = toZ-ofZ (sfits-of (c .characteristic .ok)) ∙ characteristic-is c
 
-small : (c : tie.After-characteristic) → mag (toZ w32 (ofZ w32 (c .characteristic .result))) < 512
-small c =
-    subst (λ (z : ℤ). mag z < 512) (sym (toZ-ofZ (sfits-of (c .characteristic .ok)) ∙ c .characteristic .ensures))
-    (characteristic-small _ _ _ (regime-small (c .before .before)) (lt-of-le-of-lt (le-of-eq (c .before .low-bits3 .ensures)) (mod-lt _ (pow-pos (c .before .before .regime .result)))))
+small : (c : tie.After-characteristic) → mag (toZ w32 (ofZ w32 (c .characteristic .result))) ≤ 254
+small c = subst (λ (z : ℤ). mag z ≤ 254) (sym (held c)) (characteristic-of-string _ _)
 
 -- an exponent that is 0 or -1 less the characteristic
 exponent-fits : (c : tie.After-characteristic) (k : ℤ) → mag k ≤ 1 → SFits w32 (k -ℤ toZ w32 (ofZ w32 (c .characteristic .result)))

@@ -1,0 +1,127 @@
+// Sizes m * 2^k: the size of a word, and the sizes that lie just below and just above a size.
+use crate::bits::ALL_BITS;
+use crate::bits::TOP_BIT;
+use word::reading::Reading;
+use word::reading::read;
+use word::width::Width;
+ghost use Prim.Native.Nat.{_+_, _≤_};
+
+// An exponent is kept without a sign, by its place: that of the exponent 0 is ORIGIN.
+pub(crate) const ORIGIN: u64 = 1000;
+
+// The size m * 2^(place - ORIGIN).
+pub(crate) struct Size {
+    pub(crate) m: u64,
+    pub(crate) place: u64,
+}
+
+// The size of a positive word, with an odd significand. Where the library reads no number, the size 0 has to show it.
+pub(crate) fn size_of(n: u32, word: u64) -> Size
+    ensures { λ r. ⌜ (400 ≤ r .place) × (r .place ≤ 1400) ⌝ }
+{
+    let Reading::Number {
+        negative: _,
+        h,
+        m,
+        p,
+    } = read(Width { bits: n }, word)
+    else {
+        return Size {
+            m: 0,
+            place: ORIGIN,
+        };
+    };
+    odd_size(m, place_of(h, p))
+}
+
+// The place of the exponent h - p.
+fn place_of(h: i32, p: u32) -> u64
+    ensures { λ r. ⌜ (400 ≤ r) × (r ≤ 1300) ⌝ }
+{
+    let lowered = ORIGIN - bounded(p as u64);
+    if h < 0 {
+        return lowered - bounded((-1 - h) as u64) - 1;
+    }
+    lowered + bounded(h as u64)
+}
+
+// No word has an h or a p beyond 255, so this changes nothing; it only sets the bounds that a place has.
+fn bounded(x: u64) -> u64
+    ensures { λ r. ⌜ r ≤ 255 ⌝ }
+{
+    if x <= 255 {
+        return x;
+    }
+    255
+}
+
+// m at a place, without its factors two. Only zero has 64 of them.
+pub(crate) fn odd_size(m: u64, place: u64) -> Size
+    requires { ⌜ place ≤ 2000 ⌝ }
+    ensures { λ r. ⌜ (place ≤ r .place) × (r .place ≤ place + 64) ⌝ }
+{
+    let twos = u64::trailing_zeros(m);
+    if twos < 64 {
+        return Size {
+            m: m >> twos,
+            place: place + twos as u64,
+        };
+    }
+    Size { m, place }
+}
+
+// The same size with the top bit of its significand set. Only zero has none to set.
+pub(crate) fn full_size(size: Size) -> Size
+    requires { ⌜ 64 ≤ size .place ⌝ }
+    ensures { λ r. ⌜ (size .place ≤ r .place + 64) × (r .place ≤ size .place) ⌝ }
+{
+    let zeros = u64::leading_zeros(size.m);
+    if zeros < 64 {
+        return Size {
+            m: size.m << zeros,
+            place: size.place - zeros as u64,
+        };
+    }
+    size
+}
+
+// The next full size below a full size.
+pub(crate) fn just_below(full: Size) -> Size
+    requires { ⌜ 1 ≤ full .place ⌝ }
+    ensures { λ r. ⌜ r .place ≤ full .place ⌝ }
+{
+    if full.m <= TOP_BIT {
+        return Size {
+            m: ALL_BITS,
+            place: full.place - 1,
+        };
+    }
+    Size {
+        m: full.m - 1,
+        place: full.place,
+    }
+}
+
+// The next full size above a full size.
+pub(crate) fn just_above(full: Size) -> Size
+    requires { ⌜ full .place ≤ 2000 ⌝ }
+    ensures { λ r. ⌜ r .place ≤ full .place + 1 ⌝ }
+{
+    if full.m < ALL_BITS {
+        return Size {
+            m: full.m + 1,
+            place: full.place,
+        };
+    }
+    Size {
+        m: TOP_BIT,
+        place: full.place + 1,
+    }
+}
+
+// The exponent that has the place.
+pub(crate) fn exponent(place: u64) -> i32
+    requires { ⌜ place ≤ 3000 ⌝ }
+{
+    place as i32 - ORIGIN as i32
+}

@@ -1,0 +1,107 @@
+// Lines: what is asked of the library and what it answers.
+use crate::text::print_bytes;
+use crate::text::print_hex;
+use crate::text::print_number;
+use crate::value::print_value;
+use word::answer::Answer;
+use word::reading::Reading;
+use word::reading::read;
+use word::refusal::Refusal;
+use word::width::Limit;
+use word::width::Made;
+use word::width::Width;
+use write::moving::move_word;
+use write::value::Rule;
+use write::value::Value;
+use write::writing::write;
+
+pub(crate) fn print_word(n: u32, word: u64) {
+    print_width(n);
+    print_bytes(b" word ");
+    print_hex(word);
+    print_bytes(b" is ");
+    print_reading(read(Width { bits: n }, word));
+    print_bytes(b"\n");
+}
+
+fn print_reading(reading: Reading) {
+    match reading {
+        Reading::Zero => print_number(0),
+        Reading::NotReal => print_bytes(b"nar"),
+        Reading::Number { negative, h, m, p } => print_value(negative, h, m, p),
+        Reading::Refused(refusal) => print_refusal(refusal),
+    }
+}
+
+pub(crate) fn print_limit(n: u32) {
+    let width = Width { bits: n };
+    print_width(n);
+    print_bytes(b" limit ");
+    match width.limit() {
+        Limit::Count(count) => print_number(count),
+        Limit::Refused(refusal) => print_refusal(refusal),
+    }
+    print_bytes(b"\n");
+}
+
+// Whether there is a width of a number.
+pub(crate) fn print_made(n: u32) {
+    print_width(n);
+    print_bytes(b" is ");
+    match Width::new(n) {
+        Made::Width(_) => print_bytes(b"made"),
+        Made::Refused(refusal) => print_refusal(refusal),
+    }
+    print_bytes(b"\n");
+}
+
+pub(crate) fn print_writing(n: u32, rule: Rule, value: Value) {
+    print_width(n);
+    print_bytes(b" writing ");
+    print_value(value.negative, value.k, value.m, 0);
+    print_answer(rule, write(Width { bits: n }, rule, value));
+}
+
+pub(crate) fn print_move(from: u32, to: u32, rule: Rule, word: u64) {
+    print_width(from);
+    print_bytes(b" moving ");
+    print_hex(word);
+    print_bytes(b" to ");
+    print_width(to);
+    let source = Width { bits: from };
+    let target = Width { bits: to };
+    print_answer(rule, move_word(source, target, rule, word));
+}
+
+// The rest of a line, from the rule on.
+fn print_answer(rule: Rule, answer: Answer) {
+    print_rule(rule);
+    match answer {
+        Answer::Word(word) => {
+            print_bytes(b" gives ");
+            print_hex(word);
+        }
+        Answer::Refused(refusal) => {
+            print_bytes(b" is ");
+            print_refusal(refusal);
+        }
+    }
+    print_bytes(b"\n");
+}
+
+fn print_rule(rule: Rule) {
+    match rule {
+        Rule::Rounded => print_bytes(b" rounded"),
+        Rule::Strict => print_bytes(b" strict"),
+    }
+}
+
+fn print_width(n: u32) {
+    print_bytes(b"width ");
+    print_number(n as u64);
+}
+
+fn print_refusal(refusal: Refusal) {
+    print_bytes(b"refused ");
+    print_number(refusal.number() as u64);
+}

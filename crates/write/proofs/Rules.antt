@@ -1,0 +1,75 @@
+-- What each rule makes of the nearest positive word. Assumes nothing.
+use mathlib.Core.Path.{_≡_, refl, sym, ap, _∙_, subst, subst₂}
+use mathlib.Core.Bool.{Bool, true, false}
+use Prim.Native.Nat.{ℕ, zero, suc, _-_, _*_, _^_, _≤_, _<_}
+use native.Mathlib.Nat.{zero-mul, one-mul, mul-pos, lt-of-lt-of-le}
+use native.Mathlib.Omega.{arith}
+use lib.IntN.{ℤ, pos, _+ℤ_, _-ℤ_}
+use lib.Pow.{pow-pos}
+use Rattle.word.specs.Takum.{Takum, real}
+use Rattle.word.specs.Reads.{num, den, IsSize, IsNumber, signedSize}
+use Rattle.word.specs.Refusals.{IsWord}
+use Rattle.word.specs.declared.answer.Answer.{Answer}
+use Rattle.word.specs.declared.refusal.Refusal.{Refusal}
+use Rattle.word.proofs.Words.{takum-zero}
+use Rattle.write.specs.declared.value.Rule.{Rule}
+use Rattle.write.specs.declared.size.Rest.{Rest}
+use Rattle.write.specs.Writes.{Nearest, IsRounded, zero, other, IsExact, IsWritten, isNegative, IsMoved}
+use Rattle.write.specs.Offers.{IsOffered, IsNearest, TellsExact, withSign, WritesSize}
+use Rattle.write.proofs.Exponents.{unit-some}
+use Rattle.write.proofs.Scales.{plain-offer, written-reduced}
+use Rattle.write.proofs.Signs.{signed-nearest, nearest-positive, signed-exact, none-exact}
+
+-- zero is the zero word by either rule, whichever its sign
+pub zero-written : (n : ℕ) → 2 ≤ n → n ≤ 64 → (rule : Rule) (s : Bool) (a b : ℕ) → a ≡ 0 → IsWritten n rule s a b (Answer.Word 0)
+unfolding IsWritten signedSize
+zero-written n lo hi Rule.Rounded s a b q = zero q refl
+zero-written n lo hi Rule.Strict s a b q = record { z = 0; is = record { word = record { least = lo; most = hi; fits = pow-pos n }; means = takum-zero n ∙ ap real (sym (no-sign s)) }; same = zero-mul b ∙ sym q }
+  where
+    no-sign : (s : Bool) → signedSize s 0 ≡ pos 0
+    no-sign false = refl
+    no-sign true = refl
+
+module _ (n : ℕ) (lo : 2 ≤ n) (hi : n ≤ 64) (h : ℤ) (m w : ℕ) (near : IsNearest n h m Rest.Nothing w) where
+  at-all : Nearest n false (m * num (h -ℤ pos 63 +ℤ pos 307)) (den (h -ℤ pos 63 +ℤ pos 307)) w
+  unfolding IsNearest
+  at-all = near (m * num (h -ℤ pos 63 +ℤ pos 307)) (den (h -ℤ pos 63 +ℤ pos 307)) (unit-some (h -ℤ pos 63 +ℤ pos 307) .1) (plain-offer m (h -ℤ pos 63))
+
+  pub is-word : IsWord n w
+  is-word = at-all .is .word
+
+  pub is-positive : (0 < w) × (w < 2 ^ (n - 1))
+  is-positive = nearest-positive n lo hi (m * num (h -ℤ pos 63 +ℤ pos 307)) (den (h -ℤ pos 63 +ℤ pos 307)) w at-all
+
+  pub rounded-word : (s : Bool) → WritesSize n Rule.Rounded s h m (Answer.Word (withSign n s w))
+  unfolding WritesSize IsWritten IsNearest
+  rounded-word s = λ a b nonzero some offered. other nonzero (signed-nearest n lo hi s a b w (near a b some offered))
+
+  pub strict-word : (s : Bool) → TellsExact n w h m true → WritesSize n Rule.Strict s h m (Answer.Word (withSign n s w))
+  unfolding WritesSize IsWritten TellsExact
+  strict-word s exact = λ a b nonzero some offered. signed-exact n lo hi a b nonzero some s w (exact a b some offered)
+
+  pub strict-refusal : (s : Bool) → TellsExact n w h m false → WritesSize n Rule.Strict s h m (Answer.Refused Refusal.Inexact)
+  unfolding WritesSize IsWritten TellsExact IsNearest
+  strict-refusal s inexact = λ a b nonzero some offered. (refl, none-exact n lo hi a b nonzero some w (near a b some offered) (inexact a b some offered) s)
+
+-- what is written for a number that was read is what is written for its meaning
+pub number-moved : (n : ℕ) (rule : Rule) (r : Answer) (t : Takum) (k : ℕ) (s : Bool) (h : ℤ) (m p : ℕ) (x : IsNumber t k s h m p) → IsWritten n rule s (m * num (h -ℤ pos p +ℤ pos 307)) (den (h -ℤ pos p +ℤ pos 307)) r → IsMoved n rule t r
+unfolding IsSize IsMoved isNegative signedSize
+number-moved n rule r t k s h m p x y =
+    subst (λ (t : Takum). IsMoved n rule t r) (sym (x .means)) (by s (x .v) some (written-reduced n s (x .v) 1 (den e) (unit-some e .1) rule r (subst₂ (λ (a b : ℕ). IsWritten n rule s a b r) (x .size) (sym (one-mul (den e))) y)))
+  where
+    e : ℤ
+    e = h -ℤ pos p +ℤ pos 307
+
+    some : 0 < x .v
+    some = positive (x .v) (x .size)
+      where
+        positive : (v : ℕ) → m * num e ≡ v * den e → 0 < v
+        positive zero q = absurd (omega (arith, q, zero-mul (den e), mul-pos (lt-of-lt-of-le (pow-pos p) (x .low)) (unit-some e .0)))
+        positive (suc i) q = omega arith
+
+    by : (s : Bool) (v : ℕ) → 0 < v → IsWritten n rule s v 1 r → IsMoved n rule (real (signedSize s v)) r
+    by false v h y = y
+    by true (suc i) h y = y
+    by true zero h y = absurd (omega (arith, h))

@@ -1,0 +1,89 @@
+-- With the other sign, the word of the same place: nearest and exact go over. A word with exactly the value is the nearest. Assumes nothing.
+use mathlib.Core.Path.{_≡_, refl, sym, ap, _∙_, subst}
+use mathlib.Core.Bool.{Bool, true, false}
+use mathlib.Core.Logic.{_⊎_, inl, inr, ⊎-elim}
+use Prim.Native.Nat.{ℕ, zero, suc, _-_, _*_, _^_, _≤_, _<_, zero-le}
+use native.Mathlib.Nat.{le-of-eq, le-trans, sub-self, eq-of-mul-eq-mul-right, zero-mul}
+use native.Mathlib.Omega.{arith}
+use Rattle.word.specs.Takum.{takum, real}
+use Rattle.word.specs.Orders.{negated}
+use Rattle.word.specs.Reads.{signedSize}
+use Rattle.word.proofs.Powers.{pow-sum}
+use Rattle.word.proofs.Signed.{negated-other}
+use Rattle.word.proofs.Values.{grown, words-differ}
+use Rattle.write.specs.Writes.{HasValue, distance, Nearest, IsExact}
+use Rattle.write.specs.Offers.{withSign}
+use Rattle.write.proofs.Nearest.{NearestPlace, distance-below, distance-above, either-side}
+use Rattle.write.proofs.Places.{wordOf, Place, has-value, place-of, to-word, from-word, nearest-one}
+
+-- the distance is nothing only from the number itself
+no-distance : (a x : ℕ) → distance a x ≡ 0 → x ≡ a
+no-distance a x q = ⊎-elim (λ (h : x ≤ a). omega (arith, h, sym (distance-below a x h) ∙ q)) (λ (h : a ≤ x). omega (arith, h, sym (distance-above a x h) ∙ q)) (either-side a x)
+
+same-distance : (a : ℕ) → distance a a ≡ 0
+same-distance a = distance-below a a (le-of-eq refl) ∙ sub-self a
+
+module _ (n : ℕ) (lo : 2 ≤ n) (hi : n ≤ 64) where
+  signed-word : (s : Bool) (v w : ℕ) → zero < v → v < 2 ^ (n - 1) → w ≡ wordOf n false v → wordOf n s v ≡ withSign n s w
+  unfolding wordOf withSign
+  signed-word false v w h b q = sym q
+  signed-word true v w h b q = sym (ap (negated n) q ∙ negated-other n v h (omega (arith, b, pow-sum (n - 1) 1 n (omega arith))))
+
+  pub signed-nearest : (s : Bool) (a b w : ℕ) → Nearest n false a b w → Nearest n s a b (withSign n s w)
+  signed-nearest s a b w x =
+      let t = from-word n lo hi false a b w x in
+      subst (Nearest n s a b) (signed-word s (t .0) w (t .1 .first) (t .1 .last) (t .2)) (to-word n lo hi s a b (t .0) (t .1))
+
+  pub nearest-positive : (a b w : ℕ) → Nearest n false a b w → (zero < w) × (w < 2 ^ (n - 1))
+  unfolding wordOf
+  nearest-positive a b w x =
+      let t = from-word n lo hi false a b w x in
+      (subst (λ (y : ℕ). zero < y) (sym (t .2)) (t .1 .first), subst (λ (y : ℕ). y < 2 ^ (n - 1)) (sym (t .2)) (t .1 .last))
+
+  -- ---- exactly the value, which is not zero
+  module _ (a b : ℕ) (nonzero : zero < a) (some : zero < b) where
+    size-some : (z : ℕ) → z * b ≡ a → zero < z
+    size-some zero q = absurd (omega (arith, nonzero, q, zero-mul b))
+    size-some (suc i) q = omega arith
+
+    exact-place : (s : Bool) (w : ℕ) (x : IsExact n s a b w) → Place n lo hi s (x .z) w
+    exact-place s w x = place-of n lo hi s (x .z) w (size-some (x .z) (x .same)) (x .is)
+
+    at-place : (s : Bool) (v : ℕ) → zero < v → v < 2 ^ (n - 1) → grown n v * b ≡ a → IsExact n s a b (wordOf n s v)
+    at-place s v h l q = record { z = grown n v; is = has-value n lo hi s v h l; same = q }
+
+    pub signed-exact : (s : Bool) (w : ℕ) → IsExact n false a b w → IsExact n s a b (withSign n s w)
+    signed-exact s w x =
+        let t = exact-place false w x in
+        subst (IsExact n s a b) (signed-word s (t .v) w (t .first) (t .last) (t .word-is)) (at-place s (t .v) (t .first) (t .last) (ap (λ (y : ℕ). y * b) (sym (t .size-is)) ∙ x .same))
+
+    pub unsigned-exact : (s : Bool) (w : ℕ) → IsExact n s a b w → (v : ℕ) × IsExact n false a b v
+    unsigned-exact s w x =
+        let t = exact-place s w x in
+        (wordOf n false (t .v), at-place false (t .v) (t .first) (t .last) (ap (λ (y : ℕ). y * b) (sym (t .size-is)) ∙ x .same))
+
+    -- two words with one value are the same word
+    pub one-word : (s : Bool) (z w w' : ℕ) → HasValue n s z w → HasValue n s z w' → w ≡ w'
+    one-word s z w w' x y = words-differ n w w' (x .word) (y .word) (x .means ∙ sym (y .means))
+
+    pub exact-nearest : (s : Bool) (w : ℕ) → IsExact n s a b w → Nearest n s a b w
+    exact-nearest s w x =
+        record {
+          z = x .z;
+          some = size-some (x .z) (x .same);
+          is = x .is;
+          nearest = λ z' w' h y. le-trans (le-of-eq none) zero-le;
+          even = λ z' w' h y q. inl (one-word s (x .z) w' w (subst (λ (z : ℕ). HasValue n s z w') (same-size z' (sym q ∙ none)) y) (x .is));
+        }
+      where
+        none : distance a (x .z * b) ≡ 0
+        none = ap (distance a) (x .same) ∙ same-distance a
+
+        same-size : (z' : ℕ) → distance a (z' * b) ≡ 0 → z' ≡ x .z
+        same-size z' q = eq-of-mul-eq-mul-right b some z' (x .z) (no-distance a (z' * b) q ∙ sym (x .same))
+
+    -- where the nearest word hasn't the value, no word has
+    pub none-exact : (w : ℕ) → Nearest n false a b w → (IsExact n false a b w → ⊥) → (s : Bool) (w' : ℕ) → IsExact n s a b w' → ⊥
+    none-exact w x f s w' y =
+        let t = unsigned-exact s w' y in
+        f (subst (IsExact n false a b) (nearest-one n lo hi false a b (t .0) w some (exact-nearest false (t .0) (t .1)) x) (t .1))

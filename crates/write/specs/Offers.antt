@@ -1,0 +1,75 @@
+-- The normal size that the hub takes, (m + rest) * 2^(h - 63), and what the hub and its parts answer.
+use mathlib.Core.Path.{_≡_}
+use mathlib.Core.Bool.{Bool, true, false, cond}
+use Prim.Native.Nat.{ℕ, _+_, _-_, _*_, _/_, _^_, _≤_, _<_}
+use lib.IntN.{ℤ, pos, _+ℤ_, _-ℤ_}
+use Rattle.word.specs.Takum as Takum
+use Rattle.word.specs.Orders.{negated}
+use Rattle.word.specs.Reads.{num, den}
+use Rattle.word.specs.declared.answer.Answer.{Answer}
+use Rattle.write.specs.declared.value.Rule.{Rule}
+use Rattle.write.specs.declared.size.Rest.{Rest}
+use Rattle.write.specs.declared.size.Side.{Side}
+use Rattle.write.specs.declared.size.Start.{Start}
+use Rattle.write.specs.Writes.{HasValue, Nearest, IsExact, IsWritten}
+
+-- the exact size a / b, counted in 2^-307, is (m + rest) * 2^k; both are multiplied by the denominators b and that of 2^(k + 307)
+unfoldable pub Amounts : ℕ → Rest → ℕ → ℕ → Type 0
+Amounts m Rest.Nothing a unit = a ≡ m * unit
+Amounts m Rest.UnderHalf a unit = (m * unit < a) × (2 * a < (2 * m + 1) * unit)
+Amounts m Rest.Half a unit = 2 * a ≡ (2 * m + 1) * unit
+Amounts m Rest.OverHalf a unit = ((2 * m + 1) * unit < 2 * a) × (a < (m + 1) * unit)
+
+unfoldable pub IsOffered : ℕ → Rest → ℤ → ℕ → ℕ → Type 0
+IsOffered m rest k a b = Amounts m rest (a * den (k +ℤ pos 307)) (num (k +ℤ pos 307) * b)
+
+-- the positive word that is nearest to every exact size that is so offered
+unfoldable pub IsNearest : ℕ → ℤ → ℕ → Rest → ℕ → Type 0
+IsNearest n h m rest w = (a b : ℕ) → 0 < b → IsOffered m rest (h -ℤ pos 63) a b → Nearest n false a b w
+
+-- whether a positive word has exactly the size that is offered
+unfoldable pub TellsExact : ℕ → ℕ → ℤ → ℕ → Bool → Type 0
+TellsExact n w h m true = (a b : ℕ) → 0 < b → IsOffered m Rest.Nothing (h -ℤ pos 63) a b → IsExact n false a b w
+TellsExact n w h m false = (a b : ℕ) → 0 < b → IsOffered m Rest.Nothing (h -ℤ pos 63) a b → IsExact n false a b w → ⊥
+
+-- the word with the sign
+unfoldable pub withSign : ℕ → Bool → ℕ → ℕ
+withSign n negative w = cond negative (negated n w) w
+
+-- every string of 64 bits that begins with sign 0 and these bits has this regime and the characteristic c
+pub record Begins (c : ℤ) (start : Start) : Type 0 where
+  pub regime : start .r ≤ 7
+  pub sign : (f : ℕ) → f < 2 ^ (59 - start .r) → Takum.S 64 (start .bits * 2 ^ (59 - start .r) + f) ≡ 0
+  pub has-regime : (f : ℕ) → f < 2 ^ (59 - start .r) → Takum.r 64 (start .bits * 2 ^ (59 - start .r) + f) ≡ start .r
+  pub has-characteristic : (f : ℕ) → f < 2 ^ (59 - start .r) → Takum.c 64 (start .bits * 2 ^ (59 - start .r) + f) ≡ c
+
+-- the first 64 bits of the string of a size with significand m
+unfoldable pub firstBits : Start → ℕ → ℕ
+firstBits start m = start .bits * 2 ^ (59 - start .r) + (m - 2 ^ 63) / 2 ^ (4 + start .r)
+
+-- a side tells how x compares with y
+unfoldable pub Tells : Side → ℕ → ℕ → Type 0
+Tells Side.Under x y = x < y
+Tells Side.Midway x y = x ≡ y
+Tells Side.Over x y = y < x
+
+-- beyond + rest against half, whatever both are added to
+unfoldable pub TellsHalf : ℕ → ℕ → Rest → Side → Type 0
+TellsHalf beyond half rest side = (base unit a : ℕ) → 0 < unit → Amounts (base + beyond) rest a unit → Tells side a ((base + half) * unit)
+
+-- an exponent raised by 255, so that it isn't negative
+unfoldable pub IsRaised : ℤ → ℕ → Type 0
+IsRaised h e = h +ℤ pos 255 ≡ pos e
+
+-- (m + rest) 2^(e - 63) against the midpoint of 2^i and 2^j
+unfoldable pub TellsPowers : ℕ → ℕ → ℕ → ℕ → Rest → Side → Type 0
+TellsPowers i j e m rest side = (unit a : ℕ) → 0 < unit → Amounts m rest a unit → (y z : ℕ) → y * 2 ^ e ≡ 2 ^ (63 + i) * unit → z * 2 ^ e ≡ 2 ^ (63 + j) * unit → Tells side (2 * a) (y + z)
+
+-- the size against the midpoint of the words low and low + 1
+unfoldable pub TellsMidpoint : ℕ → ℕ → ℕ → ℕ → Rest → Side → Type 0
+TellsMidpoint n low e m rest side =
+    (h : ℤ) (a b z z' : ℕ) → IsRaised h e → 0 < b → IsOffered m rest (h -ℤ pos 63) a b → HasValue n false z low → HasValue n false z' (low + 1) → Tells side (2 * a) ((z + z') * b)
+
+-- what is written for the size m * 2^(h - 63) with its sign
+unfoldable pub WritesSize : ℕ → Rule → Bool → ℤ → ℕ → Answer → Type 0
+WritesSize n rule negative h m r = (a b : ℕ) → 0 < a → 0 < b → IsOffered m Rest.Nothing (h -ℤ pos 63) a b → IsWritten n rule negative a b r

@@ -1,0 +1,246 @@
+//! Checks of the papers' statements on writing and moving; written from the papers alone.
+//!
+//! Each assertion is a statement of paper 01, or follows from one. If one of them fails, the program stops.
+
+use crate::exact::Whole;
+use crate::moving::move_word;
+use crate::nearest::value_of;
+use crate::offers::{self, fine, itself, just_above, just_below, Offer, Pair};
+use crate::writing::{write, Answers};
+use crate::writing_lines::Draw;
+use crate::{count_of_words, largest_word, nar_word, negate, read, smallest_word, value};
+use crate::{Reading, Refusal, Sequence, Value};
+use std::cmp::Ordering;
+
+pub fn check() {
+    offers::check();
+    check_figures_of_writing();
+    check_figures_of_moving();
+    check_ends();
+    check_every_word_considered();
+    check_draws();
+    check_moves();
+    check_refusals();
+}
+
+fn exactly(word: u64) -> Answers {
+    Answers { rounded: Ok(word), strict: Ok(word) }
+}
+
+fn only_rounded(word: u64) -> Answers {
+    Answers { rounded: Ok(word), strict: Err(Refusal::Inexact) }
+}
+
+/// Paper 01, "Figures on either side of the edges" and "Errors that look right", as far as they speak of writing.
+fn check_figures_of_writing() {
+    let figures = [
+        (16, (512, 0), exactly(0x5A00)),
+        (16, (513, 0), only_rounded(0x5A00)),
+        (16, (514, 0), exactly(0x5A01)),
+        (16, (515, 0), only_rounded(0x5A02)),
+        (16, (516, 0), exactly(0x5A02)),
+        (16, (1023, 0), only_rounded(0x5B00)),
+        (16, (1024, 0), exactly(0x5B00)),
+        (16, (1, 0), exactly(0x4000)),
+        (16, (3, -1), exactly(0x4400)),
+        (16, (1, -300), only_rounded(0x0001)),
+        (16, (17, -259), exactly(0x0001)),
+        (16, (1, 300), only_rounded(0x7FFF)),
+        (16, (31, 250), exactly(0x7FFF)),
+        (8, (7, 0), exactly(0x4F)),
+        (8, (8, 0), exactly(0x50)),
+        (8, (9, 0), only_rounded(0x50)),
+        (8, (10, 0), only_rounded(0x50)),
+        (8, (1, 239), exactly(0x7F)),
+        (8, (1, 231), only_rounded(0x7E)),
+        (8, (1, 223), exactly(0x7E)),
+        (8, (1, -239), exactly(0x01)),
+        (2, (1, 0), exactly(0b01)),
+        (2, (1, -2000), only_rounded(0b01)),
+        (2, (u64::MAX, 2000), only_rounded(0b01)),
+    ];
+    for (width, (m, k), expected) in figures {
+        assert!(write(width, &Offer::plus(m, k)) == expected, "{m} * 2^{k} at width {width}");
+    }
+    // The same value offered with other M and k.
+    assert!(write(16, &Offer::plus(1, 9)) == exactly(0x5A00));
+    assert!(write(16, &Offer::plus(1 << 63, -54)) == exactly(0x5A00));
+    // "M = 0 is zero, whichever the sign."
+    for width in 2..=64 {
+        for k in [i32::MIN, -1, 0, 1, i32::MAX] {
+            assert!(write(width, &Offer::plus(0, k)) == exactly(0) && write(width, &Offer::minus(0, k)) == exactly(0));
+        }
+    }
+}
+
+/// "513 + 2^-20 at width 64 goes to 514 at 16; through 32 it would go to 512."
+fn check_figures_of_moving() {
+    let word = write(64, &Offer::plus((513 << 20) + 1, -20)).strict.unwrap();
+    assert!(move_word(64, 16, word) == only_rounded(0x5A01));
+    let through = move_word(64, 32, word).rounded.unwrap();
+    assert!(move_word(32, 16, through) == only_rounded(0x5A00));
+    assert!(move_word(16, 8, 0x8000) == exactly(0x80));
+    assert!(move_word(16, 64, 0) == exactly(0));
+}
+
+/// Sizes at the ends of every width and past them give the end words of their sign; never zero and never NaR.
+fn check_ends() {
+    for width in 2..=64 {
+        let (smallest, largest) = (smallest_word(width).unwrap(), largest_word(width).unwrap());
+        let (least, greatest) = (value_of(width, smallest), value_of(width, largest));
+        check_writing(width, itself(&least).unwrap(), exactly(smallest));
+        check_writing(width, itself(&greatest).unwrap(), exactly(largest));
+        // Past the ends there is no word with the value. Some of these exponents are cut by offers.rs and some are not.
+        let most = u64::MAX;
+        for offer in [just_below(&least), (1, -400), (1, -401), (most, -1000), (1, i32::MIN), (most, i32::MIN)] {
+            check_writing(width, offer, only_rounded(smallest));
+        }
+        for offer in [just_above(&greatest), (1, 255), (1, 256), (most, 1000), (1, i32::MAX), (most, i32::MAX)] {
+            check_writing(width, offer, only_rounded(largest));
+        }
+    }
+}
+
+/// Asserts the answers with a plus sign, and their negations with a minus sign.
+fn check_writing(width: u32, (m, k): Pair, expected: Answers) {
+    let negated = |answer: Result<u64, Refusal>| answer.and_then(|word| negate(width, word));
+    let with_minus = Answers { rounded: negated(expected.rounded), strict: negated(expected.strict) };
+    assert!(write(width, &Offer::plus(m, k)) == expected, "{m} * 2^{k} at width {width}");
+    assert!(write(width, &Offer::minus(m, k)) == with_minus, "-{m} * 2^{k} at width {width}");
+}
+
+/// The answers by the paper's own words, with no order of the words used: every nonzero word of the number's sign is
+/// considered, one after the other; the nearest so far is kept, and at a tie the one whose lowest bit is 0.
+fn answers_over_all_words(width: u32, number: &Whole) -> Answers {
+    let mut nearest: Option<(u64, Whole)> = None;
+    let mut strict = Err(Refusal::Inexact);
+    for word in 0..count_of_words(width) as u64 {
+        if word == 0 || word == nar_word(width).unwrap() {
+            continue;
+        }
+        let value = value_of(width, word);
+        if value.is_negative() != number.is_negative() {
+            continue;
+        }
+        if value == *number {
+            strict = Ok(word);
+        }
+        let distance = value.minus(number).size();
+        let is_nearer = match &nearest {
+            None => true,
+            Some((_, least)) => match distance.cmp(least) {
+                Ordering::Less => true,
+                Ordering::Equal => word % 2 == 0,
+                Ordering::Greater => false,
+            },
+        };
+        if is_nearer {
+            nearest = Some((word, distance));
+        }
+    }
+    Answers { rounded: Ok(nearest.unwrap().0), strict }
+}
+
+fn check_over_all_words(width: u32, (m, k): Pair) {
+    for offer in [Offer::plus(m, k), Offer::minus(m, k)] {
+        assert!(write(width, &offer) == answers_over_all_words(width, &offer.number()), "{offer:?} at width {width}");
+    }
+}
+
+/// Holds writing against the search over all words: at the widths 2 to 8 for every value and on and beside every
+/// midpoint; up to width 16 for some draws.
+fn check_every_word_considered() {
+    for width in 2..=8 {
+        let largest = largest_word(width).unwrap();
+        for a in 1..=largest {
+            check_over_all_words(width, itself(&value_of(width, a)).unwrap());
+            if a < largest {
+                let midpoint = value_of(width, a).plus(&value_of(width, a + 1)).divided_by_power_of_two(1);
+                let offers = [itself(&midpoint), Some(just_below(&midpoint)), Some(just_above(&midpoint))];
+                offers.into_iter().flatten().for_each(|offer| check_over_all_words(width, offer));
+            }
+        }
+    }
+    for width in 9..=16 {
+        let mut sequence = Sequence::new(2000 + width);
+        for _place in 0..10 {
+            let (m, k) = Draw::next(&mut sequence, width).offer;
+            if m != 0 {
+                check_over_all_words(width, (m, k));
+            }
+        }
+    }
+}
+
+/// At every width, for some draws: the neighbours of the nearest word lie no nearer, and a neighbour that lies as near
+/// has the lowest bit 1. As the values increase with the word, the words further off lie further off still.
+fn check_draws() {
+    for width in 2..=64 {
+        let mut sequence = Sequence::new(3000 + width);
+        for _place in 0..32 {
+            let (m, k) = Draw::next(&mut sequence, width).offer;
+            if m == 0 {
+                continue;
+            }
+            let number = Offer::plus(m, k).number();
+            let word = write(width, &Offer::plus(m, k)).rounded.unwrap();
+            let distance_of = |word: u64| value_of(width, word).minus(&number).size();
+            for neighbour in [word - 1, word + 1] {
+                if neighbour == 0 || neighbour == nar_word(width).unwrap() {
+                    continue;
+                }
+                let order = distance_of(neighbour).cmp(&distance_of(word));
+                assert!(order == Ordering::Greater || (order == Ordering::Equal && word % 2 == 0));
+            }
+            check_writing(width, (m, k), write(width, &Offer::plus(m, k)));
+        }
+    }
+}
+
+/// Moves, at some words of every width: to the same width and wider ones the value stays the same, and back comes the
+/// same word; and a move is the writing of what was read.
+fn check_moves() {
+    for from in 2..=64 {
+        let mut sequence = Sequence::new(4000 + from);
+        for _place in 0..32 {
+            let Draw { word, target, .. } = Draw::next(&mut sequence, from);
+            let answers = move_word(from, target, word);
+            match read(from, word).unwrap() {
+                Reading::NaR => assert!(answers == Answers::alike(nar_word(target))),
+                Reading::Zero => assert!(answers == exactly(0)),
+                Reading::Number { minus, h, m, p } => {
+                    let offer = Offer { minus, m, k: (h - p) as i32 };
+                    assert!(Value::Number(offer.number()) == fine_or_nar(from, word));
+                    assert!(answers == write(target, &offer));
+                }
+            }
+            if target >= from {
+                let moved = answers.strict.expect("going wider never changes a value");
+                assert!(answers.rounded == Ok(moved) && value(target, moved) == value(from, word));
+                assert!(move_word(target, from, moved) == exactly(word));
+            }
+        }
+    }
+}
+
+/// The value of a word, held times 2^400 as an offer is.
+fn fine_or_nar(width: u32, word: u64) -> Value {
+    match value(width, word) {
+        Value::NaR => Value::NaR,
+        Value::Number(number) => Value::Number(fine(&number)),
+    }
+}
+
+/// "Order for words: WIDTH (source, then target), ROOM, STRAY, NAR, OVER, INEXACT."
+fn check_refusals() {
+    let refused = |refusal: Refusal| Answers::alike(Err(refusal));
+    for bad in [0, 1, 65, u32::MAX] {
+        assert!(write(bad, &Offer::plus(1, 0)) == refused(Refusal::Width));
+        assert!(write(bad, &Offer::plus(0, 0)) == refused(Refusal::Width));
+        assert!(move_word(bad, 16, 1) == refused(Refusal::Width));
+        assert!(move_word(16, bad, 0x8000) == refused(Refusal::Width));
+        assert!(move_word(16, bad, 0x10000) == refused(Refusal::Width));
+    }
+    assert!(move_word(16, 8, 0x10000) == refused(Refusal::Stray));
+    assert!(move_word(8, 16, 0x100) == refused(Refusal::Stray));
+}

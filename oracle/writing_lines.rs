@@ -1,0 +1,174 @@
+//! The lines on writing and moving (docs/CENSUS.md, parts 7 to 12); written from the papers alone.
+
+use crate::moving::move_word;
+use crate::nearest::value_of;
+use crate::offers::{itself, just_above, just_below, Offer, Pair};
+use crate::writing::{write, Answers};
+use crate::{count_of_words, largest_word, Digest, Sequence, RUN};
+
+pub fn push(lines: &mut Vec<String>) {
+    write_lines(lines);
+    past_lines(lines);
+    move_lines(lines);
+    draw_lines(lines);
+    unmoved_lines(lines);
+    strayed_lines(lines);
+}
+
+/// First the rounded answer, then the strict one.
+fn take_answers(digest: &mut Digest, answers: Answers) {
+    digest.take_number(answers.rounded);
+    digest.take_number(answers.strict);
+}
+
+/// "The four writings of M, k": plus rounded, plus strict, minus rounded, minus strict.
+fn take_four_writings(digest: &mut Digest, width: u32, (m, k): Pair) {
+    take_answers(digest, write(width, &Offer::plus(m, k)));
+    take_answers(digest, write(width, &Offer::minus(m, k)));
+}
+
+/// The runs of at most 256 into which the numbers from `first` to `last` are cut: the first of each and its count.
+fn runs(first: u64, last: u64) -> Vec<(u64, u64)> {
+    let mut runs = Vec::new();
+    let mut next = first;
+    while next <= last {
+        let count = RUN.min(last - next + 1);
+        runs.push((next, count));
+        next += count;
+    }
+    runs
+}
+
+fn run_line(name: &str, width: u32, first: u64, count: u64, digest: &Digest) -> String {
+    format!("{name} {width} {first} {count} {:016x}", digest.0)
+}
+
+/// Part 7: the values of all positive words of the widths 2 to 16, and the midpoints between them.
+fn write_lines(lines: &mut Vec<String>) {
+    for width in 2..=16 {
+        for (first, count) in runs(1, largest_word(width).unwrap()) {
+            let mut digest = Digest::new();
+            for a in first..first + count {
+                take_writings_around(&mut digest, width, a);
+            }
+            lines.push(run_line("write", width, first, count, &digest));
+        }
+    }
+}
+
+/// The writings of the value of a, and of the midpoint between a and a + 1 and on either side of it.
+fn take_writings_around(digest: &mut Digest, width: u32, a: u64) {
+    let value = value_of(width, a);
+    let offer = itself(&value).expect("the value of a word has a significand below 2^64");
+    take_four_writings(digest, width, offer);
+    if a == largest_word(width).unwrap() {
+        return;
+    }
+    let midpoint = value.plus(&value_of(width, a + 1)).divided_by_power_of_two(1);
+    if let Some(offer) = itself(&midpoint) {
+        take_four_writings(digest, width, offer);
+    }
+    take_four_writings(digest, width, just_below(&midpoint));
+    take_four_writings(digest, width, just_above(&midpoint));
+}
+
+/// Part 8: zero, and sizes at, near and far past the ends of every width.
+fn past_lines(lines: &mut Vec<String>) {
+    let exponents =
+        [-2147483648, -2147483647, -1000, -308, -307, -256, -255, 0, 191, 192, 254, 255, 1000, 2147483646, 2147483647];
+    for width in 2..=64 {
+        let mut digest = Digest::new();
+        for m in [0, 1, u64::MAX] {
+            for k in exponents {
+                take_four_writings(&mut digest, width, (m, k));
+            }
+        }
+        lines.push(format!("past {width} {:016x}", digest.0));
+    }
+}
+
+/// Part 9: the moves of every word of the widths 2 to 16.
+fn move_lines(lines: &mut Vec<String>) {
+    for from in 2..=16 {
+        let targets = target_widths(from);
+        for (first, count) in runs(0, count_of_words(from) as u64 - 1) {
+            let mut digest = Digest::new();
+            for word in first..first + count {
+                for &to in &targets {
+                    take_answers(&mut digest, move_word(from, to, word));
+                }
+            }
+            lines.push(run_line("move", from, first, count, &digest));
+        }
+    }
+}
+
+fn target_widths(from: u32) -> Vec<u32> {
+    if from <= 12 {
+        (2..=64).collect()
+    } else {
+        (2..=20).chain([24, 32, 48, 57, 58, 63, 64]).collect()
+    }
+}
+
+/// Part 10: 4,096 draws at every width.
+fn draw_lines(lines: &mut Vec<String>) {
+    for width in 2..=64 {
+        let mut sequence = Sequence::new(1000 + width);
+        for (first, count) in runs(0, 4095) {
+            let mut digest = Digest::new();
+            for _place in first..first + count {
+                let draw = Draw::next(&mut sequence, width);
+                take_four_writings(&mut digest, width, draw.offer);
+                take_answers(&mut digest, move_word(width, draw.target, draw.word));
+            }
+            lines.push(run_line("draw", width, first, count, &digest));
+        }
+    }
+}
+
+/// What five numbers of a sequence choose: an offer to write, and a word to move to a target width.
+pub struct Draw {
+    pub offer: Pair,
+    pub word: u64,
+    pub target: u32,
+}
+
+impl Draw {
+    pub fn next(sequence: &mut Sequence, width: u32) -> Draw {
+        let [x1, x2, x3, x4, x5] = [(); 5].map(|()| sequence.next_number());
+        let m = x1 >> (x2 % 64);
+        let k = (x3 % 640) as i32 - 352;
+        let word = (u128::from(x4) % count_of_words(width)) as u64;
+        let target = 2 + (x5 % 63) as u32;
+        Draw { offer: (m, k), word, target }
+    }
+}
+
+/// Part 11: writing at widths that are refused, and moves from them and to them.
+fn unmoved_lines(lines: &mut Vec<String>) {
+    for width in [0, 1, 65, 2147483648, 4294967295] {
+        let mut digest = Digest::new();
+        take_four_writings(&mut digest, width, (1, 0));
+        for word in [1, 1 << 63] {
+            for (from, to) in [(width, 16), (16, width), (width, width)] {
+                take_answers(&mut digest, move_word(from, to, word));
+            }
+        }
+        lines.push(format!("unmoved {width} {:016x}", digest.0));
+    }
+}
+
+/// Part 12: moves of words with a bit set at or above their width.
+fn strayed_lines(lines: &mut Vec<String>) {
+    for width in 2..=63 {
+        let mut digest = Digest::new();
+        let lowest_stray: u64 = 1 << width;
+        for word in [lowest_stray, lowest_stray + 1, 1 << 63, u64::MAX] {
+            for to in [64, 65, width] {
+                take_answers(&mut digest, move_word(width, to, word));
+            }
+        }
+        lines.push(format!("strayed {width} {:016x}", digest.0));
+    }
+}

@@ -96,6 +96,9 @@ word-passes n w i = rw (width-fits n (i .least) (i .most)) (stray-fits n w (i .f
 pub words-pass : (n x y : ℕ) → IsWord n x → IsWord n y → widthTest n then strayTest n x then strayTest n y ≡ Verdict.Through
 words-pass n x y ix iy = rw (word-passes n x ix) (stray-fits n y (iy .fits))
 
+pub move-passes : (n n' w : ℕ) → IsWord n w → 2 ≤ n' → n' ≤ 64 → widthTest n then widthTest n' then strayTest n w ≡ Verdict.Through
+move-passes n n' w i lo hi = rw (width-fits n (i .least) (i .most), width-fits n' lo hi) (stray-fits n w (i .fits))
+
 -- a contract decides by the verdict: what it says where the input is let through, and where it is refused
 pub answered : {v : Verdict} {P : Refusal → Type 0} {Q : Type 0} → v ≡ Verdict.Through → Decided v P Q → Q
 unfolding refuses

@@ -5,9 +5,12 @@ pub mod Exponents
 pub mod Floors
 pub mod Halves
 pub mod Hub
+pub mod Moves
 pub mod Nearest
 pub mod Normal
+pub mod Order
 pub mod Places
+pub mod Rounding
 pub mod Rules
 pub mod Scales
 pub mod Sides

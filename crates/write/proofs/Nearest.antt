@@ -1,9 +1,9 @@
 -- The nearest of an increasing row of sizes, on a tie the even place: there is one, there is only one, and the place below the size and the
 -- place above it decide it by comparing twice the size with the sum of theirs. For any increasing row. Assumes nothing.
-use mathlib.Core.Path.{_≡_, refl, sym, ap, _∙_, subst}
+use mathlib.Core.Path.{_≡_, refl, sym, ap, ap₂, _∙_, subst}
 use mathlib.Core.Logic.{_⊎_, inl, inr, ⊎-elim}
 use Prim.Native.Nat.{ℕ, zero, suc, _+_, _-_, _*_, _%_, _≤_, _<_, max, min}
-use native.Mathlib.Nat.{le-of-eq, le-of-lt, eq-or-lt-of-le, lt-of-not-le, le-of-suc-le-suc, mul-lt-mul-of-pos-right, le-antisymm, zero-lt-suc, add-zero}
+use native.Mathlib.Nat.{add-mul, mul-assoc, mul-right-comm, mul-le-mul-left, mul-le-mul-right, le-trans, eq-of-mul-eq-mul-right, le-of-eq, le-of-lt, eq-or-lt-of-le, lt-of-not-le, le-of-suc-le-suc, mul-lt-mul-of-pos-right, le-antisymm, zero-lt-suc, add-zero}
 use native.Mathlib.Numerals.{add-one}
 use native.Mathlib.Decide.{decLt, decLe}
 use native.Mathlib.Omega.{arith}
@@ -195,3 +195,83 @@ module _ (g : ℕ → ℕ) (B a b : ℕ) (up : (v u : ℕ) → zero < v → v < 
       by (under k) = (1, at-first h k)
       by (over v p q k) = (v, at-last v p q k)
       by (inside v p r l k) = side v p r l k (beside (g v * b + g (suc v) * b) (2 * a))
+
+-- ---- a size that is not smaller has a nearest place that is not before
+half-up : (a x y : ℕ) → x < y → distance a y ≤ distance a x → x + y ≤ 2 * a
+half-up a x y h l = by (decLe a x) (decLe a y)
+  where
+    by : Dec (a ≤ x) → Dec (a ≤ y) → x + y ≤ 2 * a
+    by (yes p) d = absurd (omega (arith, l, h, p, distance-above a x p, distance-above a y (omega (arith, p, h))))
+    by (no f) (yes r) = omega (arith, l, r, lt-of-not-le f, distance-above a y r, distance-below a x (le-of-lt (lt-of-not-le f)))
+    by (no f) (no e) = omega (arith, h, lt-of-not-le f, lt-of-not-le e)
+
+half-down : (a x y : ℕ) → x < y → distance a x ≤ distance a y → 2 * a ≤ x + y
+half-down a x y h l = by (decLe a x) (decLe a y)
+  where
+    by : Dec (a ≤ x) → Dec (a ≤ y) → 2 * a ≤ x + y
+    by (yes p) d = omega (arith, h, p)
+    by (no f) (yes r) = omega (arith, l, r, lt-of-not-le f, distance-above a y r, distance-below a x (le-of-lt (lt-of-not-le f)))
+    by (no f) (no e) = absurd (omega (arith, l, h, lt-of-not-le f, lt-of-not-le e, distance-below a x (le-of-lt (lt-of-not-le f)), distance-below a y (le-of-lt (lt-of-not-le e))))
+
+midway-same : (a x y : ℕ) → x < y → 2 * a ≡ x + y → distance a x ≡ distance a y
+midway-same a x y h q = distance-below a x (omega (arith, h, q)) ∙ omega (arith, h, q) ∙ sym (distance-above a y (omega (arith, h, q)))
+
+module _ (g : ℕ → ℕ) (B a b a' b' : ℕ) (up : (v u : ℕ) → zero < v → v < u → u < B → g v < g u) (some : zero < b) (some' : zero < b') (at-most : a * b' ≤ a' * b) where
+  pub place-order : (v v' : ℕ) → NearestPlace g B a b v → NearestPlace g B a' b' v' → v ≤ v'
+  place-order v v' x y = by (decLe v v')
+    where
+      back : v' < v → ⊥
+      back h = parity (x .even v' (y .first) (y .last) (sym far)) (y .even v (x .first) (x .last) near)
+        where
+          p : ℕ
+          p = g v'
+
+          q : ℕ
+          q = g v
+
+          rise : p < q
+          rise = up v' v (y .first) h (x .last)
+
+          low : p * b + q * b ≤ 2 * a
+          low = half-up a (p * b) (q * b) (mul-lt-mul-of-pos-right rise some) (x .nearest v' (y .first) (y .last))
+
+          high : 2 * a' ≤ p * b' + q * b'
+          high = half-down a' (p * b') (q * b') (mul-lt-mul-of-pos-right rise some') (y .nearest v (x .first) (x .last))
+
+          spread : (p * b + q * b) * b' ≡ (p * b' + q * b') * b
+          spread = add-mul (p * b) (q * b) b' ∙ ap₂ (λ (i j : ℕ). i + j) (mul-right-comm p b b') (mul-right-comm q b b') ∙ sym (add-mul (p * b') (q * b') b)
+
+          up-to : (p * b + q * b) * b' ≤ 2 * a * b'
+          up-to = mul-le-mul-right b' low
+
+          down-to : 2 * a' * b ≤ (p * b' + q * b') * b
+          down-to = mul-le-mul-right b high
+
+          middle : 2 * a * b' ≤ 2 * a' * b
+          middle = le-trans (le-of-eq (mul-assoc 2 a b')) (le-trans (mul-le-mul-left 2 at-most) (le-of-eq (sym (mul-assoc 2 a' b))))
+
+          tie : 2 * a ≡ p * b + q * b
+          tie = eq-of-mul-eq-mul-right b' some' (2 * a) (p * b + q * b) (le-antisymm (le-trans middle (le-trans down-to (le-of-eq (sym spread)))) up-to)
+
+          tie' : 2 * a' ≡ p * b' + q * b'
+          tie' = eq-of-mul-eq-mul-right b some (2 * a') (p * b' + q * b') (le-antisymm down-to (le-trans (le-of-eq (sym spread)) (le-trans up-to middle)))
+
+          far : distance a (p * b) ≡ distance a (q * b)
+          far = midway-same a (p * b) (q * b) (mul-lt-mul-of-pos-right rise some) tie
+
+          near : distance a' (p * b') ≡ distance a' (q * b')
+          near = midway-same a' (p * b') (q * b') (mul-lt-mul-of-pos-right rise some') tie'
+
+          between : suc v' < v → ⊥
+          between l =
+              between-two a (p * b) (g (suc v') * b) (q * b) (mul-lt-mul-of-pos-right (up v' (suc v') (y .first) (le-of-eq refl) (omega (arith, l, x .last))) some) (mul-lt-mul-of-pos-right (up (suc v') v (zero-lt-suc v') l (x .last)) some) far
+              (le-trans (le-of-eq far) (x .nearest (suc v') (zero-lt-suc v') (omega (arith, l, x .last))))
+
+          parity : (v' ≡ v) ⊎ (v % 2 ≡ 0) → (v ≡ v') ⊎ (v' % 2 ≡ 0) → ⊥
+          parity (inl e) d = omega (arith, e, h)
+          parity (inr e) (inl d) = omega (arith, d, h)
+          parity (inr e) (inr d) = between (omega (arith, e, d, h))
+
+      by : Dec (v ≤ v') → v ≤ v'
+      by (yes h) = h
+      by (no f) = absurd (back (lt-of-not-le f))

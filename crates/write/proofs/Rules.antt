@@ -14,21 +14,25 @@ use Rattle.word.specs.declared.refusal.Refusal.{Refusal}
 use Rattle.word.proofs.Words.{takum-zero}
 use Rattle.write.specs.declared.value.Rule.{Rule}
 use Rattle.write.specs.declared.size.Rest.{Rest}
-use Rattle.write.specs.Writes.{Nearest, IsRounded, zero, other, IsExact, IsWritten, isNegative, IsMoved}
+use Rattle.write.specs.Writes.{HasValue, Nearest, IsRounded, zero, other, IsExact, IsWritten, isNegative, IsMoved}
 use Rattle.write.specs.Offers.{IsOffered, IsNearest, TellsExact, withSign, WritesSize}
 use Rattle.write.proofs.Exponents.{unit-some}
 use Rattle.write.proofs.Scales.{plain-offer, written-reduced}
 use Rattle.write.proofs.Signs.{signed-nearest, nearest-positive, signed-exact, none-exact}
 
 -- zero is the zero word by either rule, whichever its sign
-pub zero-written : (n : ℕ) → 2 ≤ n → n ≤ 64 → (rule : Rule) (s : Bool) (a b : ℕ) → a ≡ 0 → IsWritten n rule s a b (Answer.Word 0)
-unfolding IsWritten signedSize
-zero-written n lo hi Rule.Rounded s a b q = zero q refl
-zero-written n lo hi Rule.Strict s a b q = record { z = 0; is = record { word = record { least = lo; most = hi; fits = pow-pos n }; means = takum-zero n ∙ ap real (sym (no-sign s)) }; same = zero-mul b ∙ sym q }
+pub zero-value : (n : ℕ) → 2 ≤ n → n ≤ 64 → (s : Bool) → HasValue n s 0 0
+unfolding signedSize
+zero-value n lo hi s = record { word = record { least = lo; most = hi; fits = pow-pos n }; means = takum-zero n ∙ ap real (sym (no-sign s)) }
   where
     no-sign : (s : Bool) → signedSize s 0 ≡ pos 0
     no-sign false = refl
     no-sign true = refl
+
+pub zero-written : (n : ℕ) → 2 ≤ n → n ≤ 64 → (rule : Rule) (s : Bool) (a b : ℕ) → a ≡ 0 → IsWritten n rule s a b (Answer.Word 0)
+unfolding IsWritten
+zero-written n lo hi Rule.Rounded s a b q = zero q refl
+zero-written n lo hi Rule.Strict s a b q = record { z = 0; is = zero-value n lo hi s; same = zero-mul b ∙ sym q }
 
 module _ (n : ℕ) (lo : 2 ≤ n) (hi : n ≤ 64) (h : ℤ) (m w : ℕ) (near : IsNearest n h m Rest.Nothing w) where
   at-all : Nearest n false (m * num (h -ℤ pos 63 +ℤ pos 307)) (den (h -ℤ pos 63 +ℤ pos 307)) w

@@ -1,0 +1,106 @@
+-- Rounding keeps the order of values: a value that is not greater has a word that is not greater. Assumes nothing.
+use mathlib.Core.Path.{_≡_, refl, sym, ap, ap₂, _∙_, subst, subst₂}
+use mathlib.Core.Bool.{Bool, true, false, true≢false, cond}
+use Prim.Native.Nat.{ℕ, zero, suc, _-_, _*_, _^_, _≤_, _<_, zero-le}
+use native.Mathlib.Nat.{zero-mul, mul-pos, lt-of-not-le, le-of-eq, le-trans}
+use native.Mathlib.Decide.{decLe}
+use native.Mathlib.Omega.{arith}
+use borrow.Author.Tests.{ltb-true}
+use lib.Dec.{ltb}
+use lib.IntN.{ℤ, pos, negsuc, natAbs, pos-ne-negsuc}
+use lib.Pow.{pow-pos}
+use lib.Signed.{ltZ}
+use Rattle.word.specs.Orders.{signed, order}
+use Rattle.word.specs.Reads.{signedSize}
+use Rattle.word.proofs.Powers.{pow-sum}
+use Rattle.word.proofs.Signed.{signed-low, signed-high}
+use Rattle.word.proofs.Values.{grown, grown-lt}
+use Rattle.write.specs.Writes.{Nearest, IsRounded, zero, other}
+use Rattle.write.proofs.Nearest.{NearestPlace, place-order}
+use Rattle.write.proofs.Places.{wordOf, from-word}
+
+-- the value with sign s and size a / b is at most the one with sign s' and size a' / b'
+unfoldable pub AtMost : Bool → ℕ → ℕ → Bool → ℕ → ℕ → Type 0
+AtMost false a b false a' b' = a * b' ≤ a' * b
+AtMost true a b true a' b' = a' * b ≤ a * b'
+AtMost true a b false a' b' = Unit {0}
+AtMost false a b true a' b' = (a ≡ 0) × (a' ≡ 0)
+
+-- ---- the order of signed sizes
+greater : (x y : ℤ) → order x y ≡ pos 1 → ltZ y x ≡ true
+unfolding order
+greater x y = by (ltZ x y) (ltZ y x)
+  where
+    by : (c d : Bool) → cond c (negsuc 0) (cond d (pos 1) (pos 0)) ≡ pos 1 → d ≡ true
+    by true d q = absurd (pos-ne-negsuc 1 0 (sym q))
+    by false true q = refl
+    by false false q = absurd (omega (arith, ap natAbs q))
+
+both-positive : (v v' : ℕ) → v ≤ v' → order (pos v) (pos v') ≡ pos 1 → ⊥
+both-positive v v' h q = omega (arith, h, ltb-true v' v (greater (pos v) (pos v') q))
+
+both-negative : (v v' : ℕ) → v' ≤ v → order (signedSize true v) (signedSize true v') ≡ pos 1 → ⊥
+unfolding signedSize
+both-negative zero v' h q = omega (arith, ltb-true-at v' h q)
+  where
+    ltb-true-at : (v' : ℕ) → v' ≤ 0 → order (pos 0) (signedSize true v') ≡ pos 1 → 1 ≤ 0
+    ltb-true-at zero h q = ltb-true 0 0 (greater (pos 0) (pos 0) q)
+    ltb-true-at (suc i) h q = absurd (omega (arith, h))
+both-negative (suc i) zero h q = absurd (true≢false (sym (greater (negsuc i) (pos 0) q)))
+both-negative (suc i) (suc j) h q = omega (arith, h, ltb-true i j (greater (negsuc i) (negsuc j) q))
+
+apart : (v v' : ℕ) → order (signedSize true v) (pos v') ≡ pos 1 → ⊥
+unfolding signedSize
+apart zero v' q = omega (arith, ltb-true v' 0 (greater (pos 0) (pos v') q))
+apart (suc i) v' q = absurd (true≢false (sym (greater (negsuc i) (pos v') q)))
+
+module _ (n : ℕ) (lo : 2 ≤ n) (hi : n ≤ 64) where
+  twice : 2 ^ (n - 1) * 2 ≡ 2 ^ n
+  twice = pow-sum (n - 1) 1 n (omega arith)
+
+  -- the place of a rounded word, nothing for zero
+  record At (s : Bool) (a b w : ℕ) : Type 0 where
+    v : ℕ
+    word : signed n w ≡ signedSize s v
+    place : (0 < a) → NearestPlace (grown n) (2 ^ (n - 1)) a b v
+    none : a ≡ 0 → v ≡ 0
+
+  signed-word : (s : Bool) (v : ℕ) → 0 < v → v < 2 ^ (n - 1) → signed n (wordOf n s v) ≡ signedSize s v
+  unfolding wordOf signedSize
+  signed-word false v f l = signed-low n v l
+  signed-word true (suc i) f l = signed-high n (2 ^ n - suc i) (omega (arith, l, twice)) (omega (arith, l, twice)) ∙ ap negsuc (omega (arith, l, twice))
+  signed-word true zero f l = absurd (omega (arith, f))
+
+  at : (s : Bool) (a b w : ℕ) → IsRounded n s a b w → At s a b w
+  unfolding signedSize
+  at s a b w (zero q e) = record { v = 0; word = ap (signed n) e ∙ signed-low n 0 (pow-pos (n - 1)) ∙ sym (no-sign s); place = λ h. absurd (omega (arith, h, q)); none = λ _. refl }
+    where
+      no-sign : (s : Bool) → signedSize s 0 ≡ pos 0
+      no-sign false = refl
+      no-sign true = refl
+  at s a b w (other h x) =
+      let t = from-word n lo hi s a b w x in
+      record { v = t .0; word = ap (signed n) (t .2) ∙ signed-word s (t .0) (t .1 .first) (t .1 .last); place = λ _. t .1; none = λ q. absurd (omega (arith, q, h)) }
+
+  -- the places are in the order of the sizes
+  places : (s s' : Bool) (a b a' b' w w' : ℕ) → 0 < b → 0 < b' → a * b' ≤ a' * b → (x : At s a b w) (y : At s' a' b' w') → x .v ≤ y .v
+  places s s' a b a' b' w w' some some' h x y = by (decLe a 0) (decLe a' 0)
+    where
+      by : Dec (a ≤ 0) → Dec (a' ≤ 0) → x .v ≤ y .v
+      by (yes p) d = le-trans (le-of-eq (x .none (omega (arith, p)))) zero-le
+      by (no f) (yes q) = absurd (omega (arith, h, mul-pos (lt-of-not-le f) some', none-left q))
+        where
+          none-left : a' ≤ 0 → a' * b ≡ 0
+          none-left q = let none : a' ≡ 0 = omega (arith, q) in ap (λ (y : ℕ). y * b) none ∙ zero-mul b
+      by (no f) (no e) = place-order (grown n) (2 ^ (n - 1)) a b a' b' (λ v u p l r. grown-lt n v u lo hi l r) some some' h (x .v) (y .v) (x .place (lt-of-not-le f)) (y .place (lt-of-not-le e))
+
+  pub rounding-keeps-order : (s s' : Bool) (a b a' b' w w' : ℕ) → 0 < b → 0 < b' → IsRounded n s a b w → IsRounded n s' a' b' w' → AtMost s a b s' a' b' → order (signed n w) (signed n w') ≡ pos 1 → ⊥
+  unfolding AtMost signedSize
+  rounding-keeps-order s s' a b a' b' w w' some some' x y h q =
+      by s s' h (at s a b w x) (at s' a' b' w' y) q
+    where
+      by : (s s' : Bool) → AtMost s a b s' a' b' → (x : At s a b w) (y : At s' a' b' w') → order (signed n w) (signed n w') ≡ pos 1 → ⊥
+      by false false h x y q = both-positive (x .v) (y .v) (places false false a b a' b' w w' some some' h x y) (sym (ap₂ order (x .word) (y .word)) ∙ q)
+      by true true h x y q = both-negative (x .v) (y .v) (places true true a' b' a b w' w some' some h y x) (sym (ap₂ order (x .word) (y .word)) ∙ q)
+      by true false h x y q = apart (x .v) (y .v) (sym (ap₂ order (x .word) (y .word)) ∙ q)
+      by false true h x y q = both-positive 0 0 (le-of-eq refl) (sym (ap₂ order (x .word ∙ ap pos (x .none (h .0))) (y .word ∙ ap (signedSize true) (y .none (h .1)))) ∙ q)

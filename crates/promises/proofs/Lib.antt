@@ -2,3 +2,4 @@
 pub mod Demands
 pub mod Figures
 pub mod OneOutcome
+pub mod Writing

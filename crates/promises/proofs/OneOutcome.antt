@@ -1,7 +1,8 @@
 -- Two outcomes that a public contract allows are equal, for each public call. Assumes nothing.
 use mathlib.Core.Path.{_≡_, refl, sym, ap, _∙_, subst}
-use Prim.Native.Nat.{ℕ, _^_}
-use native.Mathlib.Nat.{le-antisymm}
+use Prim.Native.Nat.{ℕ, _*_, _^_, _≤_}
+use native.Mathlib.Nat.{le-antisymm, zero-lt-suc}
+use lib.IntN.{pos, natAbs, _+ℤ_}
 use Rattle.word.specs.declared.answer.Answer.{Answer}
 use Rattle.word.specs.declared.order.Comparison.{Comparison}
 use Rattle.word.specs.declared.reading.Reading.{Reading}
@@ -9,13 +10,18 @@ use Rattle.word.specs.declared.refusal.Refusal.{Refusal}
 use Rattle.word.specs.declared.refusal.Verdict.{Verdict}
 use Rattle.word.specs.declared.width.Limit.{Limit}
 use Rattle.word.specs.declared.width.Made.{Made}
-use Rattle.word.specs.Takum.{takum, fractionBits}
+use Rattle.word.specs.Takum.{Takum, real, NaR, takum, fractionBits}
 use Rattle.word.specs.Refusals.{Decided, through, refused}
 use Rattle.word.specs.Widths.{Greatest, greatest, none, IsLimit, Makes, GivesWord, GivesLimit}
-use Rattle.word.specs.Reads.{IsReading, Reads}
+use Rattle.word.specs.Reads.{num, den, IsReading, Reads}
 use Rattle.word.specs.Orders.{signed, order, negated, Compares, Negates}
-use Rattle.word.proofs.Verdicts.{answered, refused-as}
+use Rattle.word.proofs.Verdicts.{width-through, move-through, answered, refused-as}
 use Rattle.word.proofs.Binades.{reading-one}
+use Rattle.write.specs.declared.value.Rule.{Rule}
+use Rattle.write.specs.declared.value.Value.{Value}
+use Rattle.write.specs.Writes.{isNegative, IsMoved, Writes, Moves}
+use Rattle.write.proofs.Exponents.{unit-some}
+use Rattle.write.proofs.Rounding.{written-one}
 
 -- a contract that decides by a verdict allows one outcome, where it does for input that is let through
 module _ {A : Type 0} (R : Refusal → A) (Q : A → Type 0) (one : (a b : A) → Q a → Q b → a ≡ b) where
@@ -61,3 +67,23 @@ compares-one n x y a b = decided-one Comparison.Refused (λ z. z ≡ Comparison.
 pub negates-one : (n w : ℕ) (a b : Answer) → Negates n w a → Negates n w b → a ≡ b
 unfolding Negates
 negates-one n w a b = decided-one Answer.Refused (λ z. z ≡ Answer.Word (negated n w)) (given (Answer.Word (negated n w))) a b
+
+-- ---- writing and moving
+pub writes-one : (n : ℕ) (rule : Rule) (v : Value) (a b : Answer) → Writes n rule v a → Writes n rule v b → a ≡ b
+unfolding Writes
+writes-one n rule v a b (through h x) y =
+    let t = width-through n h in
+    written-one n (t .0) (t .1) rule (v .negative) (v .m * num (v .k +ℤ pos 307)) (den (v .k +ℤ pos 307)) a b (unit-some (v .k +ℤ pos 307) .1) x (answered h y)
+writes-one n rule v a b (refused h x) y = x ∙ sym (refused-as _ h y)
+
+moved-one : (n : ℕ) → 2 ≤ n → n ≤ 64 → (rule : Rule) (t : Takum) (a b : Answer) → IsMoved n rule t a → IsMoved n rule t b → a ≡ b
+unfolding IsMoved
+moved-one n lo hi rule (real z) a b x y = written-one n lo hi rule (isNegative z) (natAbs z) 1 a b (zero-lt-suc 0) x y
+moved-one n lo hi rule NaR a b x y = x ∙ sym y
+
+pub moves-one : (n n' : ℕ) (rule : Rule) (w : ℕ) (a b : Answer) → Moves n n' rule w a → Moves n n' rule w b → a ≡ b
+unfolding Moves
+moves-one n n' rule w a b (through h x) y =
+    let t = width-through n' (move-through n n' w h .1) in
+    moved-one n' (t .0) (t .1) rule (takum n w) a b x (answered h y)
+moves-one n n' rule w a b (refused h x) y = x ∙ sym (refused-as _ h y)

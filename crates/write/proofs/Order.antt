@@ -15,16 +15,9 @@ use Rattle.word.specs.Reads.{signedSize}
 use Rattle.word.proofs.Powers.{pow-sum}
 use Rattle.word.proofs.Signed.{signed-low, signed-high}
 use Rattle.word.proofs.Values.{grown, grown-lt}
-use Rattle.write.specs.Writes.{Nearest, IsRounded, zero, other}
+use Rattle.write.specs.Writes.{Nearest, IsRounded, zero, other, AtMost}
 use Rattle.write.proofs.Nearest.{NearestPlace, place-order}
 use Rattle.write.proofs.Places.{wordOf, from-word}
-
--- the value with sign s and size a / b is at most the one with sign s' and size a' / b'
-unfoldable pub AtMost : Bool → ℕ → ℕ → Bool → ℕ → ℕ → Type 0
-AtMost false a b false a' b' = a * b' ≤ a' * b
-AtMost true a b true a' b' = a' * b ≤ a * b'
-AtMost true a b false a' b' = Unit {0}
-AtMost false a b true a' b' = (a ≡ 0) × (a' ≡ 0)
 
 -- ---- the order of signed sizes
 greater : (x y : ℤ) → order x y ≡ pos 1 → ltZ y x ≡ true

@@ -9,7 +9,7 @@ use lib.Pow.{pow-mono}
 use Rattle.word.specs.Orders.{negated}
 use Rattle.word.specs.declared.answer.Answer.{Answer}
 use Rattle.word.proofs.Powers.{pow-sum}
-use Rattle.word.proofs.Signed.{negated-other}
+use Rattle.word.proofs.Signed.{negated-zero, negated-other}
 use Rattle.word.proofs.Values.{grown, grown-lt, words-differ}
 use Rattle.word.proofs.Words.{takum-zero}
 use Rattle.word.specs.Takum.{takum, real}
@@ -77,6 +77,10 @@ module _ (n : ℕ) (lo : 2 ≤ n) (hi : n ≤ 64) where
       by : (s : Bool) (v : ℕ) → 0 < v → v < 2 ^ (n - 1) → negated n (wordOf n s v) ≡ wordOf n (not s) v
       by false v f l = negated-other n v f (omega (arith, l, twice))
       by true v f l = negated-other n (2 ^ n - v) (omega (arith, l, twice)) (omega (arith, f, l, twice)) ∙ omega (arith, l, twice)
+
+  pub rounded-negated : (s : Bool) (a b w : ℕ) → IsRounded n s a b w → IsRounded n (not s) a b (negated n w)
+  rounded-negated s a b w (zero q e) = zero q (ap (negated n) e ∙ negated-zero n)
+  rounded-negated s a b w (other h x) = other h (nearest-negated s a b w x)
 
   -- ---- a value that has a word
   pub exact-rounded : (s : Bool) (a b w : ℕ) → 0 < b → IsExact n s a b w → IsRounded n s a b w

@@ -24,7 +24,7 @@ same-distance : (a : ℕ) → distance a a ≡ 0
 same-distance a = distance-below a a (le-of-eq refl) ∙ sub-self a
 
 module _ (n : ℕ) (lo : 2 ≤ n) (hi : n ≤ 64) where
-  signed-word : (s : Bool) (v w : ℕ) → zero < v → v < 2 ^ (n - 1) → w ≡ wordOf n false v → wordOf n s v ≡ withSign n s w
+  pub signed-word : (s : Bool) (v w : ℕ) → zero < v → v < 2 ^ (n - 1) → w ≡ wordOf n false v → wordOf n s v ≡ withSign n s w
   unfolding wordOf withSign
   signed-word false v w h b q = sym q
   signed-word true v w h b q = sym (ap (negated n) q ∙ negated-other n v h (omega (arith, b, pow-sum (n - 1) 1 n (omega arith))))

@@ -1,0 +1,145 @@
+-- The demands that specs/Writing.antt states, from the laws of writing. Assumes nothing.
+use mathlib.Core.Path.{_≡_, refl, sym, ap, _∙_, subst}
+use mathlib.Core.Bool.{Bool, not}
+use mathlib.Core.List.{List, [], _∷_}
+use Prim.Native.Nat.{ℕ, zero, suc, _-_, _*_, _^_, _≤_, _<_}
+use native.Mathlib.Nat.{mul-pos, zero-mul}
+use native.Mathlib.Omega.{arith}
+use lib.IntN.{ℤ, pos, _+ℤ_, _-ℤ_}
+use lib.Pow.{pow-mono}
+use Rattle.word.specs.declared.answer.Answer.{Answer}
+use Rattle.word.specs.declared.reading.Reading.{Reading}
+use Rattle.word.specs.declared.refusal.Refusal.{Refusal}
+use Rattle.word.specs.Takum.{takum}
+use Rattle.word.specs.Refusals.{widthTest, IsWord, through, refused}
+use Rattle.word.specs.Widths.{narWord, largest, smallest}
+use Rattle.word.specs.Reads.{num, den, IsSize, IsReading, Reads}
+use Rattle.word.specs.Orders.{negated}
+use Rattle.word.proofs.Verdicts.{width-fits, width-through, word-passes, answered}
+use Rattle.word.proofs.Words.{zeros-appended}
+use Rattle.write.specs.declared.value.Rule.{Rule}
+use Rattle.write.specs.declared.value.Value.{Value}
+use Rattle.write.specs.Writes.{IsRounded, zero, other, IsExact, IsWritten, IsMoved, Writes, Moves}
+use Rattle.write.specs.Offers.{withSign}
+use Rattle.write.proofs.Exponents.{unit-some}
+use Rattle.write.proofs.Places.{wordOf}
+use Rattle.write.proofs.Signs.{signed-word}
+use Rattle.write.proofs.Rounding.{rounded-exists, rounded-one, rounded-not-zero-nor-NaR, past-the-largest, before-the-smallest, rounded-negated, exact-written, written-one}
+use Rattle.write.proofs.Order.{rounding-keeps-order}
+use Rattle.write.proofs.Moves.{moved-to-the-same, strict-keeps, there-and-back, wider-keeps}
+use Rattle.promises.specs.Writing as promise
+use Rattle.promises.specs.Writing.{over, under, opposite, Chain}
+
+some-under : (v : Value) → 0 < under v
+unfolding under
+some-under v = unit-some (v .k +ℤ pos 307) .1
+
+-- what the contract says at a width from 2 to 64
+written : (n : ℕ) (rule : Rule) (v : Value) (r : Answer) → 2 ≤ n → n ≤ 64 → Writes n rule v r → IsWritten n rule (v .negative) (over v) (under v) r
+unfolding Writes over under
+written n rule v r lo hi x = answered (width-fits n lo hi) x
+
+pub rounded-is-the-nearest : promise.RoundedIsTheNearest
+unfolding promise.RoundedIsTheNearest IsWritten
+rounded-is-the-nearest n v r lo hi x = by r (written n Rule.Rounded v r lo hi x)
+  where
+    by : (r : Answer) → IsWritten n Rule.Rounded (v .negative) (over v) (under v) r → (w : ℕ) × (r ≡ Answer.Word w) × IsRounded n (v .negative) (over v) (under v) w
+    by (Answer.Word w) y = (w, refl, y)
+    by (Answer.Refused q) y = absurd y
+
+pub one-rounded-word : promise.OneRoundedWord
+unfolding promise.OneRoundedWord
+one-rounded-word n v lo hi =
+    let t = rounded-exists n lo hi (v .negative) (over v) (under v) (some-under v) in
+    (t .0, t .1, λ w' y. rounded-one n lo hi (v .negative) (over v) (under v) w' (t .0) (some-under v) y (t .1))
+
+-- a value that isn't zero
+module _ (v : Value) (some : 0 < v .m) where
+  over-some : 0 < over v
+  unfolding over
+  over-some = mul-pos some (unit-some (v .k +ℤ pos 307) .0)
+
+pub rounded-is-never-zero-nor-NaR : promise.RoundedIsNeverZeroNorNaR
+unfolding promise.RoundedIsNeverZeroNorNaR narWord
+rounded-is-never-zero-nor-NaR n v w lo hi some (zero q e) = absurd (omega (arith, q, over-some v some))
+rounded-is-never-zero-nor-NaR n v w lo hi some (other h x) = rounded-not-zero-nor-NaR n lo hi (v .negative) (over v) (under v) w x
+
+module _ (n : ℕ) (lo : 2 ≤ n) where
+  two : 2 ≤ 2 ^ (n - 1)
+  two = pow-mono {i = 1} {j = n - 1} (omega arith)
+
+pub past-the-largest-word : promise.PastTheLargest
+unfolding promise.PastTheLargest largest wordOf
+past-the-largest-word n v z w lo hi some is h (zero q e) = absurd (omega (arith, q, over-some v some))
+past-the-largest-word n v z w lo hi some is h (other p x) =
+    past-the-largest n lo hi (v .negative) z (over v) (under v) w (some-under v) is h x ∙ signed-word n lo hi (v .negative) (2 ^ (n - 1) - 1) (2 ^ (n - 1) - 1) (omega (arith, two n lo)) (omega (arith, two n lo)) refl
+
+pub before-the-smallest-word : promise.BeforeTheSmallest
+unfolding promise.BeforeTheSmallest smallest wordOf
+before-the-smallest-word n v z w lo hi some is h (zero q e) = absurd (omega (arith, q, over-some v some))
+before-the-smallest-word n v z w lo hi some is h (other p x) =
+    before-the-smallest n lo hi (v .negative) z (over v) (under v) w (some-under v) is h x ∙ signed-word n lo hi (v .negative) 1 1 (omega arith) (omega (arith, two n lo)) refl
+
+pub a-words-value-is-written-as-the-word : promise.AWordsValueIsWrittenAsTheWord
+unfolding promise.AWordsValueIsWrittenAsTheWord
+a-words-value-is-written-as-the-word n rule v w r lo hi x y = exact-written n lo hi rule (v .negative) (over v) (under v) w r (some-under v) x (written n rule v r lo hi y)
+
+-- an answer that gives a word isn't a refusal
+given : Answer → Type 0
+given (Answer.Word w) = Unit {0}
+given (Answer.Refused q) = ⊥
+
+pub strict-writing-keeps-the-value : promise.StrictWritingKeepsTheValue
+unfolding promise.StrictWritingKeepsTheValue Writes IsWritten IsSize given
+strict-writing-keeps-the-value n v w (through h x) = (x .z, x .is .means, sym (x .same))
+strict-writing-keeps-the-value n v w (refused h q) = absurd (subst given q tt)
+
+pub strict-refuses-only-where-there-is-no-word : promise.StrictRefusesOnlyWhereThereIsNoWord
+unfolding promise.StrictRefusesOnlyWhereThereIsNoWord IsWritten
+strict-refuses-only-where-there-is-no-word n v q lo hi x = written n Rule.Strict v (Answer.Refused q) lo hi x
+
+pub what-was-read-is-written-back : promise.WhatWasReadIsWrittenBack
+unfolding promise.WhatWasReadIsWrittenBack promise.AWordsValueIsWrittenAsTheWord Reads IsReading IsSize over under
+what-was-read-is-written-back n w rule s h m p r i x y =
+    let number = answered (word-passes n w i) x in
+    let v : Value = record { negative = s; m = m; k = h -ℤ pos p } in
+    a-words-value-is-written-as-the-word n rule v w r (i .least) (i .most) (record { z = number .v; is = record { word = i; means = number .means }; same = sym (number .size) }) y
+
+pub rounding-commutes-with-negation : promise.RoundingCommutesWithNegation
+unfolding promise.RoundingCommutesWithNegation IsWritten opposite over under
+rounding-commutes-with-negation n v w r lo hi x y =
+    let w-is = written n Rule.Rounded v (Answer.Word w) lo hi x in
+    written-one n lo hi Rule.Rounded (not (v .negative)) (over v) (under v) r (Answer.Word (negated n w)) (some-under v) (written n Rule.Rounded (opposite v) r lo hi y) (rounded-negated n lo hi (v .negative) (over v) (under v) w w-is)
+
+pub rounding-keeps-the-order : promise.RoundingKeepsOrder
+unfolding promise.RoundingKeepsOrder promise.NotGreater IsWritten
+rounding-keeps-the-order n u v x y lo hi h p q =
+    rounding-keeps-order n lo hi (u .negative) (v .negative) (over u) (under u) (over v) (under v) x y (some-under u) (some-under v) (written n Rule.Rounded u (Answer.Word x) lo hi p) (written n Rule.Rounded v (Answer.Word y) lo hi q) h
+
+-- ---- moves
+pub strict-moves-keep-the-value : promise.StrictMovesKeepTheValue
+unfolding promise.StrictMovesKeepTheValue
+strict-moves-keep-the-value n n' w w' x = let k = strict-keeps n n' w w' x in (k .to, k .same)
+
+pub wider-never-changes-nor-refuses : promise.WiderNeverChangesNorRefuses
+unfolding promise.WiderNeverChangesNorRefuses
+wider-never-changes-nor-refuses n k w rule r room i x = (wider-keeps n k w rule r room i x, zeros-appended n k w (i .least) room (i .fits))
+
+pub there-and-back-again : promise.ThereAndBack
+unfolding promise.ThereAndBack
+there-and-back-again n n' w w' r x y = there-and-back n n' w w' Rule.Strict r x y
+
+-- a chain keeps the value, however long it is
+chain-keeps : (ns : List ℕ) (n w m v : ℕ) → IsWord n w → Chain n w ns m v → IsWord m v × (takum m v ≡ takum n w)
+unfolding Chain
+chain-keeps [] n w m v i x = (subst (λ (m : ℕ). IsWord m v) (sym (x .0)) (subst (IsWord n) (sym (x .1)) i), ap (λ (m : ℕ). takum m v) (x .0) ∙ ap (takum n) (x .1))
+chain-keeps (n' ∷ ns) n w m v i x =
+    let k = strict-keeps n n' w (x .0) (x .1) in
+    let t = chain-keeps ns n' (x .0) m v (k .to) (x .2) in
+    (t .0, t .1 ∙ k .same)
+
+pub chains-come-home : promise.ChainsComeHome
+unfolding promise.ChainsComeHome
+chains-come-home n w ns m v r i x y =
+    let t = chain-keeps ns n w m v i x in
+    moved-to-the-same m n v w Rule.Strict r (t .0) i (sym (t .1)) y

@@ -1,0 +1,91 @@
+-- What the letter demands of writing and of moves, as statements about what the public contracts allow.
+use mathlib.Core.Path.{_≡_}
+use mathlib.Core.Bool.{Bool, false, not}
+use mathlib.Core.List.{List, [], _∷_}
+use Prim.Native.Nat.{ℕ, _+_, _*_, _^_, _≤_, _<_}
+use lib.IntN.{ℤ, pos, _+ℤ_, _-ℤ_}
+use Rattle.word.specs.declared.answer.Answer.{Answer}
+use Rattle.word.specs.declared.reading.Reading.{Reading}
+use Rattle.word.specs.declared.refusal.Refusal.{Refusal}
+use Rattle.word.specs.Takum.{real, takum}
+use Rattle.word.specs.Refusals.{IsWord}
+use Rattle.word.specs.Widths.{narWord, largest, smallest}
+use Rattle.word.specs.Reads.{num, den, IsSize, signedSize, Reads}
+use Rattle.word.specs.Orders.{signed, order, negated}
+use Rattle.write.specs.declared.value.Rule.{Rule}
+use Rattle.write.specs.declared.value.Value.{Value}
+use Rattle.write.specs.Writes.{HasValue, AtMost, IsRounded, IsExact, Writes, Moves}
+use Rattle.write.specs.Offers.{withSign}
+
+-- the size of an offered value as a fraction over and under, counted in 2^-307
+unfoldable pub over : Value → ℕ
+over v = v .m * num (v .k +ℤ pos 307)
+
+unfoldable pub under : Value → ℕ
+under v = den (v .k +ℤ pos 307)
+
+unfoldable pub opposite : Value → Value
+opposite v = record { negative = not (v .negative); m = v .m; k = v .k }
+
+-- ---- demand 2, writing
+-- Rounded writing is never refused at widths 2 to 64, and gives the nearest word, ties to the even word; zero gives the zero word.
+unfoldable pub RoundedIsTheNearest : Type 0
+RoundedIsTheNearest = (n : ℕ) (v : Value) (r : Answer) → 2 ≤ n → n ≤ 64 → Writes n Rule.Rounded v r → (w : ℕ) × (r ≡ Answer.Word w) × IsRounded n (v .negative) (over v) (under v) w
+
+-- there is such a word for every value, and only one
+unfoldable pub OneRoundedWord : Type 0
+OneRoundedWord = (n : ℕ) (v : Value) → 2 ≤ n → n ≤ 64 → (w : ℕ) × IsRounded n (v .negative) (over v) (under v) w × ((w' : ℕ) → IsRounded n (v .negative) (over v) (under v) w' → w' ≡ w)
+
+unfoldable pub RoundedIsNeverZeroNorNaR : Type 0
+RoundedIsNeverZeroNorNaR = (n : ℕ) (v : Value) (w : ℕ) → 2 ≤ n → n ≤ 64 → 0 < v .m → IsRounded n (v .negative) (over v) (under v) w → (w ≡ 0 → ⊥) × (w ≡ narWord n → ⊥)
+
+-- past either end the end word: the size z is that of the largest or of the smallest positive word
+unfoldable pub PastTheLargest : Type 0
+PastTheLargest = (n : ℕ) (v : Value) (z w : ℕ) → 2 ≤ n → n ≤ 64 → 0 < v .m → HasValue n false z (largest n) → z * under v ≤ over v → IsRounded n (v .negative) (over v) (under v) w → w ≡ withSign n (v .negative) (largest n)
+
+unfoldable pub BeforeTheSmallest : Type 0
+BeforeTheSmallest = (n : ℕ) (v : Value) (z w : ℕ) → 2 ≤ n → n ≤ 64 → 0 < v .m → HasValue n false z (smallest n) → over v ≤ z * under v → IsRounded n (v .negative) (over v) (under v) w → w ≡ withSign n (v .negative) (smallest n)
+
+-- a value that has a word is written as that word, by either rule
+unfoldable pub AWordsValueIsWrittenAsTheWord : Type 0
+AWordsValueIsWrittenAsTheWord = (n : ℕ) (rule : Rule) (v : Value) (w : ℕ) (r : Answer) → 2 ≤ n → n ≤ 64 → IsExact n (v .negative) (over v) (under v) w → Writes n rule v r → r ≡ Answer.Word w
+
+-- strict writing keeps the value: the word's value is z * 2^-307 with the sign, and z * 2^-307 is m * 2^k
+unfoldable pub StrictWritingKeepsTheValue : Type 0
+StrictWritingKeepsTheValue = (n : ℕ) (v : Value) (w : ℕ) → Writes n Rule.Strict v (Answer.Word w) → (z : ℕ) × (takum n w ≡ real (signedSize (v .negative) z)) × IsSize (v .m) (v .k) z
+
+-- and is refused only where no word has the value, as INEXACT
+unfoldable pub StrictRefusesOnlyWhereThereIsNoWord : Type 0
+StrictRefusesOnlyWhereThereIsNoWord = (n : ℕ) (v : Value) (q : Refusal) → 2 ≤ n → n ≤ 64 → Writes n Rule.Strict v (Answer.Refused q) → (q ≡ Refusal.Inexact) × ((w : ℕ) → IsExact n (v .negative) (over v) (under v) w → ⊥)
+
+-- what was read is written back as the word it was read from, by either rule
+unfoldable pub WhatWasReadIsWrittenBack : Type 0
+WhatWasReadIsWrittenBack = (n w : ℕ) (rule : Rule) (s : Bool) (h : ℤ) (m p : ℕ) (r : Answer) → IsWord n w → Reads n w (Reading.Number s h m p) → Writes n rule (record { negative = s; m = m; k = h -ℤ pos p }) r → r ≡ Answer.Word w
+
+unfoldable pub RoundingCommutesWithNegation : Type 0
+RoundingCommutesWithNegation = (n : ℕ) (v : Value) (w : ℕ) (r : Answer) → 2 ≤ n → n ≤ 64 → Writes n Rule.Rounded v (Answer.Word w) → Writes n Rule.Rounded (opposite v) r → r ≡ Answer.Word (negated n w)
+
+-- the value u is at most the value v
+unfoldable pub NotGreater : Value → Value → Type 0
+NotGreater u v = AtMost (u .negative) (over u) (under u) (v .negative) (over v) (under v)
+
+unfoldable pub RoundingKeepsOrder : Type 0
+RoundingKeepsOrder = (n : ℕ) (u v : Value) (x y : ℕ) → 2 ≤ n → n ≤ 64 → NotGreater u v → Writes n Rule.Rounded u (Answer.Word x) → Writes n Rule.Rounded v (Answer.Word y) → order (signed n x) (signed n y) ≡ pos 1 → ⊥
+
+-- ---- demand 3, moves
+unfoldable pub StrictMovesKeepTheValue : Type 0
+StrictMovesKeepTheValue = (n n' w w' : ℕ) → Moves n n' Rule.Strict w (Answer.Word w') → IsWord n' w' × (takum n' w' ≡ takum n w)
+
+unfoldable pub WiderNeverChangesNorRefuses : Type 0
+WiderNeverChangesNorRefuses = (n k w : ℕ) (rule : Rule) (r : Answer) → n + k ≤ 64 → IsWord n w → Moves n (n + k) rule w r → (r ≡ Answer.Word (w * 2 ^ k)) × (takum (n + k) (w * 2 ^ k) ≡ takum n w)
+
+unfoldable pub ThereAndBack : Type 0
+ThereAndBack = (n n' w w' : ℕ) (r : Answer) → Moves n n' Rule.Strict w (Answer.Word w') → Moves n' n Rule.Strict w' r → r ≡ Answer.Word w
+
+-- strict moves to these widths in turn, none refused, take the word w of n bits to the word v of m bits
+unfoldable pub Chain : ℕ → ℕ → List ℕ → ℕ → ℕ → Type 0
+Chain n w [] m v = (m ≡ n) × (v ≡ w)
+Chain n w (n' ∷ ns) m v = (w' : ℕ) × Moves n n' Rule.Strict w (Answer.Word w') × Chain n' w' ns m v
+
+unfoldable pub ChainsComeHome : Type 0
+ChainsComeHome = (n w : ℕ) (ns : List ℕ) (m v : ℕ) (r : Answer) → IsWord n w → Chain n w ns m v → Moves m n Rule.Strict v r → r ≡ Answer.Word w

@@ -1,4 +1,4 @@
-// The demands of the letter, proved from the public contracts of the other crates alone.
+// The demands of the letter, proved from the contracts and the laws of words.
 use word::answer::Answer;
 use word::order::negate;
 use word::width::Width;

@@ -1,4 +1,5 @@
--- The laws of words, one idea a file.
+-- The laws of words, one idea a file. Casts is for the crates that stand on this one and make a sign and a size of a signed number
+-- (`census` and `figures` print them so); nothing in this crate uses it.
 pub mod Integers
 pub mod Powers
 pub mod Heads

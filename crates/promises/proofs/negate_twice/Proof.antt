@@ -1,4 +1,4 @@
--- `negate_twice` meets its contract, by the contract of `negate` alone. Assumes nothing.
+-- `negate_twice` meets its contract, by the contract of `negate` and the laws of words. Assumes nothing.
 use mathlib.Core.Path.{_≡_, refl, sym, ap, _∙_, subst}
 use Prim.Native.Nat.{ℕ}
 use native.Mathlib.Omega.{arith}

@@ -17,13 +17,6 @@ shl-below {x} a b c h q = subst (λ (n : ℕ). x * 2 ^ b < 2 ^ n) q (shl-lt a b 
 pub ones-shr : (a b c : ℕ) → a + b ≡ c → (2 ^ c - 1) / 2 ^ b ≡ 2 ^ a - 1
 ones-shr a b c q = ap (λ (n : ℕ). (2 ^ n - 1) / 2 ^ b) (sym q) ∙ ap (λ (n : ℕ). n / 2 ^ b) (ones-split a b) ∙ high (2 ^ a - 1) b (ones-lt b)
 
--- a number is below a power of two exactly where a shift by its exponent leaves nothing
-pub shr-none : (n w : ℕ) → w / 2 ^ n ≡ 0 → w < 2 ^ n
-shr-none n w h = omega (arith, div-lt-iff-lt-mul {x = w} {y = 1} (pow-pos n) .0 (omega (arith, h)))
-
-pub shr-some : (n w : ℕ) → (w / 2 ^ n ≡ 0 → ⊥) → 2 ^ n ≤ w
-shr-some n w f = le-of-suc-le-suc (lt-of-not-le (λ (h : w < 2 ^ n). f (div-eq-of-lt h)))
-
 -- 1 << l in a number of b bits
 pub one-shl : (b l : ℕ) → l < b → 1 * 2 ^ l % 2 ^ b ≡ 2 ^ l
 one-shl b l h = shl-exact {a = 1} 1 l b (lit< tt) (omega (arith, h)) ∙ one-mul (2 ^ l)

@@ -48,7 +48,7 @@ impl Width {
     {
         let n = self.bits;
         if n < 64 {
-            if word >> n == 0 {
+            if word < power_of_two(n) {
                 return Verdict::Through;
             }
             return Verdict::Refused(Refusal::Stray);

@@ -44,11 +44,12 @@ returns c = refused (told (c .before .before .before) (c .before .verdict .given
 enum-told : tie.Need-enum-told
 enum-told c = search needs
 
+-- both are words, whichever is asked for: words in the wrong order would be refused where the answer is given and not here
 as-signed-requires : tie.Need-as-signed-requires
-as-signed-requires c κs = words-in c .0
+as-signed-requires c κs = let x = words-in c .0 in let y = words-in c .1 in search needs
 
 as-signed-requires-2 : tie.Need-as-signed-requires-2
-as-signed-requires-2 c κs = words-in (c .before) .1
+as-signed-requires-2 c κs = let x = words-in (c .before) .0 in let y = words-in (c .before) .1 in search needs
 
 sign-of-difference-requires : tie.Need-sign-of-difference-requires
 sign-of-difference-requires c κs = search needs

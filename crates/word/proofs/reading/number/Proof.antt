@@ -130,8 +130,12 @@ unfolding IsReading S
 returns c = let known = c .before .before in
     same-number _ _ false (held (known .before)) (ap₂ (λ (x y : ℕ). x + y) (c .power-of-two .ensures ∙ ap (λ (x : ℕ). 2 ^ x) (count-is (known .before .before .before))) (fraction-is known)) (count-is (known .before .before .before)) (positive-number (c .before .before .before .before .before .before .before .before .args .n) (c .before .before .before .before .before .before .before .before .args .t) (c .before .before .before .before .before .before .before .before .pre .0) (c .before .before .before .before .before .before .before .before .pre .1) (c .before .before .before .before .before .before .before .before .pre .2) (c .before .if1 .taken))
 
+-- both exponents fit, so that the wrong one would be refused where the number is given and not here
 sub-t16 : tie.Need-sub-t16
-sub-t16 c = exponent-fits (c .before .before .before) (pos 0) (lit≤ tt)
+sub-t16 c =
+    let right = exponent-fits (c .before .before .before) (pos 0) (lit≤ tt) in
+    let wrong = exponent-fits (c .before .before .before) (negsuc 0) (lit≤ tt) in
+    search needs
 
 power-of-two-requires-2 : tie.Need-power-of-two-requires-2
 power-of-two-requires-2 c κs = search needs

@@ -1,35 +1,73 @@
 -- The demands that specs/Demands.antt states. Assumes nothing.
-use mathlib.Core.Path.{_≡_, refl, sym, ap, _∙_, subst}
+use mathlib.Core.Path.{_≡_, refl, ap, _∙_}
 use mathlib.Core.Logic.{_⊎_, ⊎-elim}
 use Prim.Native.Nat.{ℕ, _^_, _≤_, _<_}
-use native.Mathlib.Decide.{decLt, decLe}
-use native.Mathlib.Nat.{lt-of-not-le}
+use native.Mathlib.Decide.{decLt}
 use native.Mathlib.Omega.{arith}
-use lib.IntN.{ℤ, pos, negsuc}
 use Rattle.word.specs.declared.order.Comparison.{Comparison}
-use Rattle.word.specs.declared.reading.Reading.{Reading}
 use Rattle.word.specs.declared.refusal.Refusal.{Refusal}
 use Rattle.word.specs.declared.refusal.Verdict.{Verdict}
 use Rattle.word.specs.Takum.{takum}
-use Rattle.word.specs.Refusals.{widthTest, strayTest, _then_, IsWord, through, refused}
+use Rattle.word.specs.Refusals.{numberOf, widthTest, strayTest, _then_, Decided}
+use Rattle.word.specs.Widths.{Makes, GivesWord, GivesLimit}
 use Rattle.word.specs.Reads.{Reads}
 use Rattle.word.specs.Orders.{Compares, Negates, negated}
-use Rattle.word.proofs.Verdicts.{width-fits, width-short, width-long, stray-bit, word-passes, words-pass, answered, refused-as}
-use Rattle.word.proofs.Values.{order-of-values, order-same, NaR-below, negation-negates, words-differ}
+use Rattle.word.proofs.Powers.{not-more}
+use Rattle.word.proofs.Verdicts.{width-fits, width-short, width-long, stray-fits, stray-bit, word-passes, words-pass, answered, refused-as}
+use Rattle.word.proofs.Values.{order-of-values, order-same, NaR-below, above-NaR, negated-word, negation-negates, words-differ}
 use Rattle.word.proofs.Binades.{meaning-one}
-use Rattle.promises.specs.Demands.{RefusedAs, WidthRefused, StrayRefused, ReadingIsTheDefinition, ReadingTellsWordsApart, ComparisonIsTheOrderOfValues, NaRIsBelowEveryValue, EveryWordEqualsItself, NegationNegates}
+use Rattle.promises.specs.Demands.{RefusedAs, RefusesWidths, RefusesStrays, WidthRefused, StrayRefused, ReadingIsTheDefinition, ReadingTellsWordsApart, ComparisonIsTheOrderOfValues, NaRIsBelowEveryValue, EveryValueIsAboveNaR, EveryWordEqualsItself, NegationNegates}
 
 -- ---- demand 1
-width-decides : (n w : ℕ) → (n < 2) ⊎ (64 < n) → widthTest n then strayTest n w ≡ Verdict.Refused Refusal.Width
-width-decides n w h = ap (λ (v : Verdict). v then strayTest n w) (⊎-elim (width-short n) (λ (l : 64 < n). width-long n (omega (arith, l)) l) h)
+-- where the tests refuse, the contract hands back the refusal with its number
+handed-back : {A Q : Type 0} {R : Refusal → A} {v : Verdict} {a : A} (q : Refusal) → v ≡ Verdict.Refused q → Decided v (λ p. a ≡ R p) Q → RefusedAs A R (numberOf q) a
+handed-back q h x = record { q = q; is = refused-as q h x; known = refl }
+
+bad-width : (n : ℕ) → (n < 2) ⊎ (64 < n) → widthTest n ≡ Verdict.Refused Refusal.Width
+bad-width n h = ⊎-elim (width-short n) (λ (l : 64 < n). width-long n (omega (arith, l)) l) h
+
+-- with tests of words after it
+bad-width-of-word : (n w : ℕ) → (n < 2) ⊎ (64 < n) → widthTest n then strayTest n w ≡ Verdict.Refused Refusal.Width
+bad-width-of-word n w h = rw (bad-width n h)
+
+bad-width-of-words : (n x y : ℕ) → (n < 2) ⊎ (64 < n) → widthTest n then strayTest n x then strayTest n y ≡ Verdict.Refused Refusal.Width
+bad-width-of-words n x y h = rw (bad-width n h)
 
 pub width-refused : WidthRefused
-unfolding WidthRefused Reads
-width-refused n w a h x = record { q = Refusal.Width; is = refused-as Refusal.Width (width-decides n w h) x; known = refl }
+unfolding RefusesWidths Makes GivesWord GivesLimit Reads Compares Negates
+width-refused = record {
+  test = λ n a h x. record { q = Refusal.Width; is = x ∙ bad-width n h; known = refl };
+  new = λ n a h x. handed-back Refusal.Width (bad-width n h) x;
+  words = λ f n a h x. handed-back Refusal.Width (bad-width n h) x;
+  limit = λ n a h x. handed-back Refusal.Width (bad-width n h) x;
+  read = λ w n a h x. handed-back Refusal.Width (bad-width-of-word n w h) x;
+  compare = λ u v n a h x. handed-back Refusal.Width (bad-width-of-words n u v h) x;
+  negate = λ w n a h x. handed-back Refusal.Width (bad-width-of-word n w h) x;
+}
+
+stray-word : (n w : ℕ) → 2 ≤ n → n ≤ 64 → 2 ^ n ≤ w → widthTest n then strayTest n w ≡ Verdict.Refused Refusal.Stray
+stray-word n w lo hi h = rw (width-fits n lo hi) (stray-bit n w h)
+
+stray-first : (n x y : ℕ) → 2 ≤ n → n ≤ 64 → 2 ^ n ≤ x → widthTest n then strayTest n x then strayTest n y ≡ Verdict.Refused Refusal.Stray
+stray-first n x y lo hi h = rw (stray-word n x lo hi h)
+
+-- the first word may be a stray one too
+stray-second : (n x y : ℕ) → 2 ≤ n → n ≤ 64 → 2 ^ n ≤ y → widthTest n then strayTest n x then strayTest n y ≡ Verdict.Refused Refusal.Stray
+stray-second n x y lo hi h = by (decLt x (2 ^ n))
+  where
+    by : Dec (x < 2 ^ n) → widthTest n then strayTest n x then strayTest n y ≡ Verdict.Refused Refusal.Stray
+    by (yes l) = rw (width-fits n lo hi, stray-fits n x l) (stray-bit n y h)
+    by (no f) = stray-first n x y lo hi (not-more f)
 
 pub stray-refused : StrayRefused
-unfolding StrayRefused Reads
-stray-refused n w a lo hi h x = record { q = Refusal.Stray; is = refused-as Refusal.Stray (ap (λ (v : Verdict). v then strayTest n w) (width-fits n lo hi) ∙ stray-bit n w h) x; known = refl }
+unfolding RefusesStrays Reads Compares Negates
+stray-refused = record {
+  test-word = λ n w a lo hi h x. record { q = Refusal.Stray; is = x ∙ stray-bit n w h; known = refl };
+  read = λ n w a lo hi h x. handed-back Refusal.Stray (stray-word n w lo hi h) x;
+  compare-first = λ y n w a lo hi h x. handed-back Refusal.Stray (stray-first n w y lo hi h) x;
+  compare-second = λ y n w a lo hi h x. handed-back Refusal.Stray (stray-second n y w lo hi h) x;
+  negate = λ n w a lo hi h x. handed-back Refusal.Stray (stray-word n w lo hi h) x;
+}
 
 -- ---- demand 2, reading
 pub reading-is-the-definition : ReadingIsTheDefinition
@@ -49,10 +87,14 @@ pub NaR-is-below-every-value : NaRIsBelowEveryValue
 unfolding NaRIsBelowEveryValue Compares
 NaR-is-below-every-value n x y v a ix iy hx hy c = answered (words-pass n x y ix iy) c ∙ ap Comparison.Is (NaR-below n x y ix iy v hx hy)
 
+pub every-value-is-above-NaR : EveryValueIsAboveNaR
+unfolding EveryValueIsAboveNaR Compares
+every-value-is-above-NaR n x y v a ix iy hx hy c = answered (words-pass n x y ix iy) c ∙ ap Comparison.Is (above-NaR n x y ix iy v hx hy)
+
 pub every-word-equals-itself : EveryWordEqualsItself
 unfolding EveryWordEqualsItself Compares
 every-word-equals-itself n w a i c = answered (words-pass n w w i i) c ∙ ap Comparison.Is (order-same _)
 
 pub negation-negates-the-value : NegationNegates
 unfolding NegationNegates Negates
-negation-negates-the-value n w a i x = (negated n w, answered (word-passes n w i) x, negation-negates n w i)
+negation-negates-the-value n w a i x = (negated n w, answered (word-passes n w i) x, negated-word n w i, negation-negates n w i)

@@ -4,13 +4,12 @@ use mathlib.Core.Bool.{Bool, true, false, _&&_}
 use mathlib.Core.List.{List, [], _∷_}
 use Prim.Native.Nat.{ℕ, _^_}
 use lib.Dec.{T, leb, ltb, leb→le, ltb→lt}
-use Rattle.word.specs.declared.reading.Reading.{Reading}
 use Rattle.word.specs.Takum.{Takum, real, NaR, power, regimeOf, characteristicOf, S, D, R, r, p, C, F, c, e, value, meaning, N, padded, takum, fractionBits}
 use Rattle.word.specs.Refusals.{IsWord}
 use Rattle.word.specs.Reads.{signedSize, IsReading}
 use Rattle.word.proofs.Heads.{both}
 use Rattle.word.proofs.Integers.{same-integer, same-integer-is}
-use Rattle.promises.specs.Figures.{Figure, reads, plus, minus, figures, Holds, AllHold}
+use Rattle.promises.specs.Figures.{Figure, reads, below, plus, minus, figures, Holds, AllHold}
 use Rattle.promises.specs.Demands.{ReadingIsTheDefinition}
 use Rattle.promises.proofs.Demands.{reading-is-the-definition}
 
@@ -59,5 +58,5 @@ all-hold [] t = tt
 all-hold (f ∷ fs) t = let x = both (passes f) (all-pass fs) t in (holds f (x .0), all-hold fs (x .1))
 
 pub figures-hold : AllHold figures
-unfolding figures plus minus signedSize power same is-word passes all-pass regimeOf characteristicOf S D R r p C F c e value meaning N padded takum
+unfolding figures below plus minus signedSize power same is-word passes all-pass regimeOf characteristicOf S D R r p C F c e value meaning N padded takum
 figures-hold = all-hold figures tt

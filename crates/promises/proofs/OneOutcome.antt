@@ -1,5 +1,5 @@
 -- Two outcomes that a public contract allows are equal, for each public call. Assumes nothing.
-use mathlib.Core.Path.{_≡_, refl, sym, ap, _∙_, subst}
+use mathlib.Core.Path.{_≡_, refl, sym, ap, _∙_}
 use Prim.Native.Nat.{ℕ, _*_, _^_, _≤_}
 use native.Mathlib.Nat.{le-antisymm, zero-lt-suc}
 use lib.IntN.{pos, natAbs, _+ℤ_}
@@ -22,6 +22,7 @@ use Rattle.write.specs.declared.value.Value.{Value}
 use Rattle.write.specs.Writes.{isNegative, IsMoved, Writes, Moves}
 use Rattle.write.proofs.Exponents.{unit-some}
 use Rattle.write.proofs.Rounding.{written-one}
+use Rattle.promises.specs.Demands.{ComesBack}
 
 -- a contract that decides by a verdict allows one outcome, where it does for input that is let through
 module _ {A : Type 0} (R : Refusal → A) (Q : A → Type 0) (one : (a b : A) → Q a → Q b → a ≡ b) where
@@ -67,6 +68,10 @@ compares-one n x y a b = decided-one Comparison.Refused (λ z. z ≡ Comparison.
 pub negates-one : (n w : ℕ) (a b : Answer) → Negates n w a → Negates n w b → a ≡ b
 unfolding Negates
 negates-one n w a b = decided-one Answer.Refused (λ z. z ≡ Answer.Word (negated n w)) (given (Answer.Word (negated n w))) a b
+
+pub comes-back-one : (n w : ℕ) (a b : Answer) → ComesBack n w a → ComesBack n w b → a ≡ b
+unfolding ComesBack
+comes-back-one n w a b = decided-one Answer.Refused (λ z. z ≡ Answer.Word w) (given (Answer.Word w)) a b
 
 -- ---- writing and moving
 pub writes-one : (n : ℕ) (rule : Rule) (v : Value) (a b : Answer) → Writes n rule v a → Writes n rule v b → a ≡ b

@@ -7,23 +7,46 @@ use Rattle.word.specs.declared.answer.Answer.{Answer}
 use Rattle.word.specs.declared.order.Comparison.{Comparison}
 use Rattle.word.specs.declared.reading.Reading.{Reading}
 use Rattle.word.specs.declared.refusal.Refusal.{Refusal}
-use Rattle.word.specs.Takum.{Takum, real, NaR, takum, fractionBits}
+use Rattle.word.specs.declared.refusal.Verdict.{Verdict}
+use Rattle.word.specs.declared.width.Limit.{Limit}
+use Rattle.word.specs.declared.width.Made.{Made}
+use Rattle.word.specs.Takum.{real, NaR, takum, fractionBits}
 use Rattle.word.specs.Refusals.{numberOf, widthTest, strayTest, _then_, IsWord, Decided}
+use Rattle.word.specs.Widths.{Makes, GivesWord, GivesLimit}
 use Rattle.word.specs.Reads.{IsReading, Reads}
 use Rattle.word.specs.Orders.{order, opposite, Compares, Negates}
 
--- ---- demand 1: bad input gets the refusal number that the papers fix
+-- ---- demand 1: bad input gets the refusal number that the papers fix, from every call
 -- an answer that hands back the refusal with this number and nothing else
 pub record RefusedAs (A : Type 0) (refused : Refusal → A) (number : ℕ) (answer : A) : Type 0 where
   pub q : Refusal
   pub is : answer ≡ refused q
   pub known : numberOf q ≡ number
 
-unfoldable pub WidthRefused : Type 0
-WidthRefused = (n w : ℕ) (a : Reading) → (n < 2) ⊎ (64 < n) → Reads n w a → RefusedAs Reading Reading.Refused 1 a
+-- a call with this contract refuses every number that isn't a width
+unfoldable pub RefusesWidths : {A : Type 0} → (Refusal → A) → (ℕ → A → Type 0) → Type 0
+RefusesWidths {A} refused Allows = (n : ℕ) (a : A) → (n < 2) ⊎ (64 < n) → Allows n a → RefusedAs A refused 1 a
 
-unfoldable pub StrayRefused : Type 0
-StrayRefused = (n w : ℕ) (a : Reading) → 2 ≤ n → n ≤ 64 → 2 ^ n ≤ w → Reads n w a → RefusedAs Reading Reading.Refused 2 a
+-- a call with this contract refuses every word that has a bit at or above its width
+unfoldable pub RefusesStrays : {A : Type 0} → (Refusal → A) → (ℕ → ℕ → A → Type 0) → Type 0
+RefusesStrays {A} refused Allows = (n w : ℕ) (a : A) → 2 ≤ n → n ≤ 64 → 2 ^ n ≤ w → Allows n w a → RefusedAs A refused 2 a
+
+pub record WidthRefused : Type 0 where
+  pub test : RefusesWidths Verdict.Refused (λ n a. a ≡ widthTest n)
+  pub new : RefusesWidths Made.Refused Makes
+  -- largest, smallest and NaR word
+  pub words : (f : ℕ → ℕ) → RefusesWidths Answer.Refused (GivesWord f)
+  pub limit : RefusesWidths Limit.Refused GivesLimit
+  pub read : (w : ℕ) → RefusesWidths Reading.Refused (λ n. Reads n w)
+  pub compare : (x y : ℕ) → RefusesWidths Comparison.Refused (λ n. Compares n x y)
+  pub negate : (w : ℕ) → RefusesWidths Answer.Refused (λ n. Negates n w)
+
+pub record StrayRefused : Type 0 where
+  pub test-word : RefusesStrays Verdict.Refused (λ n w a. a ≡ strayTest n w)
+  pub read : RefusesStrays Reading.Refused Reads
+  pub compare-first : (y : ℕ) → RefusesStrays Comparison.Refused (λ n x. Compares n x y)
+  pub compare-second : (x : ℕ) → RefusesStrays Comparison.Refused (λ n y. Compares n x y)
+  pub negate : RefusesStrays Answer.Refused Negates
 
 -- ---- demand 2, reading: at widths 2 to 64 the reading of a word is never refused, and is the value that Definition 2 gives
 unfoldable pub ReadingIsTheDefinition : Type 0
@@ -40,11 +63,14 @@ ComparisonIsTheOrderOfValues = (n x y : ℕ) (u v : ℤ) (a : Comparison) → Is
 unfoldable pub NaRIsBelowEveryValue : Type 0
 NaRIsBelowEveryValue = (n x y : ℕ) (v : ℤ) (a : Comparison) → IsWord n x → IsWord n y → takum n x ≡ NaR → takum n y ≡ real v → Compares n x y a → a ≡ Comparison.Is (negsuc 0)
 
+unfoldable pub EveryValueIsAboveNaR : Type 0
+EveryValueIsAboveNaR = (n x y : ℕ) (v : ℤ) (a : Comparison) → IsWord n x → IsWord n y → takum n x ≡ real v → takum n y ≡ NaR → Compares n x y a → a ≡ Comparison.Is (pos 1)
+
 unfoldable pub EveryWordEqualsItself : Type 0
 EveryWordEqualsItself = (n w : ℕ) (a : Comparison) → IsWord n w → Compares n w w a → a ≡ Comparison.Is (pos 0)
 
 unfoldable pub NegationNegates : Type 0
-NegationNegates = (n w : ℕ) (a : Answer) → IsWord n w → Negates n w a → (v : ℕ) × (a ≡ Answer.Word v) × (takum n v ≡ opposite (takum n w))
+NegationNegates = (n w : ℕ) (a : Answer) → IsWord n w → Negates n w a → (v : ℕ) × (a ≡ Answer.Word v) × IsWord n v × (takum n v ≡ opposite (takum n w))
 
 -- a word negated twice
 unfoldable pub ComesBack : ℕ → ℕ → Answer → Type 0

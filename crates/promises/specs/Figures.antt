@@ -1,13 +1,17 @@
--- The figures of paper 01 that are marked P, as one table under one claim.
-use mathlib.Core.Bool.{Bool, true, false}
+-- The figures of paper 01 that are marked P, as far as they are about reading, as one table under one claim.
+use mathlib.Core.Bool.{true, false}
 use mathlib.Core.List.{List, [], _∷_}
 use Prim.Native.Nat.{ℕ, _*_}
-use lib.IntN.{ℤ, pos, negsuc, _+ℤ_}
+use lib.IntN.{ℤ, pos, negℤ, _+ℤ_}
 use Rattle.word.specs.declared.reading.Reading.{Reading}
 use Rattle.word.specs.Takum.{Takum, real, NaR, power, fractionBits}
 use Rattle.word.specs.Reads.{signedSize, IsReading, Reads}
 
--- plus or minus M * 2^k, and the exponents k below 0
+-- -k, for the exponents below 0
+unfoldable pub below : ℕ → ℤ
+below k = negℤ (pos k)
+
+-- plus or minus M * 2^k
 unfoldable pub plus : ℕ → ℤ → Takum
 plus M k = real (signedSize false (M * power (k +ℤ pos 307)))
 
@@ -22,14 +26,16 @@ unfoldable pub figures : List Figure
 figures =
     reads 16 0x4000 (plus 1 (pos 0))
     ∷ reads 16 0xC000 (minus 1 (pos 0))
-    ∷ reads 16 0x4400 (plus 3 (negsuc 0))
-    ∷ reads 16 0xBC00 (minus 3 (negsuc 0))
-    ∷ reads 16 0x3800 (plus 1 (negsuc 0))
-    ∷ reads 16 0x0001 (plus 17 (negsuc 258))
+    ∷ reads 16 0x4400 (plus 3 (below 1))
+    ∷ reads 16 0xBC00 (minus 3 (below 1))
+    ∷ reads 16 0x3800 (plus 1 (below 1))
+    ∷ reads 16 0x0001 (plus 17 (below 259))
     ∷ reads 16 0x7FFF (plus 31 (pos 250))
     ∷ reads 16 0x8000 NaR
+    ∷ reads 16 0x5A00 (plus 512 (pos 0))
+    ∷ reads 16 0x5B00 (plus 1024 (pos 0))
     ∷ reads 8 0x7F (plus 1 (pos 239))
-    ∷ reads 8 0x01 (plus 1 (negsuc 238))
+    ∷ reads 8 0x01 (plus 1 (below 239))
     ∷ []
 
 -- whatever reading the contract allows is the figure's

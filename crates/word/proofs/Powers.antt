@@ -1,11 +1,15 @@
--- Powers of two by the sum of their exponents, the exponents being known only by an equation. Assumes nothing.
+-- Powers of two by the sum of their exponents, the exponents being known only by an equation, and one fact of order. Assumes nothing.
 use mathlib.Core.Path.{_≡_, sym, ap, _∙_, subst}
 use Prim.Native.Nat.{ℕ, zero, suc, _+_, _-_, _*_, _/_, _%_, _^_, _≤_, _<_}
-use native.Mathlib.Nat.{div-lt-iff-lt-mul, div-eq-of-lt, lt-of-not-le, le-of-suc-le-suc, one-mul}
+use native.Mathlib.Nat.{lt-of-not-le, le-of-suc-le-suc, one-mul}
 use native.Mathlib.Omega.{arith}
 use lib.Count.{leadingZeros, leading-top}
 use lib.Dec.{lit<}
 use lib.Pow.{pow-add, pow-pos, shl-lt, shl-exact, high, ones-split, ones-lt}
+
+-- not less, so at most
+pub not-more : {a b : ℕ} → ¬ (a < b) → b ≤ a
+not-more f = le-of-suc-le-suc (lt-of-not-le f)
 
 pub pow-sum : (a b c : ℕ) → a + b ≡ c → 2 ^ a * 2 ^ b ≡ 2 ^ c
 pow-sum a b c h = sym (pow-add 2 a b) ∙ ap (λ (x : ℕ). 2 ^ x) h

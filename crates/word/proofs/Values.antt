@@ -7,7 +7,7 @@ use Prim.Native.Nat.{ℕ, zero, suc, _+_, _-_, _*_, _^_, _≤_, _<_, zero-le}
 use native.Mathlib.Nat.{zero-lt-suc, lt-of-lt-of-le, lt-of-not-le, le-of-suc-le-suc, le-of-eq, le-of-lt, eq-or-lt-of-le, mul-lt-mul-of-pos-right, zero-add, le-refl, le-antisymm, lt-of-le-of-lt, mod-lt}
 use native.Mathlib.Decide.{decLt}
 use native.Mathlib.Omega.{arith}
-use borrow.Author.Tests.{lt-ltb, le-ltb, ltb-false}
+use borrow.Author.Tests.{lt-ltb, le-ltb, ltb-true, ltb-false}
 use lib.Dec.{leb, ltb, leb·suc-zero, leb·suc-suc, lit<}
 use lib.IntN.{ℤ, pos, negsuc, negℤ, natAbs, negℤ-negℤ, pos-ne-negsuc}
 use lib.Pow.{pow-pos}
@@ -18,7 +18,7 @@ use Rattle.word.specs.Orders.{signed, order, negated, opposite}
 use Rattle.word.specs.Refusals.{IsWord}
 use Rattle.word.proofs.Powers.{pow-sum, shl-below}
 use Rattle.word.proofs.Sizes.{size, size-lt, size-above, size-below}
-use Rattle.word.proofs.Signed.{signed-low, signed-high, negated-zero, negated-other, order-below, order-equal}
+use Rattle.word.proofs.Signed.{signed-low, signed-high, negated-zero, negated-other, order-below, order-above, order-equal}
 use Rattle.word.proofs.Words.{Lies, at-zero, above, at-NaR, under, lies, takum-zero, takum-positive, takum-NaR, takum-negative}
 
 valueOf : Takum → ℤ → ℤ
@@ -164,6 +164,12 @@ unordered (pos a) (negsuc b) h g = absurd (true≢false g)
 unordered (negsuc a) (pos b) h g = absurd (true≢false h)
 unordered (negsuc a) (negsuc b) h g = ap negsuc (sym (equal b a h g))
 
+one-way : (a b : ℤ) → ltZ a b ≡ true → ltZ b a ≡ false
+one-way (pos a) (pos b) h = le-ltb b a (le-of-lt (ltb-true a b h))
+one-way (pos a) (negsuc b) h = absurd (true≢false (sym h))
+one-way (negsuc a) (pos b) h = refl
+one-way (negsuc a) (negsuc b) h = le-ltb a b (le-of-lt (ltb-true b a h))
+
 order-zero : (a b : ℤ) → order a b ≡ pos 0 → a ≡ b
 unfolding order
 order-zero a b h = unordered a b (first (ltZ a b) (ltZ b a) h) (second (ltZ a b) (ltZ b a) h)
@@ -216,8 +222,8 @@ module _ (n x y : ℕ) (ix : IsWord n x) (iy : IsWord n y) where
       fy = form n y iy (real-word y b iy hb)
 
   -- NaR is below every value
-  pub NaR-below : (b : ℤ) → takum n x ≡ NaR → takum n y ≡ real b → order (signed n x) (signed n y) ≡ negsuc 0
-  NaR-below b h hb = order-below (signed n x) (signed n y) (ap₂ ltZ least (fy .word) ∙ by (fy .negative))
+  NaR-lt : (b : ℤ) → takum n x ≡ NaR → takum n y ≡ real b → ltZ (signed n x) (signed n y) ≡ true
+  NaR-lt b h hb = ap₂ ltZ least (fy .word) ∙ by (fy .negative)
     where
       fy : Form n y
       fy = form n y iy (real-word y b iy hb)
@@ -228,6 +234,9 @@ module _ (n x y : ℕ) (ix : IsWord n x) (iy : IsWord n y) where
       by : (s : Bool) → ltZ (negℤ (pos (2 ^ (n - 1)))) (signedSize s (fy .v)) ≡ true
       by s = below-all (2 ^ (n - 1)) s (fy .v) (fy .bound)
 
+  pub NaR-below : (b : ℤ) → takum n x ≡ NaR → takum n y ≡ real b → order (signed n x) (signed n y) ≡ negsuc 0
+  NaR-below b h hb = order-below (signed n x) (signed n y) (NaR-lt b h hb)
+
   -- two words have two meanings
   pub words-differ : takum n x ≡ takum n y → x ≡ y
   words-differ h = by (takum n x) refl
@@ -235,6 +244,10 @@ module _ (n x y : ℕ) (ix : IsWord n x) (iy : IsWord n y) where
       by : (t : Takum) → takum n x ≡ t → x ≡ y
       by (real z) q = signed-inj n x y ix iy (order-zero (signed n x) (signed n y) (order-of-values z z q (sym h ∙ q) ∙ order-same z))
       by NaR q = NaR-word n x ix q ∙ sym (NaR-word n y iy (sym h ∙ q))
+
+-- every value is above NaR
+pub above-NaR : (n x y : ℕ) → IsWord n x → IsWord n y → (a : ℤ) → takum n x ≡ real a → takum n y ≡ NaR → order (signed n x) (signed n y) ≡ pos 1
+above-NaR n x y ix iy a ha h = let below = NaR-lt n y x iy ix a h ha in order-above (signed n x) (signed n y) (one-way (signed n y) (signed n x) below) below
 
 -- negation negates the value and keeps zero and NaR
 pub negated-word : (n w : ℕ) → IsWord n w → IsWord n (negated n w)

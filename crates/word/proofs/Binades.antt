@@ -3,13 +3,14 @@
 use mathlib.Core.Path.{_≡_, refl, sym, ap, ap₂, _∙_, subst}
 use mathlib.Core.Bool.{Bool, true, false}
 use Prim.Native.Nat.{ℕ, zero, suc, _+_, _*_, _^_, _≤_, _<_}
-use native.Mathlib.Nat.{mul-assoc, mul-comm, zero-mul, le-of-eq, lt-of-lt-of-le, lt-irrefl, le-trans, mul-le-mul-right, mul-lt-mul-of-pos-right, eq-of-mul-eq-mul-right, mul-pos, lt-of-not-le, le-of-suc-le-suc, le-antisymm, zero-lt-suc}
+use native.Mathlib.Nat.{mul-assoc, mul-comm, zero-mul, le-of-eq, lt-of-lt-of-le, lt-irrefl, le-trans, mul-le-mul-right, mul-lt-mul-of-pos-right, eq-of-mul-eq-mul-right, mul-pos, le-antisymm, zero-lt-suc}
 use native.Mathlib.Omega.{arith}
-use lib.IntN.{ℤ, pos, negsuc, negℤ, natAbs, _+ℤ_, _-ℤ_, +ℤ-negℤ-cancel, -ℤ-+ℤ-cancel, pos-ne-negsuc}
+use lib.IntN.{ℤ, pos, negsuc, natAbs, _+ℤ_, _-ℤ_, +ℤ-negℤ-cancel, -ℤ-+ℤ-cancel, pos-ne-negsuc}
 use lib.Pow.{pow-pos, pow-add, pow-mono}
 use Rattle.word.specs.declared.reading.Reading.{Reading}
-use Rattle.word.specs.Takum.{Takum, real, NaR}
+use Rattle.word.specs.Takum.{Takum, real}
 use Rattle.word.specs.Reads.{num, den, IsSize, signedSize, IsNumber, IsReading}
+use Rattle.word.proofs.Powers.{not-more}
 use Rattle.word.proofs.Values.{real-inj, not-NaR}
 
 -- 2^k as 2^up / 2^down
@@ -55,9 +56,6 @@ crossed m v x y h =
 module _ (p m m' : ℕ) (low : 2 ^ p ≤ m) (high : m < 2 ^ (p + 1)) (low' : 2 ^ p ≤ m') (high' : m' < 2 ^ (p + 1)) where
   same-exponent : (a b : ℕ) → m * 2 ^ a ≡ m' * 2 ^ b → a ≡ b
   same-exponent a b h = le-antisymm (not-more (λ (l : b < a). not-less p m' m b a high' low (sym h) l)) (not-more (λ (l : a < b). not-less p m m' a b high low' h l))
-    where
-      not-more : {c d : ℕ} → ¬ (d < c) → c ≤ d
-      not-more f = le-of-suc-le-suc (lt-of-not-le f)
 
   pub size-one : (k k' : ℤ) (v : ℕ) → IsSize m k v → IsSize m' k' v → (k ≡ k') × (m ≡ m')
   unfolding IsSize

@@ -1,11 +1,10 @@
 -- A word is a head and a tail: the fields of a string of 12 + j bits are those of its first twelve, and its fraction goes on with the other j. Assumes nothing.
-use mathlib.Core.Path.{_≡_, refl, sym, ap, ap₂, _∙_, subst}
+use mathlib.Core.Path.{_≡_, sym, ap, ap₂, _∙_}
 use mathlib.Core.Bool.{Bool, true, false, cond}
-use Prim.Native.Nat.{ℕ, zero, suc, _+_, _-_, _*_, _/_, _%_, _^_, _≤_, _<_}
+use Prim.Native.Nat.{ℕ, _+_, _-_, _*_, _/_, _%_, _^_, _≤_, _<_}
 use native.Mathlib.Nat.{mod-lt}
 use native.Mathlib.Omega.{arith}
 use lib.Dec.{lit<, eqb}
-use lib.IntN.{ℤ, pos}
 use lib.Pow.{high, low, shr-shr, mod-pow-add}
 use Rattle.word.specs.Takum.{regimeOf, S, D, R, r, p, C, F, c, e}
 

@@ -1,6 +1,6 @@
 -- The head of a word, its first twelve bits: what Definition 2 gives at each of them, by computed tests over the 2,048 heads with
 -- sign 0 and their complements. Assumes nothing.
-use mathlib.Core.Path.{_≡_, refl, sym, ap, _∙_, subst}
+use mathlib.Core.Path.{_≡_, refl, sym, subst}
 use mathlib.Core.Bool.{Bool, true, false, _&&_}
 use mathlib.Core.Logic.{⊎-elim}
 use Prim.Native.Nat.{ℕ, zero, suc, _+_, _-_, _*_, _^_, _<_}

@@ -1,6 +1,6 @@
 -- Sums of whole numbers with a sign, reduced to sums of whole numbers without one. Assumes nothing.
 use mathlib.Core.Path.{_≡_, refl, sym, ap, ap₂, _∙_}
-use mathlib.Core.Bool.{Bool, true, false}
+use mathlib.Core.Bool.{Bool, false}
 use Prim.Native.Nat.{ℕ, zero, suc, _+_, _-_, _*_, _≤_}
 use native.Mathlib.Nat.{zero-mul, add-comm}
 use native.Mathlib.Omega.{arith}

@@ -1,13 +1,14 @@
 -- The exponent of the exact-count limit from one logarithm: with k = floor(log2 (n - 4)) it is n - 4 - k, or one more where that is below 2^k. Assumes nothing.
-use mathlib.Core.Path.{_≡_, refl, sym, ap, _∙_, subst}
-use Prim.Native.Nat.{ℕ, zero, suc, _+_, _-_, _*_, _^_, _≤_, _<_}
-use native.Mathlib.Nat.{le-of-suc-le-suc, lt-of-not-le, lt-of-lt-of-le, le-trans, two-pow-succ, pow-zero}
+use mathlib.Core.Path.{sym, subst}
+use Prim.Native.Nat.{ℕ, zero, suc, _+_, _-_, _^_, _≤_, _<_}
+use native.Mathlib.Nat.{le-of-suc-le-suc, lt-of-not-le, two-pow-succ}
 use native.Mathlib.Numerals.{add-one}
 use native.Mathlib.Omega.{arith}
 use lib.Count.{leading-top}
 use lib.Dec.{lit<}
-use lib.Pow.{pow-pos, pow-mono, pow-lt}
+use lib.Pow.{pow-pos, pow-mono}
 use Rattle.word.specs.Widths.{Within, Greatest, greatest, none}
+use Rattle.word.proofs.Powers.{not-more}
 
 pub below-power : (k : ℕ) → k < 2 ^ k
 below-power zero = lit< tt
@@ -43,9 +44,6 @@ none-within n h = none (λ (u : ℕ) (w : Within n u). omega (arith, w .log-low,
 -- a number of the rule that is at least 2^j leaves room for j
 short : (n u j : ℕ) → Within n u → 2 ^ j ≤ u → u + j + 4 ≤ n
 short n u j w h = omega (arith, w .bound, le-of-suc-le-suc (exponent-lt j (suc (w .L)) (subst (λ (x : ℕ). 2 ^ j < 2 ^ x) (add-one (w .L)) (omega (arith, h, w .log-high)))))
-
-not-more : {a b : ℕ} → ¬ (a < b) → b ≤ a
-not-more f = le-of-suc-le-suc (lt-of-not-le f)
 
 pub one-more : (n k : ℕ) → 5 ≤ n → 2 ^ k ≤ n - 4 → n - 4 - k + 1 < 2 ^ k → Greatest n (n - 4 - k + 1)
 one-more n zero five low h = absurd (omega (arith, five, h))

@@ -5,7 +5,7 @@ use native.Mathlib.Nat.{lt-of-not-le, le-of-suc-le-suc, one-mul}
 use native.Mathlib.Omega.{arith}
 use lib.Count.{leadingZeros, leading-top}
 use lib.Dec.{lit<}
-use lib.Pow.{pow-add, pow-pos, shl-lt, shl-exact, high, ones-split, ones-lt}
+use lib.Pow.{pow-add, shl-lt, shl-exact, high, ones-split, ones-lt}
 
 -- not less, so at most
 pub not-more : {a b : ℕ} → ¬ (a < b) → b ≤ a

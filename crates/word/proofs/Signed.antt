@@ -1,12 +1,12 @@
 -- A word as a two's complement number, and its negation, by where it lies. Assumes nothing.
-use mathlib.Core.Path.{_≡_, refl, sym, ap, ap₂, _∙_, subst}
+use mathlib.Core.Path.{_≡_, refl, sym, ap, ap₂, _∙_}
 use mathlib.Core.Bool.{Bool, true, false, cond}
-use Prim.Native.Nat.{ℕ, zero, suc, _+_, _-_, _%_, _^_, _≤_, _<_, zero-le}
-use native.Mathlib.Nat.{sub-zero, mod-self, mod-eq-of-lt, zero-add, add-zero, sub-add-cancel, le-refl, zero-lt-suc}
+use Prim.Native.Nat.{ℕ, zero, suc, _+_, _-_, _%_, _^_, _≤_, _<_}
+use native.Mathlib.Nat.{sub-zero, mod-self, mod-eq-of-lt, zero-add, sub-add-cancel}
 use native.Mathlib.Omega.{arith}
 use borrow.Author.Tests.{lt-ltb, le-ltb}
 use lib.Dec.{ltb}
-use lib.IntN.{ℤ, pos, negsuc, negℤ, _+ℤ_, _-ℤ_}
+use lib.IntN.{ℤ, pos, negsuc, _+ℤ_, _-ℤ_}
 use lib.Pow.{pow-pos}
 use lib.Signed.{ltZ, mag}
 use mir.Facts.{toZ-ofZ}

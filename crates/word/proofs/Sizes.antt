@@ -1,12 +1,12 @@
 -- The size of a word with sign 0 that stands at the top of 64 bits: its head's start and a step for each unit of its tail. Sizes strictly
 -- increase with the word, across fractions, characteristics, regimes and the direction bit alike. Assumes nothing.
-use mathlib.Core.Path.{_≡_, refl, sym, ap, ap₂, _∙_, subst}
+use mathlib.Core.Path.{_≡_, sym, ap, ap₂, _∙_, subst}
 use mathlib.Core.Logic.{⊎-elim}
 use Prim.Native.Nat.{ℕ, zero, suc, _+_, _-_, _*_, _/_, _%_, _^_, _≤_, _<_, zero-le}
-use native.Mathlib.Nat.{mod-lt, eq-or-lt-of-le, le-of-suc-le-suc, not-suc-le-zero, lt-trans, le-of-eq, le-of-lt, le-antisymm, lt-of-not-le, lt-of-le-of-lt, ne-of-lt, le-pred-of-lt, mul-lt-mul-of-pos-right, mul-right-comm, suc-mul}
+use native.Mathlib.Nat.{mod-lt, eq-or-lt-of-le, le-of-suc-le-suc, not-suc-le-zero, lt-trans, le-of-eq, le-of-lt, lt-of-le-of-lt, le-pred-of-lt, mul-lt-mul-of-pos-right, mul-right-comm, suc-mul}
 use native.Mathlib.Numerals.{add-one}
 use native.Mathlib.Omega.{arith}
-use lib.Dec.{lit<, lit≤}
+use lib.Dec.{lit<}
 use lib.Pow.{high, low, split, pow-pos}
 use Rattle.word.specs.Takum.{p, F}
 use Rattle.word.proofs.Heads.{k, next, first, last}

@@ -3,12 +3,12 @@
 use mathlib.Core.Path.{_≡_, refl, sym, ap, ap₂, _∙_, subst}
 use mathlib.Core.Bool.{Bool, true, false, cond, true≢false}
 use mathlib.Core.Logic.{⊎-elim}
-use Prim.Native.Nat.{ℕ, zero, suc, _+_, _-_, _*_, _^_, _≤_, _<_, zero-le}
-use native.Mathlib.Nat.{zero-lt-suc, lt-of-lt-of-le, lt-of-not-le, le-of-suc-le-suc, le-of-eq, le-of-lt, eq-or-lt-of-le, mul-lt-mul-of-pos-right, zero-add, le-refl, le-antisymm, lt-of-le-of-lt, mod-lt}
+use Prim.Native.Nat.{ℕ, zero, suc, _+_, _-_, _*_, _^_, _≤_, _<_}
+use native.Mathlib.Nat.{zero-lt-suc, lt-of-lt-of-le, le-of-eq, le-of-lt, eq-or-lt-of-le, mul-lt-mul-of-pos-right, zero-add, le-refl, le-antisymm, lt-of-le-of-lt, mod-lt}
 use native.Mathlib.Decide.{decLt}
 use native.Mathlib.Omega.{arith}
 use borrow.Author.Tests.{lt-ltb, le-ltb, ltb-true, ltb-false}
-use lib.Dec.{leb, ltb, leb·suc-zero, leb·suc-suc, lit<}
+use lib.Dec.{ltb, leb·suc-zero, leb·suc-suc, lit<}
 use lib.IntN.{ℤ, pos, negsuc, negℤ, natAbs, negℤ-negℤ, pos-ne-negsuc}
 use lib.Pow.{pow-pos}
 use lib.Signed.{ltZ, mag}
@@ -16,7 +16,7 @@ use Rattle.word.specs.Takum.{Takum, real, NaR, takum}
 use Rattle.word.specs.Reads.{signedSize}
 use Rattle.word.specs.Orders.{signed, order, negated, opposite}
 use Rattle.word.specs.Refusals.{IsWord}
-use Rattle.word.proofs.Powers.{pow-sum, shl-below}
+use Rattle.word.proofs.Powers.{not-more, pow-sum, shl-below}
 use Rattle.word.proofs.Sizes.{size, size-lt, size-above, size-below}
 use Rattle.word.proofs.Signed.{signed-low, signed-high, negated-zero, negated-other, order-below, order-above, order-equal}
 use Rattle.word.proofs.Words.{Lies, at-zero, above, at-NaR, under, lies, takum-zero, takum-positive, takum-NaR, takum-negative}
@@ -108,11 +108,11 @@ module _ (g : ℕ → ℕ) (B : ℕ) (start : g 0 ≡ 0) (up : (a b : ℕ) → a
   keeps a b ha hb = by (decLt a b)
     where
       not-less : ¬ (a < b) → g b ≤ g a
-      not-less f = ⊎-elim (λ (q : b ≡ a). le-of-eq (ap g q)) (λ (q : b < a). le-of-lt (up b a q ha)) (eq-or-lt-of-le (le-of-suc-le-suc (lt-of-not-le f)))
+      not-less f = ⊎-elim (λ (q : b ≡ a). le-of-eq (ap g q)) (λ (q : b < a). le-of-lt (up b a q ha)) (eq-or-lt-of-le (not-more f))
 
       by : Dec (a < b) → ltb a b ≡ ltb (g a) (g b)
       by (yes h) = lt-ltb a b h ∙ sym (lt-ltb (g a) (g b) (up a b h hb))
-      by (no f) = le-ltb a b (le-of-suc-le-suc (lt-of-not-le f)) ∙ sym (le-ltb (g a) (g b) (not-less f))
+      by (no f) = le-ltb a b (not-more f) ∙ sym (le-ltb (g a) (g b) (not-less f))
 
   keeps-zero : (a b : ℕ) → a < B → b < B → ltb 0 (a + b) ≡ ltb 0 (g a + g b)
   keeps-zero zero b ha hb = ap (ltb 0) (zero-add b) ∙ keeps 0 b ha hb ∙ ap (λ (x : ℕ). ltb x (g b)) start ∙ ap (ltb 0) (sym (ap (λ (x : ℕ). x + g b) start ∙ zero-add (g b)))
@@ -186,14 +186,11 @@ order-zero a b h = unordered a b (first (ltZ a b) (ltZ b a) h) (second (ltZ a b)
 signed-inj : (n x y : ℕ) → IsWord n x → IsWord n y → signed n x ≡ signed n y → x ≡ y
 signed-inj n x y ix iy h = by (decLt x (2 ^ (n - 1))) (decLt y (2 ^ (n - 1)))
   where
-    half : {a : ℕ} → ¬ (a < 2 ^ (n - 1)) → 2 ^ (n - 1) ≤ a
-    half f = le-of-suc-le-suc (lt-of-not-le f)
-
     by : Dec (x < 2 ^ (n - 1)) → Dec (y < 2 ^ (n - 1)) → x ≡ y
     by (yes p) (yes q) = ap natAbs (sym (signed-low n x p) ∙ h ∙ signed-low n y q)
-    by (yes p) (no q) = absurd (pos-ne-negsuc x (2 ^ n - 1 - y) (sym (signed-low n x p) ∙ h ∙ signed-high n y (half q) (iy .fits)))
-    by (no p) (yes q) = absurd (pos-ne-negsuc y (2 ^ n - 1 - x) (sym (signed-low n y q) ∙ sym h ∙ signed-high n x (half p) (ix .fits)))
-    by (no p) (no q) = omega (arith, ap mag (sym (signed-high n x (half p) (ix .fits)) ∙ h ∙ signed-high n y (half q) (iy .fits)), ix .fits, iy .fits)
+    by (yes p) (no q) = absurd (pos-ne-negsuc x (2 ^ n - 1 - y) (sym (signed-low n x p) ∙ h ∙ signed-high n y (not-more q) (iy .fits)))
+    by (no p) (yes q) = absurd (pos-ne-negsuc y (2 ^ n - 1 - x) (sym (signed-low n y q) ∙ sym h ∙ signed-high n x (not-more p) (ix .fits)))
+    by (no p) (no q) = omega (arith, ap mag (sym (signed-high n x (not-more p) (ix .fits)) ∙ h ∙ signed-high n y (not-more q) (iy .fits)), ix .fits, iy .fits)
 
 absolute : (s : Bool) (v : ℕ) → natAbs (signedSize s v) ≡ v
 unfolding signedSize

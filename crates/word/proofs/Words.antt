@@ -1,15 +1,15 @@
 -- What a word of any width from 2 to 64 means, by where it lies: zero, above zero, NaR, below zero. Zeros appended change nothing. Assumes nothing.
-use mathlib.Core.Path.{_≡_, refl, sym, ap, ap₂, _∙_, subst}
-use mathlib.Core.Logic.{_⊎_, inl, inr, ⊎-elim}
-use Prim.Native.Nat.{ℕ, zero, suc, _+_, _-_, _*_, _/_, _%_, _^_, _≤_, _<_, max}
+use mathlib.Core.Path.{_≡_, sym, ap, ap₂, _∙_, subst}
+use mathlib.Core.Logic.{⊎-elim}
+use Prim.Native.Nat.{ℕ, zero, _+_, _-_, _*_, _%_, _^_, _≤_, _<_, max}
 use native.Mathlib.Nat.{zero-mul, zero-mod, zero-div, mod-self, div-self, mod-eq-of-lt, mod-eq-sub-mod, ne-of-gt, le-of-lt, mul-pos, mul-comm, mul-sub, mul-assoc, mul-lt-mul-of-pos-right, eq-or-lt-of-le, lt-of-not-le, eq-zero-or-pos}
 use native.Mathlib.Decide.{decLe}
 use native.Mathlib.Omega.{arith}
-use borrow.Author.Tests.{ne-eqb, eq-eqb}
-use lib.IntN.{ℤ, pos, negℤ}
+use borrow.Author.Tests.{ne-eqb}
+use lib.IntN.{pos, negℤ}
 use lib.Pow.{pow-pos, pow-add}
-use Rattle.word.specs.Takum.{Takum, real, NaR, S, value, meaning, N, padded, takum}
-use Rattle.word.proofs.Powers.{pow-sum, shl-below}
+use Rattle.word.specs.Takum.{real, NaR, S, value, meaning, N, padded, takum}
+use Rattle.word.proofs.Powers.{pow-sum}
 use Rattle.word.proofs.Sizes.{size}
 use Rattle.word.proofs.Meaning.{string-positive, string-negative}
 

@@ -1,7 +1,6 @@
 -- `compare` meets its contract: a verdict that refuses is the answer, and one that lets both words through is followed by the order of their numbers. Assumes nothing.
 use mathlib.Core.Path.{_≡_, refl, ap, ap₂, _∙_}
-use borrow.Author.Needs.{needs}
-use borrow.Author.Needs.{sfits-of}
+use borrow.Author.Needs.{needs, sfits-of}
 use mir.Facts.{toZ-ofZ}
 use Rattle.word.specs.Orders.{order, Compares}
 use Rattle.word.specs.declared.order.Comparison.{Comparison}

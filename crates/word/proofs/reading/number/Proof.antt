@@ -6,7 +6,7 @@ use native.Mathlib.Nat.{lt-of-le-of-lt, le-of-eq, mod-lt}
 use native.Mathlib.Omega.{arith}
 use borrow.Author.Needs.{needs, sfits-of}
 use lib.Signed.{mag}
-use lib.Pow.{pow-pos, pow-mono, pow-add}
+use lib.Pow.{pow-pos, pow-mono}
 use lib.IntN.{ℤ, pos, negsuc, negℤ, _-ℤ_, +ℤ-idl}
 use lib.Dec.{lit≤}
 use mir.Facts.{toZ-ofZ}

@@ -1,6 +1,6 @@
 -- `read` meets its contract: zero and NaR by their words, every other word by the number of its padded string. Assumes nothing.
 use mathlib.Core.Path.{_≡_, refl, sym, ap, ap₂, _∙_, subst₂}
-use Prim.Native.Nat.{ℕ, _*_, _-_, _%_, _^_, _≤_, _<_, max}
+use Prim.Native.Nat.{ℕ, _*_, _-_, _%_, _^_, _≤_, _<_}
 use native.Mathlib.Nat.{max-eq-left, max-eq-right, le-of-lt, mul-one, sub-self, lt-of-le-of-lt, le-of-eq}
 use native.Mathlib.Omega.{arith}
 use borrow.Author.Needs.{needs}

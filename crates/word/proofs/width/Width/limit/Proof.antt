@@ -1,7 +1,6 @@
 -- `Width::limit` meets its contract: the limit is the power of two of its exponent. Assumes nothing.
-use mathlib.Core.Path.{refl, sym, ap, _∙_}
+use mathlib.Core.Path.{refl, sym, _∙_}
 use Prim.Native.Nat.{_≤_}
-use native.Mathlib.Omega.{arith}
 use borrow.Author.Needs.{needs}
 use Rattle.word.specs.Refusals.{through, refused}
 use Rattle.word.specs.Widths.{GivesLimit}

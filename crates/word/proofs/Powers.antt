@@ -1,11 +1,11 @@
 -- Powers of two by the sum of their exponents, the exponents being known only by an equation, and one fact of order. Assumes nothing.
 use mathlib.Core.Path.{_≡_, sym, ap, _∙_, subst}
 use Prim.Native.Nat.{ℕ, zero, suc, _+_, _-_, _*_, _/_, _%_, _^_, _≤_, _<_}
-use native.Mathlib.Nat.{lt-of-not-le, le-of-suc-le-suc, one-mul}
+use native.Mathlib.Nat.{div-lt-iff-lt-mul, lt-of-not-le, le-of-suc-le-suc, one-mul}
 use native.Mathlib.Omega.{arith}
 use lib.Count.{leadingZeros, leading-top}
 use lib.Dec.{lit<}
-use lib.Pow.{pow-add, shl-lt, shl-exact, high, ones-split, ones-lt}
+use lib.Pow.{pow-add, pow-pos, shl-lt, shl-exact, high, ones-split, ones-lt}
 
 -- not less, so at most
 pub not-more : {a b : ℕ} → ¬ (a < b) → b ≤ a
@@ -20,6 +20,10 @@ shl-below {x} a b c h q = subst (λ (n : ℕ). x * 2 ^ b < 2 ^ n) q (shl-lt a b 
 -- all ones, shifted right
 pub ones-shr : (a b c : ℕ) → a + b ≡ c → (2 ^ c - 1) / 2 ^ b ≡ 2 ^ a - 1
 ones-shr a b c q = ap (λ (n : ℕ). (2 ^ n - 1) / 2 ^ b) (sym q) ∙ ap (λ (n : ℕ). n / 2 ^ b) (ones-split a b) ∙ high (2 ^ a - 1) b (ones-lt b)
+
+-- a number from which a shift leaves nothing
+pub shr-none : (n w : ℕ) → w / 2 ^ n ≡ 0 → w < 2 ^ n
+shr-none n w h = omega (arith, div-lt-iff-lt-mul {x = w} {y = 1} (pow-pos n) .0 (omega (arith, h)))
 
 -- 1 << l in a number of b bits
 pub one-shl : (b l : ℕ) → l < b → 1 * 2 ^ l % 2 ^ b ≡ 2 ^ l

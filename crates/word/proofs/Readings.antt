@@ -9,7 +9,7 @@ use lib.IntN.{ℤ, pos, negsuc, negℤ, _-ℤ_, +ℤ-idl}
 use lib.Signed.{mag}
 use Rattle.word.specs.declared.reading.Reading.{Reading}
 use Rattle.word.specs.declared.refusal.Refusal.{Refusal}
-use Rattle.word.specs.Takum.{Takum, S, p, F, c, N, padded, takum, fractionBits}
+use Rattle.word.specs.Takum.{Takum, real, S, p, F, c, value, N, padded, takum, fractionBits}
 use Rattle.word.specs.Reads.{IsNumber, IsReading, Reads}
 use Rattle.word.specs.Refusals.{IsWord}
 use Rattle.word.proofs.Powers.{shl-below}

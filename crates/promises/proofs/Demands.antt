@@ -1,6 +1,6 @@
 -- The demands that specs/Demands.antt states. Assumes nothing.
 use mathlib.Core.Path.{_≡_, refl, ap, _∙_}
-use mathlib.Core.Logic.{_⊎_, ⊎-elim}
+use mathlib.Core.Logic.{_⊎_, inl, inr, ⊎-elim}
 use Prim.Native.Nat.{ℕ, _^_, _≤_, _<_}
 use native.Mathlib.Decide.{decLt}
 use native.Mathlib.Omega.{arith}
@@ -16,6 +16,7 @@ use Rattle.word.proofs.Powers.{not-more}
 use Rattle.word.proofs.Verdicts.{width-fits, width-short, width-long, stray-fits, stray-bit, word-passes, words-pass, answered, refused-as}
 use Rattle.word.proofs.Values.{order-of-values, order-same, NaR-below, above-NaR, negated-word, negation-negates, words-differ}
 use Rattle.word.proofs.Binades.{meaning-one}
+use Rattle.write.specs.Writes.{Writes, Moves}
 use Rattle.promises.specs.Demands.{RefusedAs, RefusesWidths, RefusesStrays, WidthRefused, StrayRefused, ReadingIsTheDefinition, ReadingTellsWordsApart, ComparisonIsTheOrderOfValues, NaRIsBelowEveryValue, EveryValueIsAboveNaR, EveryWordEqualsItself, NegationNegates}
 
 -- ---- demand 1
@@ -33,8 +34,20 @@ bad-width-of-word n w h = rw (bad-width n h)
 bad-width-of-words : (n x y : ℕ) → (n < 2) ⊎ (64 < n) → widthTest n then strayTest n x then strayTest n y ≡ Verdict.Refused Refusal.Width
 bad-width-of-words n x y h = rw (bad-width n h)
 
+bad-source : (n n' w : ℕ) → (n < 2) ⊎ (64 < n) → widthTest n then widthTest n' then strayTest n w ≡ Verdict.Refused Refusal.Width
+bad-source n n' w h = rw (bad-width n h)
+
+-- the source may be a bad width too
+bad-target : (n n' w : ℕ) → (n' < 2) ⊎ (64 < n') → widthTest n then widthTest n' then strayTest n w ≡ Verdict.Refused Refusal.Width
+bad-target n n' w h = by (decLt n 2) (decLt 64 n)
+  where
+    by : Dec (n < 2) → Dec (64 < n) → widthTest n then widthTest n' then strayTest n w ≡ Verdict.Refused Refusal.Width
+    by (yes l) d = bad-source n n' w (inl l)
+    by (no f) (yes l) = bad-source n n' w (inr l)
+    by (no f) (no g) = rw (width-fits n (not-more f) (not-more g), bad-width n' h)
+
 pub width-refused : WidthRefused
-unfolding RefusesWidths Makes GivesWord GivesLimit Reads Compares Negates
+unfolding RefusesWidths Makes GivesWord GivesLimit Reads Compares Negates Writes Moves
 width-refused = record {
   test = λ n a h x. record { q = Refusal.Width; is = x ∙ bad-width n h; known = refl };
   new = λ n a h x. handed-back Refusal.Width (bad-width n h) x;
@@ -43,6 +56,9 @@ width-refused = record {
   read = λ w n a h x. handed-back Refusal.Width (bad-width-of-word n w h) x;
   compare = λ u v n a h x. handed-back Refusal.Width (bad-width-of-words n u v h) x;
   negate = λ w n a h x. handed-back Refusal.Width (bad-width-of-word n w h) x;
+  write = λ rule v n a h x. handed-back Refusal.Width (bad-width n h) x;
+  move-from = λ to rule w n a h x. handed-back Refusal.Width (bad-source n to w h) x;
+  move-to = λ from rule w n a h x. handed-back Refusal.Width (bad-target from n w h) x;
 }
 
 stray-word : (n w : ℕ) → 2 ≤ n → n ≤ 64 → 2 ^ n ≤ w → widthTest n then strayTest n w ≡ Verdict.Refused Refusal.Stray
@@ -59,14 +75,18 @@ stray-second n x y lo hi h = by (decLt x (2 ^ n))
     by (yes l) = rw (width-fits n lo hi, stray-fits n x l) (stray-bit n y h)
     by (no f) = stray-first n x y lo hi (not-more f)
 
+stray-moved : (n n' w : ℕ) → 2 ≤ n → n ≤ 64 → 2 ≤ n' → n' ≤ 64 → 2 ^ n ≤ w → widthTest n then widthTest n' then strayTest n w ≡ Verdict.Refused Refusal.Stray
+stray-moved n n' w lo hi lo' hi' h = rw (width-fits n lo hi, width-fits n' lo' hi') (stray-bit n w h)
+
 pub stray-refused : StrayRefused
-unfolding RefusesStrays Reads Compares Negates
+unfolding RefusesStrays Reads Compares Negates Moves
 stray-refused = record {
   test-word = λ n w a lo hi h x. record { q = Refusal.Stray; is = x ∙ stray-bit n w h; known = refl };
   read = λ n w a lo hi h x. handed-back Refusal.Stray (stray-word n w lo hi h) x;
   compare-first = λ y n w a lo hi h x. handed-back Refusal.Stray (stray-first n w y lo hi h) x;
   compare-second = λ y n w a lo hi h x. handed-back Refusal.Stray (stray-second n y w lo hi h) x;
   negate = λ n w a lo hi h x. handed-back Refusal.Stray (stray-word n w lo hi h) x;
+  move = λ to rule lo' hi' n w a lo hi h x. handed-back Refusal.Stray (stray-moved n to w lo hi lo' hi' h) x;
 }
 
 -- ---- demand 2, reading

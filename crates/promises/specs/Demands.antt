@@ -15,6 +15,9 @@ use Rattle.word.specs.Refusals.{numberOf, widthTest, strayTest, _then_, IsWord,
 use Rattle.word.specs.Widths.{Makes, GivesWord, GivesLimit}
 use Rattle.word.specs.Reads.{IsReading, Reads}
 use Rattle.word.specs.Orders.{order, opposite, Compares, Negates}
+use Rattle.write.specs.declared.value.Rule.{Rule}
+use Rattle.write.specs.declared.value.Value.{Value}
+use Rattle.write.specs.Writes.{Writes, Moves}
 
 -- ---- demand 1: bad input gets the refusal number that the papers fix, from every call
 -- an answer that hands back the refusal with this number and nothing else
@@ -40,6 +43,9 @@ pub record WidthRefused : Type 0 where
   pub read : (w : ℕ) → RefusesWidths Reading.Refused (λ n. Reads n w)
   pub compare : (x y : ℕ) → RefusesWidths Comparison.Refused (λ n. Compares n x y)
   pub negate : (w : ℕ) → RefusesWidths Answer.Refused (λ n. Negates n w)
+  pub write : (rule : Rule) (v : Value) → RefusesWidths Answer.Refused (λ n. Writes n rule v)
+  pub move-from : (to : ℕ) (rule : Rule) (w : ℕ) → RefusesWidths Answer.Refused (λ n. Moves n to rule w)
+  pub move-to : (from : ℕ) (rule : Rule) (w : ℕ) → RefusesWidths Answer.Refused (λ n. Moves from n rule w)
 
 pub record StrayRefused : Type 0 where
   pub test-word : RefusesStrays Verdict.Refused (λ n w a. a ≡ strayTest n w)
@@ -47,6 +53,7 @@ pub record StrayRefused : Type 0 where
   pub compare-first : (y : ℕ) → RefusesStrays Comparison.Refused (λ n x. Compares n x y)
   pub compare-second : (x : ℕ) → RefusesStrays Comparison.Refused (λ n y. Compares n x y)
   pub negate : RefusesStrays Answer.Refused Negates
+  pub move : (to : ℕ) (rule : Rule) → 2 ≤ to → to ≤ 64 → RefusesStrays Answer.Refused (λ n w. Moves n to rule w)
 
 -- ---- demand 2, reading: at widths 2 to 64 the reading of a word is never refused, and is the value that Definition 2 gives
 unfoldable pub ReadingIsTheDefinition : Type 0

@@ -1,5 +1,5 @@
--- The laws of words, one idea a file. Casts is for the crates that stand on this one and make a sign and a size of a signed number
--- (`census` and `figures` print them so); nothing in this crate uses it.
+-- The laws of words, one idea a file. Casts and Readings are for the crates that stand on this one: those that make a sign and a size of
+-- a signed number (`write`, `census` and `figures`), and `write`, which reads the words it compares with; nothing in this crate uses them.
 pub mod Integers
 pub mod Powers
 pub mod Heads

@@ -1,0 +1,109 @@
+// The plain Rust that the library is timed against: rounded writing and moving, every width from 2 to 64, the same refusals.
+// No loop and no table. The paper's letters: n the width, r the regime, c the characteristic.
+
+pub const WIDTH: u32 = 1;
+pub const STRAY: u32 = 2;
+
+const TOP: u64 = 1 << 63;
+
+// Plus or minus m * 2^k as a word.
+#[inline]
+pub fn write(n: u32, negative: bool, m: u64, k: i32) -> Result<u64, u32> {
+    if !(2..=64).contains(&n) {
+        return Err(WIDTH);
+    }
+    if m == 0 {
+        return Ok(0);
+    }
+    let zeros = m.leading_zeros();
+    Ok(with_sign(n, negative, nearest(n, k as i64 + 63 - zeros as i64, m << zeros)))
+}
+
+// A word of width `from` as one of width `to`.
+#[inline]
+pub fn move_word(from: u32, to: u32, word: u64) -> Result<u64, u32> {
+    if !(2..=64).contains(&from) || !(2..=64).contains(&to) {
+        return Err(WIDTH);
+    }
+    if from < 64 && word >> from != 0 {
+        return Err(STRAY);
+    }
+    // The sign at the top: zero bits follow on the right, as the format wants below 12 bits.
+    let string = word << (64 - from);
+    if string == 0 {
+        return Ok(0);
+    }
+    if string == TOP {
+        return Ok(1 << (to - 1));
+    }
+    let negative = string >= TOP;
+    let (h, m) = read_positive(if negative { string.wrapping_neg() } else { string });
+    Ok(with_sign(to, negative, nearest(to, h as i64, m)))
+}
+
+// The size of a positive string is m * 2^(h - 63), m having its top bit set.
+#[inline]
+fn read_positive(string: u64) -> (i32, u64) {
+    let regime = (string >> 59 & 7) as u32;
+    let up = string >> 62 == 1;
+    let r = if up { regime } else { 7 - regime };
+    let after = string << 5;
+    let bits = (after >> 1 >> (63 - r)) as i32;
+    let c = if up { (1 << r) - 1 + bits } else { bits + 1 - (2 << r) };
+    (c, TOP | after << r >> 1)
+}
+
+// The positive word nearest to m * 2^(h - 63), m having its top bit set.
+#[inline]
+fn nearest(n: u32, h: i64, m: u64) -> u64 {
+    let last = (1u64 << (n - 1)) - 1;
+    if h > 254 {
+        return last;
+    }
+    if h < -255 {
+        return 1;
+    }
+    let up = h >= 0;
+    let size = if up { h + 1 } else { -h } as u64;
+    let r = 63 - size.leading_zeros();
+    let start = if up { ((7 + r as u64) << r) + size } else { ((9 - r as u64) << r) - 1 - size };
+    if n < 5 + r {
+        return nearest_narrow(n, h as i32, m, start >> (5 + r - n), last);
+    }
+    let kept = n - 5 - r;
+    let fraction = m << 1;
+    let low = (start << kept) + (fraction >> 1 >> (63 - kept));
+    let cut = fraction << kept;
+    // Up past half, and at half from an odd word; the carry runs into the characteristic by itself.
+    let word = low + (cut > TOP - (low & 1)) as u64;
+    word.clamp(1, last)
+}
+
+// Below 12 bits the cut can fall into the characteristic: both neighbours are powers of two, and their values decide.
+#[cold]
+fn nearest_narrow(n: u32, h: i32, m: u64, low: u64, last: u64) -> u64 {
+    if low == 0 {
+        return 1;
+    }
+    if low == last {
+        return last;
+    }
+    let i = read_positive(low << (64 - n)).0;
+    let j = read_positive((low + 1) << (64 - n)).0;
+    // The midpoint of 2^i and 2^j is 2^(j - 1) + 2^(i - 1).
+    if h < j - 1 {
+        return low;
+    }
+    let gap = j - i;
+    let beyond = m - TOP;
+    if gap > 63 {
+        return low + (beyond > 0) as u64;
+    }
+    let half = TOP >> gap;
+    low + (beyond > half || (beyond == half && low & 1 == 1)) as u64
+}
+
+#[inline]
+fn with_sign(n: u32, negative: bool, word: u64) -> u64 {
+    if negative { word.wrapping_neg() & (u64::MAX >> (64 - n)) } else { word }
+}

@@ -1,0 +1,93 @@
+#!/bin/sh
+# Times the library against bench/plain.rs; bench/README.md says how. On x86-64: one run. On Arm: one run under the emulator and one native.
+set -eu
+cd "$(dirname "$0")/.."
+
+miss() {
+    echo "bench: $1" >&2
+    exit 2
+}
+
+has() { command -v "$1" >/dev/null 2>&1; }
+
+has rt || miss "the Rattle toolchain's command 'rt' is not installed"
+has rustc || miss "no rustc is installed: there is nothing to compare with"
+
+work=$(mktemp -d)
+trap 'rm -rf "$work"' EXIT
+machine=$(uname -m)
+done=0
+
+# COMPILER LIBRARY-FOLDER PROGRAM [WORDS...]
+build() {
+    compiler=$1 folder=$2 program=$3
+    shift 3
+    "$compiler" -C opt-level=3 --edition 2021 "$@" -o "$program" bench/main.rs -L "$folder" -l static=speed
+}
+
+# The machine code of the archive, on the processor that it is for.
+as_built() {
+    echo "== x86-64, run directly: $(rustc --version)"
+    build rustc target/staticlib "$work/direct"
+    "$work/direct"
+    done=1
+}
+
+# The same on Arm, both sides under one emulator. Debian's rustc is asked for, since it finds Debian's x86-64 library.
+emulated() {
+    compiler=/usr/bin/rustc
+    for tool in $compiler x86_64-linux-gnu-gcc qemu-x86_64; do
+        if ! has $tool; then
+            echo "bench: no emulated run, since $tool is missing; bench/README.md names the packages"
+            return
+        fi
+    done
+    if ! build $compiler target/staticlib "$work/emulated" --target x86_64-unknown-linux-gnu -C linker=x86_64-linux-gnu-gcc; then
+        echo "bench: no emulated run, since the program can't be built for x86-64; bench/README.md names the packages"
+        return
+    fi
+    echo "== x86-64 under $(qemu-x86_64 --version | head -n 1): $($compiler --version)"
+    qemu-x86_64 "$work/emulated"
+    done=1
+}
+
+# The LLVM module that the kit makes of the library, compiled by the kit's clang for this processor instead of x86-64.
+native() {
+    kit=$(dirname "$(dirname "$(rt doc)")")
+    own=$kit/on/$machine
+    if [ ! -x "$own/toolchain/bin/clang" ]; then
+        echo "bench: no native run, since the kit has no clang at $own/toolchain/bin"
+        return
+    fi
+    # the kit, by links, but for a clang that keeps a copy of the module
+    mkdir -p "$work/kit/on/$machine/toolchain/bin" "$work/native"
+    for file in "$kit"/*; do [ "${file##*/}" = on ] || ln -s "$file" "$work/kit/"; done
+    for file in "$own"/*; do [ "${file##*/}" = toolchain ] || ln -s "$file" "$work/kit/on/$machine/"; done
+    for file in "$own"/toolchain/*; do [ "${file##*/}" = bin ] || ln -s "$file" "$work/kit/on/$machine/toolchain/"; done
+    for file in "$own"/toolchain/bin/*; do [ "${file##*/}" = clang ] || ln -s "$file" "$work/kit/on/$machine/toolchain/bin/"; done
+    printf '#!/bin/sh\n[ ! -f module.bc ] || cp module.bc "%s"\nexec "%s" "$@"\n' "$work/module.bc" "$own/toolchain/bin/clang" >"$work/kit/on/$machine/toolchain/bin/clang"
+    chmod +x "$work/kit/on/$machine/toolchain/bin/clang"
+    RATTLE_HOME=$work/kit rt staticlib speed >"$work/log" 2>&1 || { cat "$work/log"; miss "the library was not built"; }
+    if [ ! -f "$work/module.bc" ]; then
+        echo "bench: no native run, since this kit does not hand clang a file module.bc"
+        return
+    fi
+    "$own/toolchain/bin/clang" --target=x86_64-unknown-linux-gnu -S -emit-llvm -O0 -Xclang -disable-llvm-passes -x ir "$work/module.bc" -o "$work/module.ll"
+    sed -e '/^target datalayout/d' -e "s/^target triple.*/target triple = \"$machine-unknown-linux-gnu\"/" -e 's/"target-cpu"="x86-64"//' -e 's/"probe-stack"="inline-asm"//' "$work/module.ll" >"$work/own.ll"
+    "$own/toolchain/bin/clang" --target="$machine-unknown-linux-gnu" -O3 -fPIC -c -x ir "$work/own.ll" -o "$work/own.o"
+    ar rcs "$work/native/libspeed.a" "$work/own.o"
+    echo "== $machine, run directly: $(rustc --version); library by the kit's $("$own/toolchain/bin/clang" --version | head -n 1)"
+    build rustc "$work/native" "$work/own"
+    "$work/own"
+    done=1
+}
+
+rt staticlib speed >"$work/log" 2>&1 || { cat "$work/log"; miss "the library was not built"; }
+echo "kit $(rt version); $(lscpu | sed -n 's/^Model name: *//p' | head -n 1), $(nproc) processors"
+if [ "$machine" = x86_64 ]; then
+    as_built
+else
+    emulated
+    native
+fi
+[ $done = 1 ] || miss "nothing was timed"

@@ -1,11 +1,17 @@
--- The figures of paper 01 that are marked P, as far as they are about reading, as one table under one claim.
+-- The figures of paper 01 that are marked P, as far as they are about reading and writing, as one table under one claim.
+use mathlib.Core.Path.{_≡_}
 use mathlib.Core.Bool.{true, false}
 use mathlib.Core.List.{List, [], _∷_}
 use Prim.Native.Nat.{ℕ, _*_}
 use lib.IntN.{ℤ, pos, negℤ, _+ℤ_}
+use Rattle.word.specs.declared.answer.Answer.{Answer}
 use Rattle.word.specs.declared.reading.Reading.{Reading}
+use Rattle.word.specs.declared.refusal.Refusal.{Refusal}
 use Rattle.word.specs.Takum.{Takum, real, NaR, power, fractionBits}
 use Rattle.word.specs.Reads.{signedSize, IsReading, Reads}
+use Rattle.write.specs.declared.value.Rule.{Rule}
+use Rattle.write.specs.declared.value.Value.{Value}
+use Rattle.write.specs.Writes.{Writes}
 
 -- -k, for the exponents below 0
 unfoldable pub below : ℕ → ℤ
@@ -18,9 +24,13 @@ plus M k = real (signedSize false (M * power (k +ℤ pos 307)))
 unfoldable pub minus : ℕ → ℤ → Takum
 minus M k = real (signedSize true (M * power (k +ℤ pos 307)))
 
--- reads n w t: the word w of n bits is t
+-- reads n w t: the word w of n bits is t; writes n rule M r: the whole number M, written in n bits by the rule, is answered with r
 pub data Figure : Type 0 where
   reads : ℕ → ℕ → Takum → Figure
+  writes : ℕ → Rule → ℕ → Answer → Figure
+
+unfoldable pub whole : ℕ → Value
+whole M = record { negative = false; m = M; k = pos 0 }
 
 unfoldable pub figures : List Figure
 figures =
@@ -36,11 +46,17 @@ figures =
     ∷ reads 16 0x5B00 (plus 1024 (pos 0))
     ∷ reads 8 0x7F (plus 1 (pos 239))
     ∷ reads 8 0x01 (plus 1 (below 239))
+    ∷ writes 16 Rule.Rounded 512 (Answer.Word 0x5A00)
+    ∷ writes 16 Rule.Strict 512 (Answer.Word 0x5A00)
+    ∷ writes 16 Rule.Rounded 513 (Answer.Word 0x5A00)
+    ∷ writes 16 Rule.Strict 513 (Answer.Refused Refusal.Inexact)
+    ∷ writes 16 Rule.Rounded 1023 (Answer.Word 0x5B00)
     ∷ []
 
--- whatever reading the contract allows is the figure's
+-- whatever reading or answer the contract allows is the figure's
 unfoldable pub Holds : Figure → Type 0
 Holds (reads n w t) = (a : Reading) → Reads n w a → IsReading t (fractionBits n w) a
+Holds (writes n rule M r) = (a : Answer) → Writes n rule (whole M) a → a ≡ r
 
 -- every figure of a list holds
 unfoldable pub AllHold : List Figure → Type 0

@@ -1,8 +1,9 @@
 -- The laws of one rounded and one strict word: there is exactly one, a word's own value gives it back, and the ends. Assumes nothing.
-use mathlib.Core.Path.{_≡_, refl, sym, ap, _∙_, subst}
+use mathlib.Core.Path.{_≡_, refl, sym, ap, ap₂, _∙_, subst, subst₂}
 use mathlib.Core.Bool.{Bool, true, false, not}
-use Prim.Native.Nat.{ℕ, zero, suc, _-_, _*_, _^_, _≤_, _<_}
-use native.Mathlib.Nat.{zero-mul, lt-of-not-le, eq-of-mul-eq-mul-right}
+use mathlib.Core.Logic.{⊎-elim}
+use Prim.Native.Nat.{ℕ, zero, suc, _+_, _-_, _*_, _%_, _^_, _≤_, _<_}
+use native.Mathlib.Nat.{zero-mul, lt-of-not-le, eq-of-mul-eq-mul-right, add-mul, mul-le-mul-right, le-of-lt, le-of-eq, le-trans, eq-or-lt-of-le}
 use native.Mathlib.Decide.{decLe}
 use native.Mathlib.Omega.{arith}
 use lib.Pow.{pow-mono}
@@ -18,8 +19,8 @@ use Rattle.word.specs.Refusals.{IsWord}
 use Rattle.write.specs.declared.value.Rule.{Rule}
 use Rattle.write.specs.Writes.{HasValue, Nearest, IsRounded, zero, other, IsExact, IsWritten}
 use Rattle.write.specs.Offers.{withSign}
-use Rattle.write.proofs.Nearest.{NearestPlace, at-first, at-last}
-use Rattle.write.proofs.Places.{wordOf, value-is, to-word, from-word, nearest-exists, nearest-one}
+use Rattle.write.proofs.Nearest.{NearestPlace, at-first, at-last, midway}
+use Rattle.write.proofs.Places.{wordOf, Place, place-of, value-is, to-word, from-word, nearest-exists, nearest-one}
 use Rattle.write.proofs.Rules.{zero-value}
 use Rattle.write.proofs.Signs.{exact-nearest}
 
@@ -66,6 +67,44 @@ module _ (n : ℕ) (lo : 2 ≤ n) (hi : n ≤ 64) where
   before-the-smallest s z a b w some is h x =
       nearest-one n lo hi s a b w (wordOf n s 1) some x
       (to-word n lo hi s a b 1 (at-first (grown n) (2 ^ (n - 1)) a b increasing some (omega (arith, two)) (subst (λ (y : ℕ). a ≤ y * b) (value-is n lo hi z 1 (omega arith) (omega (arith, two)) is) h)))
+
+  -- ---- between two neighbouring positive words
+  module _ (v z z' a b : ℕ) (some : 0 < b) (first : 0 < v) (room : suc v < 2 ^ (n - 1)) (is : HasValue n false z v) (next : HasValue n false z' (suc v)) where
+    low-is : z ≡ grown n v
+    low-is = value-is n lo hi z v first (omega (arith, room)) is
+
+    high-is : z' ≡ grown n (suc v)
+    high-is = value-is n lo hi z' (suc v) (omega arith) room next
+
+    rise : z * b ≤ z' * b
+    rise = mul-le-mul-right b (le-of-lt (subst₂ (λ (x y : ℕ). x < y) (sym low-is) (sym high-is) (increasing v (suc v) first (le-of-eq refl) room)))
+
+    -- midway, the even one of them
+    pub tie-nearest : 2 * a ≡ (z + z') * b → Nearest n false a b (v + v % 2)
+    unfolding wordOf
+    tie-nearest q =
+        let sum : 2 * a ≡ z * b + z' * b = q ∙ add-mul z z' b in
+        to-word n lo hi false a b (v + v % 2)
+        (midway (grown n) (2 ^ (n - 1)) a b increasing some v first room (subst (λ (x : ℕ). x * b ≤ a) low-is (omega (arith, sum, rise))) (subst (λ (x : ℕ). a ≤ x * b) high-is (omega (arith, sum, rise)))
+        (sum ∙ ap₂ (λ (x y : ℕ). x * b + y * b) low-is high-is))
+
+    -- no word has a value between theirs
+    pub none-between : z * b < a → a < z' * b → (w : ℕ) → IsExact n false a b w → ⊥
+    none-between l h w x = by (decLe (t .v) v)
+      where
+        positive : (y : ℕ) → y * b ≡ a → 0 < y
+        positive zero q = absurd (omega (arith, q, l, zero-mul b))
+        positive (suc i) q = omega arith
+
+        t : Place n lo hi false (x .z) w
+        t = place-of n lo hi false (x .z) w (positive (x .z) (x .same)) (x .is)
+
+        grown-le : (u y : ℕ) → 0 < u → u ≤ y → y < 2 ^ (n - 1) → grown n u ≤ grown n y
+        grown-le u y f p r = ⊎-elim (λ (q : u ≡ y). le-of-eq (ap (grown n) q)) (λ (q : u < y). le-of-lt (increasing u y f q r)) (eq-or-lt-of-le p)
+
+        by : Dec (t .v ≤ v) → ⊥
+        by (yes p) = omega (arith, l, x .same, mul-le-mul-right b (le-trans (le-of-eq (t .size-is)) (le-trans (grown-le (t .v) v (t .first) p (omega (arith, room))) (le-of-eq (sym low-is)))))
+        by (no f) = omega (arith, h, x .same, mul-le-mul-right b (le-trans (le-of-eq high-is) (le-trans (grown-le (suc v) (t .v) (omega arith) (lt-of-not-le f) (t .last)) (le-of-eq (sym (t .size-is))))))
 
   -- ---- with the other sign, the negated word
   pub nearest-negated : (s : Bool) (a b w : ℕ) → Nearest n s a b w → Nearest n (not s) a b (negated n w)

@@ -1,5 +1,7 @@
 -- Two outcomes that a public contract allows are equal, for each public call. Assumes nothing.
-use mathlib.Core.Path.{_≡_, refl, sym, ap, _∙_}
+use mathlib.Core.Path.{_≡_, refl, sym, ap, _∙_, subst}
+use mathlib.Core.List.{List, [], _∷_}
+use mathlib.Core.Logic.{inl, inr}
 use Prim.Native.Nat.{ℕ, _*_, _^_, _≤_}
 use native.Mathlib.Nat.{le-antisymm, zero-lt-suc}
 use lib.IntN.{pos, natAbs, _+ℤ_}
@@ -23,6 +25,7 @@ use Rattle.write.specs.Writes.{isNegative, IsMoved, Writes, Moves}
 use Rattle.write.proofs.Exponents.{unit-some}
 use Rattle.write.proofs.Rounding.{written-one}
 use Rattle.promises.specs.Demands.{ComesBack}
+use Rattle.promises.specs.Writing.{Goes, ComesHome}
 
 -- a contract that decides by a verdict allows one outcome, where it does for input that is let through
 module _ {A : Type 0} (R : Refusal → A) (Q : A → Type 0) (one : (a b : A) → Q a → Q b → a ≡ b) where
@@ -92,3 +95,25 @@ moves-one n n' rule w a b (through h x) y =
     let t = width-through n' (move-through n n' w h .1) in
     moved-one n' (t .0) (t .1) rule (takum n w) a b x (answered h y)
 moves-one n n' rule w a b (refused h x) y = x ∙ sym (refused-as _ h y)
+
+-- ---- a chain of strict moves
+word-of : Answer → ℕ
+word-of (Answer.Word w) = w
+word-of (Answer.Refused q) = 0
+
+is-word : Answer → Type 0
+is-word (Answer.Word w) = Unit {0}
+is-word (Answer.Refused q) = ⊥
+
+goes-one : (home : ℕ) (ns : List ℕ) (n w : ℕ) (a b : Answer) → Goes home n w ns a → Goes home n w ns b → a ≡ b
+unfolding Goes word-of is-word
+goes-one home [] n w a b x y = moves-one n home Rule.Strict w a b x y
+goes-one home (n' ∷ ns) n w a b (inl x) (inl y) =
+    let same = ap word-of (moves-one n n' Rule.Strict w (Answer.Word (x .0)) (Answer.Word (y .0)) (x .1) (y .1)) in
+    goes-one home ns n' (y .0) a b (subst (λ (v : ℕ). Goes home n' v ns a) same (x .2)) (y .2)
+goes-one home (n' ∷ ns) n w a b (inl x) (inr y) = absurd (subst is-word (moves-one n n' Rule.Strict w (Answer.Word (x .0)) (Answer.Refused (y .0)) (x .1) (y .1)) tt)
+goes-one home (n' ∷ ns) n w a b (inr x) (inl y) = absurd (subst is-word (moves-one n n' Rule.Strict w (Answer.Word (y .0)) (Answer.Refused (x .0)) (y .1) (x .1)) tt)
+goes-one home (n' ∷ ns) n w a b (inr x) (inr y) = x .2 ∙ moves-one n n' Rule.Strict w (Answer.Refused (x .0)) (Answer.Refused (y .0)) (x .1) (y .1) ∙ sym (y .2)
+
+pub comes-home-one : (n w : ℕ) (ns : List ℕ) (a b : Answer) → ComesHome n w ns a → ComesHome n w ns b → a ≡ b
+comes-home-one n w ns a b x y = goes-one n ns n w a b (x .goes) (y .goes)

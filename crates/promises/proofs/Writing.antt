@@ -2,6 +2,7 @@
 use mathlib.Core.Path.{_≡_, refl, sym, ap, _∙_, subst}
 use mathlib.Core.Bool.{Bool, not}
 use mathlib.Core.List.{List, [], _∷_}
+use mathlib.Core.Logic.{inl, inr}
 use Prim.Native.Nat.{ℕ, zero, suc, _-_, _*_, _^_, _≤_, _<_}
 use native.Mathlib.Nat.{mul-pos, zero-mul}
 use native.Mathlib.Omega.{arith}
@@ -16,6 +17,7 @@ use Rattle.word.specs.Widths.{narWord, largest, smallest}
 use Rattle.word.specs.Reads.{num, den, IsSize, IsReading, Reads}
 use Rattle.word.specs.Orders.{negated}
 use Rattle.word.proofs.Verdicts.{width-fits, width-through, word-passes, answered}
+use Rattle.word.proofs.Values.{words-differ}
 use Rattle.word.proofs.Words.{zeros-appended}
 use Rattle.write.specs.declared.value.Rule.{Rule}
 use Rattle.write.specs.declared.value.Value.{Value}
@@ -26,9 +28,9 @@ use Rattle.write.proofs.Places.{wordOf}
 use Rattle.write.proofs.Signs.{signed-word}
 use Rattle.write.proofs.Rounding.{rounded-exists, rounded-one, rounded-not-zero-nor-NaR, past-the-largest, before-the-smallest, rounded-negated, exact-written, written-one}
 use Rattle.write.proofs.Order.{rounding-keeps-order}
-use Rattle.write.proofs.Moves.{moved-to-the-same, strict-keeps, there-and-back, wider-keeps}
+use Rattle.write.proofs.Moves.{Kept, moved-to-the-same, strict-keeps, there-and-back, wider-keeps}
 use Rattle.promises.specs.Writing as promise
-use Rattle.promises.specs.Writing.{over, under, opposite, Chain}
+use Rattle.promises.specs.Writing.{over, under, opposite, Chain, Goes, ComesHome}
 
 some-under : (v : Value) → 0 < under v
 unfolding under
@@ -143,3 +145,22 @@ unfolding promise.ChainsComeHome
 chains-come-home n w ns m v r i x y =
     let t = chain-keeps ns n w m v i x in
     moved-to-the-same m n v w Rule.Strict r (t .0) i (sym (t .1)) y
+
+-- ---- the chain as a function goes through it
+goes-keeps : (home : ℕ) (ns : List ℕ) (n w v : ℕ) → Goes home n w ns (Answer.Word v) → Kept n home w v
+unfolding Goes given
+goes-keeps home [] n w v x = strict-keeps n home w v x
+goes-keeps home (n' ∷ ns) n w v (inl x) =
+    let k = strict-keeps n n' w (x .0) (x .1) in
+    let l = goes-keeps home ns n' (x .0) v (x .2) in
+    record { from = k .from; to = l .to; same = l .same ∙ k .same }
+goes-keeps home (n' ∷ ns) n w v (inr x) = absurd (subst given (x .2) tt)
+
+pub goes-home : (n w : ℕ) (ns : List ℕ) (r : Answer) → Goes n n w ns r → ComesHome n w ns r
+goes-home n w ns r x =
+    record {
+      goes = x;
+      home = λ v q.
+          let k = goes-keeps n ns n w v (subst (Goes n n w ns) q x) in
+          words-differ n v w (k .to) (k .from) (k .same);
+    }

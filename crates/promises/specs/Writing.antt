@@ -2,6 +2,7 @@
 use mathlib.Core.Path.{_≡_}
 use mathlib.Core.Bool.{Bool, false, not}
 use mathlib.Core.List.{List, [], _∷_}
+use mathlib.Core.Logic.{_⊎_}
 use Prim.Native.Nat.{ℕ, _+_, _*_, _^_, _≤_, _<_}
 use lib.IntN.{ℤ, pos, _+ℤ_, _-ℤ_}
 use Rattle.word.specs.declared.answer.Answer.{Answer}
@@ -89,3 +90,13 @@ Chain n w (n' ∷ ns) m v = (w' : ℕ) × Moves n n' Rule.Strict w (Answer.Word 
 
 unfoldable pub ChainsComeHome : Type 0
 ChainsComeHome = (n w : ℕ) (ns : List ℕ) (m v : ℕ) (r : Answer) → IsWord n w → Chain n w ns m v → Moves m n Rule.Strict v r → r ≡ Answer.Word w
+
+-- The word w of n bits goes by strict moves through the widths ns and then to the width home: r is the first refusal, or the last word.
+unfoldable pub Goes : ℕ → ℕ → ℕ → List ℕ → Answer → Type 0
+Goes home n w [] r = Moves n home Rule.Strict w r
+Goes home n w (n' ∷ ns) r = ((w' : ℕ) × Moves n n' Rule.Strict w (Answer.Word w') × Goes home n' w' ns r) ⊎ ((q : Refusal) × Moves n n' Rule.Strict w (Answer.Refused q) × (r ≡ Answer.Refused q))
+
+-- and where none was refused, the last word is the first
+pub record ComesHome (n w : ℕ) (ns : List ℕ) (r : Answer) : Type 0 where
+  pub goes : Goes n n w ns r
+  pub home : (v : ℕ) → r ≡ Answer.Word v → v ≡ w

@@ -2,7 +2,10 @@
 use word::answer::Answer;
 use word::order::negate;
 use word::width::Width;
+use write::moving::move_word;
+use write::value::Rule;
 ghost use Rattle.promises.specs.Demands.{ComesBack};
+ghost use Rattle.promises.specs.Writing.{ComesHome};
 
 // A word negated twice is the word, unless the first negation was refused.
 pub fn negate_twice(width: Width, word: u64) -> Answer
@@ -12,4 +15,28 @@ pub fn negate_twice(width: Width, word: u64) -> Answer
         Answer::Word(opposite) => negate(width, opposite),
         Answer::Refused(q) => Answer::Refused(q),
     }
+}
+
+// A word goes by strict moves through all the widths and back to the first: it is the first word again, unless a move was refused.
+pub fn come_home(width: Width, word: u64, widths: &[u32]) -> Answer
+    ensures { λ r. ⌜ ComesHome (width .bits) word (now (widths .entry)) r ⌝ }
+{
+    let mut here = width.bits;
+    let mut carried = word;
+    let mut i = 0;
+    while i < widths.len() {
+        let next = widths[i];
+        match move_word(
+            Width { bits: here },
+            Width { bits: next },
+            Rule::Strict,
+            carried,
+        ) {
+            Answer::Word(moved) => carried = moved,
+            Answer::Refused(q) => return Answer::Refused(q),
+        }
+        here = next;
+        i += 1;
+    }
+    move_word(Width { bits: here }, width, Rule::Strict, carried)
 }

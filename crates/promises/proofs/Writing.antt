@@ -11,12 +11,12 @@ use lib.Pow.{pow-mono}
 use Rattle.word.specs.declared.answer.Answer.{Answer}
 use Rattle.word.specs.declared.reading.Reading.{Reading}
 use Rattle.word.specs.declared.refusal.Refusal.{Refusal}
-use Rattle.word.specs.Takum.{takum}
+use Rattle.word.specs.Takum.{Takum, real, NaR, takum}
 use Rattle.word.specs.Refusals.{widthTest, IsWord, through, refused}
 use Rattle.word.specs.Widths.{narWord, largest, smallest}
 use Rattle.word.specs.Reads.{num, den, IsSize, IsReading, Reads}
 use Rattle.word.specs.Orders.{negated}
-use Rattle.word.proofs.Verdicts.{width-fits, width-through, word-passes, answered}
+use Rattle.word.proofs.Verdicts.{width-fits, width-through, word-passes, move-passes, answered}
 use Rattle.word.proofs.Values.{words-differ}
 use Rattle.word.proofs.Words.{zeros-appended}
 use Rattle.write.specs.declared.value.Rule.{Rule}
@@ -93,7 +93,7 @@ given (Answer.Refused q) = ⊥
 
 pub strict-writing-keeps-the-value : promise.StrictWritingKeepsTheValue
 unfolding promise.StrictWritingKeepsTheValue Writes IsWritten IsSize given
-strict-writing-keeps-the-value n v w (through h x) = (x .z, x .is .means, sym (x .same))
+strict-writing-keeps-the-value n v w (through h x) = (x .is .word, x .z, x .is .means, sym (x .same))
 strict-writing-keeps-the-value n v w (refused h q) = absurd (subst given q tt)
 
 pub strict-refuses-only-where-there-is-no-word : promise.StrictRefusesOnlyWhereThereIsNoWord
@@ -122,6 +122,23 @@ rounding-keeps-the-order n u v x y lo hi h p q =
 pub strict-moves-keep-the-value : promise.StrictMovesKeepTheValue
 unfolding promise.StrictMovesKeepTheValue
 strict-moves-keep-the-value n n' w w' x = let k = strict-keeps n n' w w' x in (k .to, k .same)
+
+pub a-word-with-the-value-is-given : promise.AWordWithTheValueIsGiven
+unfolding promise.AWordWithTheValueIsGiven
+a-word-with-the-value-is-given n n' w w' rule r i i' same x = moved-to-the-same n n' w w' rule r i i' same x
+
+pub strict-moves-refuse-only-where-there-is-no-word : promise.StrictMovesRefuseOnlyWhereThereIsNoWord
+unfolding promise.StrictMovesRefuseOnlyWhereThereIsNoWord Moves IsMoved IsWritten given
+strict-moves-refuse-only-where-there-is-no-word n n' w q i lo hi x =
+    (by (takum n w) (answered (move-passes n n' w i lo hi) x), λ w' i' same. subst given (sym (moved-to-the-same n n' w w' Rule.Strict (Answer.Refused q) i i' same x)) tt)
+  where
+    by : (t : Takum) → IsMoved n' Rule.Strict t (Answer.Refused q) → q ≡ Refusal.Inexact
+    by (real z) y = y .0
+    by NaR y = absurd (subst given (sym y) tt)
+
+pub NaR-moves-to-NaR : promise.NaRMovesToNaR
+unfolding promise.NaRMovesToNaR Moves IsMoved
+NaR-moves-to-NaR n n' w rule r i lo hi q x = subst (λ (t : Takum). IsMoved n' rule t r) q (answered (move-passes n n' w i lo hi) x)
 
 pub wider-never-changes-nor-refuses : promise.WiderNeverChangesNorRefuses
 unfolding promise.WiderNeverChangesNorRefuses

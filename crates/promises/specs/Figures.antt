@@ -1,4 +1,4 @@
--- The figures of paper 01 that are marked P, as far as they are about reading and writing, as one table under one claim.
+-- The figures of paper 01 that are marked P, all of them, as one table under one claim.
 use mathlib.Core.Path.{_≡_}
 use mathlib.Core.Bool.{true, false}
 use mathlib.Core.List.{List, [], _∷_}

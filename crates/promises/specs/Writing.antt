@@ -8,7 +8,7 @@ use lib.IntN.{ℤ, pos, _+ℤ_, _-ℤ_}
 use Rattle.word.specs.declared.answer.Answer.{Answer}
 use Rattle.word.specs.declared.reading.Reading.{Reading}
 use Rattle.word.specs.declared.refusal.Refusal.{Refusal}
-use Rattle.word.specs.Takum.{real, takum}
+use Rattle.word.specs.Takum.{real, NaR, takum}
 use Rattle.word.specs.Refusals.{IsWord}
 use Rattle.word.specs.Widths.{narWord, largest, smallest}
 use Rattle.word.specs.Reads.{num, den, IsSize, signedSize, Reads}
@@ -33,7 +33,7 @@ opposite v = record { negative = not (v .negative); m = v .m; k = v .k }
 unfoldable pub RoundedIsTheNearest : Type 0
 RoundedIsTheNearest = (n : ℕ) (v : Value) (r : Answer) → 2 ≤ n → n ≤ 64 → Writes n Rule.Rounded v r → (w : ℕ) × (r ≡ Answer.Word w) × IsRounded n (v .negative) (over v) (under v) w
 
--- there is such a word for every value, and only one
+-- there is such a word for every value, and only one: this is about the definition, as are the three after it
 unfoldable pub OneRoundedWord : Type 0
 OneRoundedWord = (n : ℕ) (v : Value) → 2 ≤ n → n ≤ 64 → (w : ℕ) × IsRounded n (v .negative) (over v) (under v) w × ((w' : ℕ) → IsRounded n (v .negative) (over v) (under v) w' → w' ≡ w)
 
@@ -51,14 +51,16 @@ BeforeTheSmallest = (n : ℕ) (v : Value) (z w : ℕ) → 2 ≤ n → n ≤ 64 �
 unfoldable pub AWordsValueIsWrittenAsTheWord : Type 0
 AWordsValueIsWrittenAsTheWord = (n : ℕ) (rule : Rule) (v : Value) (w : ℕ) (r : Answer) → 2 ≤ n → n ≤ 64 → IsExact n (v .negative) (over v) (under v) w → Writes n rule v r → r ≡ Answer.Word w
 
+-- ---- demand 3, strict writing
 -- strict writing keeps the value: the word's value is z * 2^-307 with the sign, and z * 2^-307 is m * 2^k
 unfoldable pub StrictWritingKeepsTheValue : Type 0
-StrictWritingKeepsTheValue = (n : ℕ) (v : Value) (w : ℕ) → Writes n Rule.Strict v (Answer.Word w) → (z : ℕ) × (takum n w ≡ real (signedSize (v .negative) z)) × IsSize (v .m) (v .k) z
+StrictWritingKeepsTheValue = (n : ℕ) (v : Value) (w : ℕ) → Writes n Rule.Strict v (Answer.Word w) → IsWord n w × (z : ℕ) × (takum n w ≡ real (signedSize (v .negative) z)) × IsSize (v .m) (v .k) z
 
 -- and is refused only where no word has the value, as INEXACT
 unfoldable pub StrictRefusesOnlyWhereThereIsNoWord : Type 0
 StrictRefusesOnlyWhereThereIsNoWord = (n : ℕ) (v : Value) (q : Refusal) → 2 ≤ n → n ≤ 64 → Writes n Rule.Strict v (Answer.Refused q) → (q ≡ Refusal.Inexact) × ((w : ℕ) → IsExact n (v .negative) (over v) (under v) w → ⊥)
 
+-- ---- demand 2 again
 -- what was read is written back as the word it was read from, by either rule
 unfoldable pub WhatWasReadIsWrittenBack : Type 0
 WhatWasReadIsWrittenBack = (n w : ℕ) (rule : Rule) (s : Bool) (h : ℤ) (m p : ℕ) (r : Answer) → IsWord n w → Reads n w (Reading.Number s h m p) → Writes n rule (record { negative = s; m = m; k = h -ℤ pos p }) r → r ≡ Answer.Word w
@@ -76,6 +78,17 @@ RoundingKeepsOrder = (n : ℕ) (u v : Value) (x y : ℕ) → 2 ≤ n → n ≤ 6
 -- ---- demand 3, moves
 unfoldable pub StrictMovesKeepTheValue : Type 0
 StrictMovesKeepTheValue = (n n' w w' : ℕ) → Moves n n' Rule.Strict w (Answer.Word w') → IsWord n' w' × (takum n' w' ≡ takum n w)
+
+-- refused exactly where no word of the target width has the value, and then as INEXACT; where one has it, it is given
+unfoldable pub StrictMovesRefuseOnlyWhereThereIsNoWord : Type 0
+StrictMovesRefuseOnlyWhereThereIsNoWord = (n n' w : ℕ) (q : Refusal) → IsWord n w → 2 ≤ n' → n' ≤ 64 → Moves n n' Rule.Strict w (Answer.Refused q) → (q ≡ Refusal.Inexact) × ((w' : ℕ) → IsWord n' w' → takum n' w' ≡ takum n w → ⊥)
+
+unfoldable pub AWordWithTheValueIsGiven : Type 0
+AWordWithTheValueIsGiven = (n n' w w' : ℕ) (rule : Rule) (r : Answer) → IsWord n w → IsWord n' w' → takum n' w' ≡ takum n w → Moves n n' rule w r → r ≡ Answer.Word w'
+
+-- NaR goes to NaR, by either rule
+unfoldable pub NaRMovesToNaR : Type 0
+NaRMovesToNaR = (n n' w : ℕ) (rule : Rule) (r : Answer) → IsWord n w → 2 ≤ n' → n' ≤ 64 → takum n w ≡ NaR → Moves n n' rule w r → r ≡ Answer.Word (narWord n')
 
 unfoldable pub WiderNeverChangesNorRefuses : Type 0
 WiderNeverChangesNorRefuses = (n k w : ℕ) (rule : Rule) (r : Answer) → n + k ≤ 64 → IsWord n w → Moves n (n + k) rule w r → (r ≡ Answer.Word (w * 2 ^ k)) × (takum (n + k) (w * 2 ^ k) ≡ takum n w)

@@ -1,4 +1,4 @@
--- The normal size that the hub takes, (m + rest) * 2^(h - 63), and what the hub and its parts answer.
+-- The normal size that size::nearest, the hub, takes, (m + rest) * 2^(h - 63), and what the hub and its parts answer.
 use mathlib.Core.Path.{_≡_}
 use mathlib.Core.Bool.{Bool, true, false, cond}
 use Prim.Native.Nat.{ℕ, _+_, _-_, _*_, _/_, _^_, _≤_, _<_}
@@ -13,13 +13,14 @@ use Rattle.write.specs.declared.size.Side.{Side}
 use Rattle.write.specs.declared.size.Start.{Start}
 use Rattle.write.specs.Writes.{HasValue, Nearest, IsExact, IsWritten}
 
--- the exact size a / b, counted in 2^-307, is (m + rest) * 2^k; both are multiplied by the denominators b and that of 2^(k + 307)
+-- a is (m + rest) * unit
 unfoldable pub Amounts : ℕ → Rest → ℕ → ℕ → Type 0
 Amounts m Rest.Nothing a unit = a ≡ m * unit
 Amounts m Rest.UnderHalf a unit = (m * unit < a) × (2 * a < (2 * m + 1) * unit)
 Amounts m Rest.Half a unit = 2 * a ≡ (2 * m + 1) * unit
 Amounts m Rest.OverHalf a unit = ((2 * m + 1) * unit < 2 * a) × (a < (m + 1) * unit)
 
+-- the exact size a / b, counted in 2^-307, is (m + rest) * 2^k; both are multiplied by the denominators b and that of 2^(k + 307)
 unfoldable pub IsOffered : ℕ → Rest → ℤ → ℕ → ℕ → Type 0
 IsOffered m rest k a b = Amounts m rest (a * den (k +ℤ pos 307)) (num (k +ℤ pos 307) * b)
 

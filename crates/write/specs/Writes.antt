@@ -56,18 +56,18 @@ IsWritten n Rule.Rounded negative a b (Answer.Refused q) = ⊥
 IsWritten n Rule.Strict negative a b (Answer.Word w) = IsExact n negative a b w
 IsWritten n Rule.Strict negative a b (Answer.Refused q) = (q ≡ Refusal.Inexact) × ((w : ℕ) → IsExact n negative a b w → ⊥)
 
--- what the rule gives for what a word means
 unfoldable pub isNegative : ℤ → Bool
 isNegative (pos z) = false
 isNegative (negsuc z) = true
 
+-- what the rule gives for what a word means
 unfoldable pub IsMoved : ℕ → Rule → Takum → Answer → Type 0
 unfolding isNegative
 IsMoved n rule (real z) r = IsWritten n rule (isNegative z) (natAbs z) 1 r
 IsMoved n rule NaR r = r ≡ Answer.Word (narWord n)
 
 -- ---- what the calls answer
--- the value m * 2^k offered, as a fraction counted in 2^-307
+-- WIDTH, then INEXACT; the value m * 2^k is offered as a fraction counted in 2^-307
 unfoldable pub Writes : ℕ → Rule → Value → Answer → Type 0
 Writes n rule v r = Decided (widthTest n) (λ q. r ≡ Answer.Refused q) (IsWritten n rule (v .negative) (v .m * num (v .k +ℤ pos 307)) (den (v .k +ℤ pos 307)) r)
 

@@ -1,0 +1,5 @@
+-- The laws of whole numbers, one idea a file.
+pub mod Amounts
+pub mod Fractions
+pub mod Takings
+pub mod WholeParts

@@ -1,0 +1,125 @@
+-- What is taken out of a number, by where its exponent lies: below zero, from 0 to 63, or past it. Assumes nothing.
+use mathlib.Core.Path.{_≡_, refl, sym, ap, ap₂, _∙_, subst}
+use mathlib.Core.Bool.{Bool, true, false, cond}
+use Prim.Native.Nat.{ℕ, zero, suc, _+_, _-_, _*_, _/_, _^_, _≤_, _<_, zero-le}
+use native.Mathlib.Nat.{le-trans, le-of-eq, mul-le-mul, mul-le-mul-right, mul-assoc, le-div-iff-mul-le, zero-mul, one-mul, le-refl, ne-of-lt, mul-lt-mul-of-pos-right, lt-of-lt-of-le, lt-of-le-of-lt}
+use native.Mathlib.Omega.{arith}
+use borrow.Author.Tests.{lt-ltb, le-ltb, le-leb, lt-leb, ne-eqb}
+use lib.Dec.{eqb, lit<}
+use lib.IntN.{ℤ, pos, negsuc, natAbs}
+use lib.Pow.{pow-pos, pow-mono}
+use Rattle.word.specs.declared.refusal.Refusal.{Refusal}
+use Rattle.word.specs.declared.refusal.Verdict.{Verdict}
+use Rattle.word.specs.Refusals.{_then_, through, refused}
+use Rattle.word.specs.Takum.{Takum, real}
+use Rattle.word.specs.Reads.{IsNumber, signedSize}
+use Rattle.word.proofs.Powers.{pow-sum}
+use Rattle.word.proofs.Values.{absolute}
+use Rattle.whole.specs.declared.taking.Taking.{Taking}
+use Rattle.whole.specs.declared.taking.Whole.{Whole}
+use Rattle.whole.specs.Wholes.{IsWholePart, overTest, inexactTest, IsTaken}
+use Rattle.whole.specs.Parts.{greatest, byRule, TakesNumber}
+use Rattle.whole.proofs.Amounts.{amount, under-one}
+use Rattle.whole.proofs.Fractions.{not-above, next-above, nothing-lost}
+use Rattle.whole.proofs.WholeParts.{no-sign, whole-part}
+
+-- ---- the range
+pub inside : (s : Bool) (i : ℕ) → i ≤ greatest s → overTest (signedSize s i) ≡ Verdict.Through
+unfolding overTest signedSize greatest
+inside false i h = rw (lt-ltb i (2 ^ 63) (omega (arith, h)))
+inside true zero h = refl
+inside true (suc i) h = rw (le-leb (suc i) (2 ^ 63) h)
+
+pub outside : (s : Bool) (i : ℕ) → greatest s < i → overTest (signedSize s i) ≡ Verdict.Refused Refusal.Over
+unfolding overTest signedSize greatest
+outside false i h = rw (le-ltb i (2 ^ 63) (omega (arith, h)))
+outside true zero h = absurd (omega (arith, h))
+outside true (suc i) h = rw (lt-leb (suc i) (2 ^ 63) h)
+
+most : (s : Bool) → greatest s < 2 ^ 63 * 2 ^ 1
+unfolding greatest
+most false = lit< tt
+most true = lit< tt
+
+-- ---- the rule
+pub taken-inside : (rule : Taking) (z x : ℤ) (b : Bool) → IsWholePart z x → overTest x ≡ Verdict.Through → b ≡ eqb (natAbs x * 2 ^ 307) (natAbs z) → IsTaken rule (real z) (byRule rule b x)
+unfolding IsTaken byRule inexactTest
+taken-inside Taking.Cut z x b part h q = (x, part, through (ap (λ (v : Verdict). v then Verdict.Through) h) refl)
+taken-inside Taking.Strict z x true part h q = (x, part, through (rw (h, ← q)) refl)
+taken-inside Taking.Strict z x false part h q = (x, part, refused {q = Refusal.Inexact} (rw (h, ← q)) refl)
+
+pub taken-over : (rule : Taking) (z x : ℤ) → IsWholePart z x → overTest x ≡ Verdict.Refused Refusal.Over → IsTaken rule (real z) (Whole.Refused Refusal.Over)
+unfolding IsTaken
+taken-over rule z x part h = (x, part, refused (ap (λ (v : Verdict). v then inexactTest rule z x) h) refl)
+
+-- ---- a number with its exponent
+module _ (rule : Taking) (s : Bool) (m p : ℕ) (short : p ≤ 63) (low : 2 ^ p ≤ m) where
+  -- the significand with its top bit at 2^63
+  pub full : ℕ
+  full = m * 2 ^ (63 - p)
+
+  full-low : 2 ^ 63 ≤ full
+  unfolding full
+  full-low = le-trans (le-of-eq (sym (pow-sum p (63 - p) 63 (omega (arith, short))))) (mul-le-mul-right (2 ^ (63 - p)) low)
+
+  pub takes-under-one : m < 2 ^ (p + 1) → (i : ℕ) → TakesNumber rule s (negsuc i) m p (byRule rule false (pos 0))
+  unfolding TakesNumber
+  takes-under-one high i t k x = subst (λ (t : Takum). IsTaken rule t (byRule rule false (pos 0))) (sym (x .means)) (taken-inside rule (signedSize s (x .v)) (pos 0) false part refl nothing)
+    where
+      small : (0 < x .v) × (x .v < 2 ^ 307)
+      small = under-one i m p (x .v) low high (x .size)
+
+      part : IsWholePart (signedSize s (x .v)) (pos 0)
+      part = subst (IsWholePart (signedSize s (x .v))) (no-sign s) (whole-part s (x .v) 0 (le-trans (le-of-eq (zero-mul (2 ^ 307))) zero-le) (lt-of-lt-of-le (small .1) (le-of-eq (sym (one-mul (2 ^ 307))))))
+
+      nothing : false ≡ eqb (0 * 2 ^ 307) (natAbs (signedSize s (x .v)))
+      nothing = subst (λ (a : ℕ). false ≡ eqb (0 * 2 ^ 307) a) (sym (absolute s (x .v))) (sym (ne-eqb 0 (x .v) (ne-of-lt (small .0))))
+
+  pub takes-past : (i : ℕ) → 63 < i → TakesNumber rule s (pos i) m p (Whole.Refused Refusal.Over)
+  unfolding TakesNumber full
+  takes-past i h t k x = subst (λ (t : Takum). IsTaken rule t (Whole.Refused Refusal.Over)) (sym (x .means)) (taken-over rule (signedSize s (x .v)) (signedSize s size) part (outside s size large))
+    where
+      size : ℕ
+      size = full * 2 ^ (i - 63)
+
+      is : x .v ≡ size * 2 ^ 307
+      is = amount i m p (x .v) short (x .size) ∙ ap (λ (y : ℕ). full * y) (sym (pow-sum (i - 63) 307 (i + 244) (omega (arith, h)))) ∙ sym (mul-assoc full (2 ^ (i - 63)) (2 ^ 307))
+
+      part : IsWholePart (signedSize s (x .v)) (signedSize s size)
+      part = whole-part s (x .v) size (le-of-eq (sym is)) (lt-of-le-of-lt (le-of-eq is) (mul-lt-mul-of-pos-right (le-refl (suc size)) (pow-pos 307)))
+
+      large : greatest s < size
+      large = lt-of-lt-of-le (most s) (mul-le-mul {n₁ = 2 ^ 63} {m₁ = 2 ^ 1} full-low (pow-mono {i = 1} {j = i - 63} (omega (arith, h))))
+
+  -- from one up to 2^64
+  module _ (i : ℕ) (h : i ≤ 63) where
+    whole : 2 ^ (63 - i) * 2 ^ (i + 244) ≡ 2 ^ 307
+    whole = pow-sum (63 - i) (i + 244) 307 (omega (arith, h))
+
+    pub size-some : 0 < full / 2 ^ (63 - i)
+    size-some = le-div-iff-mul-le {x = 1} (pow-pos (63 - i)) .1 (le-trans (le-of-eq (one-mul (2 ^ (63 - i)))) (le-trans (pow-mono {i = 63 - i} {j = 63} (omega arith)) full-low))
+
+    part-of : (v : ℕ) → v ≡ full * 2 ^ (i + 244) → IsWholePart (signedSize s v) (signedSize s (full / 2 ^ (63 - i)))
+    part-of v q =
+        whole-part s v (full / 2 ^ (63 - i)) (le-trans (not-above full (63 - i) (2 ^ (i + 244)) (2 ^ 307) (pow-pos (i + 244)) whole) (le-of-eq (sym q)))
+        (lt-of-le-of-lt (le-of-eq q) (next-above full (63 - i) (2 ^ (i + 244)) (2 ^ 307) (pow-pos (i + 244)) whole))
+
+    pub takes-over : greatest s < full / 2 ^ (63 - i) → TakesNumber rule s (pos i) m p (Whole.Refused Refusal.Over)
+    unfolding TakesNumber full
+    takes-over large t k x =
+        subst (λ (t : Takum). IsTaken rule t (Whole.Refused Refusal.Over)) (sym (x .means))
+        (taken-over rule (signedSize s (x .v)) (signedSize s (full / 2 ^ (63 - i))) (part-of (x .v) (amount i m p (x .v) short (x .size))) (outside s (full / 2 ^ (63 - i)) large))
+
+    pub takes-inside : full / 2 ^ (63 - i) ≤ greatest s → TakesNumber rule s (pos i) m p (byRule rule (eqb (full / 2 ^ (63 - i) * 2 ^ (63 - i)) full) (signedSize s (full / 2 ^ (63 - i))))
+    unfolding TakesNumber full
+    takes-inside small t k x =
+        subst (λ (t : Takum). IsTaken rule t (byRule rule (eqb (full / 2 ^ (63 - i) * 2 ^ (63 - i)) full) (signedSize s (full / 2 ^ (63 - i))))) (sym (x .means))
+        (taken-inside rule (signedSize s (x .v)) (signedSize s (full / 2 ^ (63 - i))) (eqb (full / 2 ^ (63 - i) * 2 ^ (63 - i)) full) (part-of (x .v) is) (inside s (full / 2 ^ (63 - i)) small) exactly)
+      where
+        is : x .v ≡ full * 2 ^ (i + 244)
+        is = amount i m p (x .v) short (x .size)
+
+        exactly : eqb (full / 2 ^ (63 - i) * 2 ^ (63 - i)) full ≡ eqb (natAbs (signedSize s (full / 2 ^ (63 - i))) * 2 ^ 307) (natAbs (signedSize s (x .v)))
+        exactly =
+            nothing-lost full (63 - i) (2 ^ (i + 244)) (2 ^ 307) (pow-pos (i + 244)) whole
+            ∙ ap₂ (λ (a b : ℕ). eqb (a * 2 ^ 307) b) (sym (absolute s (full / 2 ^ (63 - i)))) (sym is ∙ sym (absolute s (x .v)))

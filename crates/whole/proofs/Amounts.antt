@@ -2,7 +2,7 @@
 use mathlib.Core.Path.{_≡_, refl, sym, ap, _∙_, subst}
 use mathlib.Core.Bool.{Bool, true, false, cond}
 use Prim.Native.Nat.{ℕ, zero, suc, _+_, _-_, _*_, _^_, _≤_, _<_}
-use native.Mathlib.Nat.{mul-one, mul-assoc, zero-mul, mul-pos, lt-of-lt-of-le, lt-of-mul-lt-mul-right, mul-lt-mul-of-pos-right, mul-right-comm, mul-comm}
+use native.Mathlib.Nat.{add-zero, add-suc, mul-one, mul-assoc, zero-mul, mul-pos, lt-of-lt-of-le, lt-of-mul-lt-mul-right, mul-lt-mul-of-pos-right, mul-right-comm, mul-comm}
 use native.Mathlib.Omega.{arith}
 use borrow.Author.Tests.{ltb-true, ltb-false}
 use lib.Dec.{ltb}
@@ -23,8 +23,8 @@ amount i m p v short h =
 
 -- -(i + 1) less p
 less : (i p : ℕ) → negsuc i -ℤ pos p ≡ negsuc (i + p)
-less i zero = +ℤ-idr (negsuc i)
-less i (suc p) = refl
+less i zero = +ℤ-idr (negsuc i) ∙ ap negsuc (sym (add-zero i))
+less i (suc p) = ap negsuc (sym (add-suc i p))
 
 -- 2^-(k + 1), counted in 2^-t
 small : (m k t v : ℕ) → m * num (negsuc k +ℤ pos t) ≡ v * den (negsuc k +ℤ pos t) → v * 2 ^ suc k ≡ m * 2 ^ t

@@ -1,5 +1,7 @@
 -- The laws of whole numbers, one idea a file.
 pub mod Amounts
+pub mod ByReading
 pub mod Fractions
 pub mod Takings
 pub mod WholeParts
+pub mod WholeValues

@@ -53,18 +53,20 @@ unfolding IsTaken
 taken-over rule z x part h = (x, part, refused (ap (λ (v : Verdict). v then inexactTest rule z x) h) refl)
 
 -- ---- a number with its exponent
-module _ (rule : Taking) (s : Bool) (m p : ℕ) (short : p ≤ 63) (low : 2 ^ p ≤ m) where
-  -- the significand with its top bit at 2^63
-  pub full : ℕ
-  full = m * 2 ^ (63 - p)
+-- the significand with its top bit at 2^63, and what is left of it without its fraction
+abbrev pub full : ℕ → ℕ → ℕ
+full m p = m * 2 ^ (63 - p)
 
-  full-low : 2 ^ 63 ≤ full
-  unfolding full
+abbrev pub kept : ℕ → ℕ → ℕ → ℕ
+kept m p i = full m p / 2 ^ (63 - i)
+
+module _ (rule : Taking) (s : Bool) (m p : ℕ) (short : p ≤ 63) (low : 2 ^ p ≤ m) where
+  full-low : 2 ^ 63 ≤ full m p
   full-low = le-trans (le-of-eq (sym (pow-sum p (63 - p) 63 (omega (arith, short))))) (mul-le-mul-right (2 ^ (63 - p)) low)
 
   pub takes-under-one : m < 2 ^ (p + 1) → (i : ℕ) → TakesNumber rule s (negsuc i) m p (byRule rule false (pos 0))
-  unfolding TakesNumber
-  takes-under-one high i t k x = subst (λ (t : Takum). IsTaken rule t (byRule rule false (pos 0))) (sym (x .means)) (taken-inside rule (signedSize s (x .v)) (pos 0) false part refl nothing)
+  unfolding TakesNumber signedSize
+  takes-under-one high i t k x = subst (λ (t : Takum). IsTaken rule t (byRule rule false (pos 0))) (sym (x .means)) (taken-inside rule (signedSize s (x .v)) (pos 0) false part (inside false 0 zero-le) nothing)
     where
       small : (0 < x .v) × (x .v < 2 ^ 307)
       small = under-one i m p (x .v) low high (x .size)
@@ -76,14 +78,14 @@ module _ (rule : Taking) (s : Bool) (m p : ℕ) (short : p ≤ 63) (low : 2 ^ p 
       nothing = subst (λ (a : ℕ). false ≡ eqb (0 * 2 ^ 307) a) (sym (absolute s (x .v))) (sym (ne-eqb 0 (x .v) (ne-of-lt (small .0))))
 
   pub takes-past : (i : ℕ) → 63 < i → TakesNumber rule s (pos i) m p (Whole.Refused Refusal.Over)
-  unfolding TakesNumber full
+  unfolding TakesNumber
   takes-past i h t k x = subst (λ (t : Takum). IsTaken rule t (Whole.Refused Refusal.Over)) (sym (x .means)) (taken-over rule (signedSize s (x .v)) (signedSize s size) part (outside s size large))
     where
       size : ℕ
-      size = full * 2 ^ (i - 63)
+      size = full m p * 2 ^ (i - 63)
 
       is : x .v ≡ size * 2 ^ 307
-      is = amount i m p (x .v) short (x .size) ∙ ap (λ (y : ℕ). full * y) (sym (pow-sum (i - 63) 307 (i + 244) (omega (arith, h)))) ∙ sym (mul-assoc full (2 ^ (i - 63)) (2 ^ 307))
+      is = amount i m p (x .v) short (x .size) ∙ ap (λ (y : ℕ). full m p * y) (sym (pow-sum (i - 63) 307 (i + 244) (omega (arith, h)))) ∙ sym (mul-assoc (full m p) (2 ^ (i - 63)) (2 ^ 307))
 
       part : IsWholePart (signedSize s (x .v)) (signedSize s size)
       part = whole-part s (x .v) size (le-of-eq (sym is)) (lt-of-le-of-lt (le-of-eq is) (mul-lt-mul-of-pos-right (le-refl (suc size)) (pow-pos 307)))
@@ -96,30 +98,30 @@ module _ (rule : Taking) (s : Bool) (m p : ℕ) (short : p ≤ 63) (low : 2 ^ p 
     whole : 2 ^ (63 - i) * 2 ^ (i + 244) ≡ 2 ^ 307
     whole = pow-sum (63 - i) (i + 244) 307 (omega (arith, h))
 
-    pub size-some : 0 < full / 2 ^ (63 - i)
-    size-some = le-div-iff-mul-le {x = 1} (pow-pos (63 - i)) .1 (le-trans (le-of-eq (one-mul (2 ^ (63 - i)))) (le-trans (pow-mono {i = 63 - i} {j = 63} (omega arith)) full-low))
+    pub kept-some : 0 < kept m p i
+    kept-some = le-div-iff-mul-le {x = 1} (pow-pos (63 - i)) .1 (le-trans (le-of-eq (one-mul (2 ^ (63 - i)))) (le-trans (pow-mono {i = 63 - i} {j = 63} (omega arith)) full-low))
 
-    part-of : (v : ℕ) → v ≡ full * 2 ^ (i + 244) → IsWholePart (signedSize s v) (signedSize s (full / 2 ^ (63 - i)))
+    part-of : (v : ℕ) → v ≡ full m p * 2 ^ (i + 244) → IsWholePart (signedSize s v) (signedSize s (kept m p i))
     part-of v q =
-        whole-part s v (full / 2 ^ (63 - i)) (le-trans (not-above full (63 - i) (2 ^ (i + 244)) (2 ^ 307) (pow-pos (i + 244)) whole) (le-of-eq (sym q)))
-        (lt-of-le-of-lt (le-of-eq q) (next-above full (63 - i) (2 ^ (i + 244)) (2 ^ 307) (pow-pos (i + 244)) whole))
+        whole-part s v (kept m p i) (le-trans (not-above (full m p) (63 - i) (2 ^ (i + 244)) (2 ^ 307) (pow-pos (i + 244)) whole) (le-of-eq (sym q)))
+        (lt-of-le-of-lt (le-of-eq q) (next-above (full m p) (63 - i) (2 ^ (i + 244)) (2 ^ 307) (pow-pos (i + 244)) whole))
 
-    pub takes-over : greatest s < full / 2 ^ (63 - i) → TakesNumber rule s (pos i) m p (Whole.Refused Refusal.Over)
-    unfolding TakesNumber full
+    pub takes-over : greatest s < kept m p i → TakesNumber rule s (pos i) m p (Whole.Refused Refusal.Over)
+    unfolding TakesNumber
     takes-over large t k x =
         subst (λ (t : Takum). IsTaken rule t (Whole.Refused Refusal.Over)) (sym (x .means))
-        (taken-over rule (signedSize s (x .v)) (signedSize s (full / 2 ^ (63 - i))) (part-of (x .v) (amount i m p (x .v) short (x .size))) (outside s (full / 2 ^ (63 - i)) large))
+        (taken-over rule (signedSize s (x .v)) (signedSize s (kept m p i)) (part-of (x .v) (amount i m p (x .v) short (x .size))) (outside s (kept m p i) large))
 
-    pub takes-inside : full / 2 ^ (63 - i) ≤ greatest s → TakesNumber rule s (pos i) m p (byRule rule (eqb (full / 2 ^ (63 - i) * 2 ^ (63 - i)) full) (signedSize s (full / 2 ^ (63 - i))))
-    unfolding TakesNumber full
+    pub takes-inside : kept m p i ≤ greatest s → TakesNumber rule s (pos i) m p (byRule rule (eqb (kept m p i * 2 ^ (63 - i)) (full m p)) (signedSize s (kept m p i)))
+    unfolding TakesNumber
     takes-inside small t k x =
-        subst (λ (t : Takum). IsTaken rule t (byRule rule (eqb (full / 2 ^ (63 - i) * 2 ^ (63 - i)) full) (signedSize s (full / 2 ^ (63 - i))))) (sym (x .means))
-        (taken-inside rule (signedSize s (x .v)) (signedSize s (full / 2 ^ (63 - i))) (eqb (full / 2 ^ (63 - i) * 2 ^ (63 - i)) full) (part-of (x .v) is) (inside s (full / 2 ^ (63 - i)) small) exactly)
+        subst (λ (t : Takum). IsTaken rule t (byRule rule (eqb (kept m p i * 2 ^ (63 - i)) (full m p)) (signedSize s (kept m p i)))) (sym (x .means))
+        (taken-inside rule (signedSize s (x .v)) (signedSize s (kept m p i)) (eqb (kept m p i * 2 ^ (63 - i)) (full m p)) (part-of (x .v) is) (inside s (kept m p i) small) exactly)
       where
-        is : x .v ≡ full * 2 ^ (i + 244)
+        is : x .v ≡ full m p * 2 ^ (i + 244)
         is = amount i m p (x .v) short (x .size)
 
-        exactly : eqb (full / 2 ^ (63 - i) * 2 ^ (63 - i)) full ≡ eqb (natAbs (signedSize s (full / 2 ^ (63 - i))) * 2 ^ 307) (natAbs (signedSize s (x .v)))
+        exactly : eqb (kept m p i * 2 ^ (63 - i)) (full m p) ≡ eqb (natAbs (signedSize s (kept m p i)) * 2 ^ 307) (natAbs (signedSize s (x .v)))
         exactly =
-            nothing-lost full (63 - i) (2 ^ (i + 244)) (2 ^ 307) (pow-pos (i + 244)) whole
-            ∙ ap₂ (λ (a b : ℕ). eqb (a * 2 ^ 307) b) (sym (absolute s (full / 2 ^ (63 - i)))) (sym is ∙ sym (absolute s (x .v)))
+            nothing-lost (full m p) (63 - i) (2 ^ (i + 244)) (2 ^ 307) (pow-pos (i + 244)) whole
+            ∙ ap₂ (λ (a b : ℕ). eqb (a * 2 ^ 307) b) (sym (absolute s (kept m p i))) (sym is ∙ sym (absolute s (x .v)))

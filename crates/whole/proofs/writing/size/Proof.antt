@@ -3,6 +3,7 @@ use mathlib.Core.Path.{_≡_, sym, ap, _∙_}
 use Prim.Native.Nat.{ℕ, _+_}
 use borrow.Author.Needs.{needs}
 use lib.IntN.{natAbs}
+use lib.Signed.{mag}
 use mir.Syntax.{w64}
 use native.Mathlib.Numerals.{add-one}
 use Rattle.word.proofs.Casts.{tested, is-negative, plain-cast, complement-fits, complement-cast, complement-more, complement-value}
@@ -20,8 +21,8 @@ add-result c = complement-more w64 tt (c .before .fits .x) (c .if1 .taken)
 
 returns : tie.Need-returns
 returns c =
-    let fits = c .before .fits .x in
-    ap (λ (a : ℕ). a + 1) (complement-value w64 tt fits (c .if1 .taken)) ∙ add-one _ ∙ sym (ap natAbs (is-negative _ (tested w64 tt fits (c .if1 .taken))))
+    let s = c .before in
+    ap (λ (a : ℕ). a + 1) (complement-value w64 tt (s .fits .x) (c .if1 .taken)) ∙ add-one (mag (s .args .x)) ∙ sym (ap natAbs (is-negative (s .args .x) (tested w64 tt (s .fits .x) (c .if1 .taken))))
 
 cast-result-2 : tie.Need-cast-result-2
 cast-result-2 c = plain-cast w64 tt (c .before .fits .x) (c .if1 .left)

@@ -1,22 +1,33 @@
+-- `write_whole` meets its contract: the number's sign and size are offered, with exponent 0. Assumes nothing.
+use mathlib.Core.Path.{_≡_, ap, _∙_, subst₂}
+use mathlib.Core.Bool.{Bool}
+use Prim.Native.Nat.{ℕ, _*_, _^_}
 use borrow.Author.Needs.{needs}
+use lib.IntN.{ℤ, pos, natAbs}
+use lib.Signed.{ltZ}
+use mir.Facts.{toZ-ofZ}
+use Rattle.word.specs.declared.answer.Answer.{Answer}
+use Rattle.word.specs.Reads.{num, den}
+use Rattle.word.specs.Refusals.{widthTest, Decided}
+use Rattle.write.specs.Writes.{IsWritten, Writes}
+use Rattle.whole.specs.Wholes.{WritesWhole}
+use Rattle.whole.proofs.WholeValues.{below-zero}
 use Rattle.whole.proofs.writing.write_whole.Statement.{statement}
 use Rattle.whole.proofs.writing.write_whole.Tie as tie
-use Rattle.whole.proofs.writing.write_whole.Reads as reads
-use Rattle.whole.proofs.writing.write_whole.Lts as lts
-use Rattle.whole.proofs.writing.size.Reads as size-reads
-use Rattle.write.proofs.writing.write.Reads as write-reads
 
--- src/writing.rt:17:12
 size-requires : tie.Need-size-requires
 size-requires c κs = search needs
 
--- src/writing.rt:20:5
 write-requires : tie.Need-write-requires
 write-requires c κs = search needs
 
--- src/writing.rt:12:1
 returns : tie.Need-returns
-returns c = ?
+unfolding Writes WritesWhole num den
+returns c =
+    let s = c .before .before in
+    subst₂
+    (λ (b : Bool) (a : ℕ). Decided (widthTest (s .args .width .bits)) (λ q. c .write .result ≡ Answer.Refused q) (IsWritten (s .args .width .bits) (s .args .rule) b (a * 2 ^ 307) 1 (c .write .result)))
+    (ap (λ (z : ℤ). ltZ z (pos 0)) (toZ-ofZ (s .fits .x)) ∙ below-zero (s .args .x)) (c .before .size .ensures ∙ ap natAbs (toZ-ofZ (s .fits .x))) (c .write .ensures)
 
 pub write-whole-spec : {M : Type 1} → statement M
 write-whole-spec = tie.close (tie.spec size-requires write-requires returns)

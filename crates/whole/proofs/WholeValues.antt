@@ -1,0 +1,46 @@
+-- The value of a whole number: its whole part is the number itself, and by either rule the number itself is taken out. Assumes nothing.
+use mathlib.Core.Path.{_≡_, refl, sym, ap, _∙_, subst}
+use mathlib.Core.Bool.{Bool, true, false}
+use Prim.Native.Nat.{ℕ, suc, _*_, _^_}
+use native.Mathlib.Nat.{le-refl, mul-lt-mul-of-pos-right}
+use borrow.Author.Tests.{eq-eqb}
+use lib.Dec.{eqb, leb·suc-zero}
+use lib.IntN.{ℤ, pos, negsuc, natAbs}
+use lib.Pow.{pow-pos}
+use lib.Signed.{ltZ}
+use Rattle.word.specs.declared.refusal.Verdict.{Verdict}
+use Rattle.word.specs.Takum.{Takum, real}
+use Rattle.word.specs.Reads.{signedSize}
+use Rattle.word.proofs.Values.{absolute}
+use Rattle.write.specs.Writes.{isNegative}
+use Rattle.write.proofs.Moves.{rejoined}
+use Rattle.whole.specs.declared.taking.Taking.{Taking}
+use Rattle.whole.specs.declared.taking.Whole.{Whole}
+use Rattle.whole.specs.Wholes.{IsWholePart, overTest, IsTaken}
+use Rattle.whole.specs.Parts.{byRule}
+use Rattle.whole.proofs.WholeParts.{whole-part}
+use Rattle.whole.proofs.Takings.{taken-inside}
+
+-- the whole number x is the value x * 2^307 * 2^-307
+unfoldable pub valueOf : ℤ → ℤ
+valueOf x = signedSize (isNegative x) (natAbs x * 2 ^ 307)
+
+pub is-its-whole-part : (x : ℤ) → IsWholePart (valueOf x) x
+unfolding valueOf
+is-its-whole-part x = subst (IsWholePart (valueOf x)) (rejoined x) (whole-part (isNegative x) (natAbs x * 2 ^ 307) (natAbs x) (le-refl (natAbs x * 2 ^ 307)) (mul-lt-mul-of-pos-right (le-refl (suc (natAbs x))) (pow-pos 307)))
+
+-- where nothing is lost both rules answer alike
+exactly : (rule : Taking) (x : ℤ) → byRule rule true x ≡ Whole.Is x
+unfolding byRule
+exactly Taking.Cut x = refl
+exactly Taking.Strict x = refl
+
+pub taken-as-itself : (rule : Taking) (x : ℤ) → overTest x ≡ Verdict.Through → IsTaken rule (real (valueOf x)) (Whole.Is x)
+unfolding valueOf
+taken-as-itself rule x h = subst (IsTaken rule (real (valueOf x))) (exactly rule x) (taken-inside rule (valueOf x) x true (is-its-whole-part x) h (sym (eq-eqb (natAbs x * 2 ^ 307) (natAbs (valueOf x)) (sym (absolute (isNegative x) (natAbs x * 2 ^ 307))))))
+
+-- the test of the machine for the sign
+pub below-zero : (x : ℤ) → ltZ x (pos 0) ≡ isNegative x
+unfolding isNegative
+below-zero (pos i) = leb·suc-zero i
+below-zero (negsuc i) = refl

@@ -2,6 +2,10 @@
 pub mod Amounts
 pub mod ByReading
 pub mod Fractions
+pub mod InAndOut
+pub mod OneOutcome
+pub mod Order
+pub mod TakenOut
 pub mod Takings
 pub mod WholeParts
 pub mod WholeValues

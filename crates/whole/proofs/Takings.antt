@@ -18,26 +18,26 @@ use Rattle.word.proofs.Values.{absolute}
 use Rattle.whole.specs.declared.taking.Taking.{Taking}
 use Rattle.whole.specs.declared.taking.Whole.{Whole}
 use Rattle.whole.specs.Wholes.{IsWholePart, overTest, inexactTest, IsTaken}
-use Rattle.whole.specs.Parts.{greatest, byRule, TakesNumber}
+use Rattle.whole.specs.Parts.{greatestSize, byRule, TakesNumber}
 use Rattle.whole.proofs.Amounts.{amount, under-one}
 use Rattle.whole.proofs.Fractions.{not-above, next-above, nothing-lost}
 use Rattle.whole.proofs.WholeParts.{no-sign, whole-part}
 
 -- ---- the range
-pub inside : (s : Bool) (i : ℕ) → i ≤ greatest s → overTest (signedSize s i) ≡ Verdict.Through
-unfolding overTest signedSize greatest
+pub inside : (s : Bool) (i : ℕ) → i ≤ greatestSize s → overTest (signedSize s i) ≡ Verdict.Through
+unfolding overTest signedSize greatestSize
 inside false i h = rw (lt-ltb i (2 ^ 63) (omega (arith, h)))
 inside true zero h = refl
 inside true (suc i) h = rw (le-leb (suc i) (2 ^ 63) h)
 
-pub outside : (s : Bool) (i : ℕ) → greatest s < i → overTest (signedSize s i) ≡ Verdict.Refused Refusal.Over
-unfolding overTest signedSize greatest
+pub outside : (s : Bool) (i : ℕ) → greatestSize s < i → overTest (signedSize s i) ≡ Verdict.Refused Refusal.Over
+unfolding overTest signedSize greatestSize
 outside false i h = rw (le-ltb i (2 ^ 63) (omega (arith, h)))
 outside true zero h = absurd (omega (arith, h))
 outside true (suc i) h = rw (lt-leb (suc i) (2 ^ 63) h)
 
-most : (s : Bool) → greatest s < 2 ^ 63 * 2 ^ 1
-unfolding greatest
+most : (s : Bool) → greatestSize s < 2 ^ 63 * 2 ^ 1
+unfolding greatestSize
 most false = lit< tt
 most true = lit< tt
 
@@ -90,7 +90,7 @@ module _ (rule : Taking) (s : Bool) (m p : ℕ) (short : p ≤ 63) (low : 2 ^ p 
       part : IsWholePart (signedSize s (x .v)) (signedSize s size)
       part = whole-part s (x .v) size (le-of-eq (sym is)) (lt-of-le-of-lt (le-of-eq is) (mul-lt-mul-of-pos-right (le-refl (suc size)) (pow-pos 307)))
 
-      large : greatest s < size
+      large : greatestSize s < size
       large = lt-of-lt-of-le (most s) (mul-le-mul {n₁ = 2 ^ 63} {m₁ = 2 ^ 1} full-low (pow-mono {i = 1} {j = i - 63} (omega (arith, h))))
 
   -- from one up to 2^64
@@ -106,13 +106,13 @@ module _ (rule : Taking) (s : Bool) (m p : ℕ) (short : p ≤ 63) (low : 2 ^ p 
         whole-part s v (kept m p i) (le-trans (not-above (full m p) (63 - i) (2 ^ (i + 244)) (2 ^ 307) (pow-pos (i + 244)) whole) (le-of-eq (sym q)))
         (lt-of-le-of-lt (le-of-eq q) (next-above (full m p) (63 - i) (2 ^ (i + 244)) (2 ^ 307) (pow-pos (i + 244)) whole))
 
-    pub takes-over : greatest s < kept m p i → TakesNumber rule s (pos i) m p (Whole.Refused Refusal.Over)
+    pub takes-over : greatestSize s < kept m p i → TakesNumber rule s (pos i) m p (Whole.Refused Refusal.Over)
     unfolding TakesNumber
     takes-over large t k x =
         subst (λ (t : Takum). IsTaken rule t (Whole.Refused Refusal.Over)) (sym (x .means))
         (taken-over rule (signedSize s (x .v)) (signedSize s (kept m p i)) (part-of (x .v) (amount i m p (x .v) short (x .size))) (outside s (kept m p i) large))
 
-    pub takes-inside : kept m p i ≤ greatest s → TakesNumber rule s (pos i) m p (byRule rule (eqb (kept m p i * 2 ^ (63 - i)) (full m p)) (signedSize s (kept m p i)))
+    pub takes-inside : kept m p i ≤ greatestSize s → TakesNumber rule s (pos i) m p (byRule rule (eqb (kept m p i * 2 ^ (63 - i)) (full m p)) (signedSize s (kept m p i)))
     unfolding TakesNumber
     takes-inside small t k x =
         subst (λ (t : Takum). IsTaken rule t (byRule rule (eqb (kept m p i * 2 ^ (63 - i)) (full m p)) (signedSize s (kept m p i)))) (sym (x .means))

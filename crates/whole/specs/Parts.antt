@@ -10,8 +10,8 @@ use Rattle.whole.specs.declared.taking.Whole.{Whole}
 use Rattle.whole.specs.Wholes.{IsTaken}
 
 -- the greatest size of a signed 64-bit number
-unfoldable pub greatest : Bool → ℕ
-greatest negative = cond negative (2 ^ 63) (2 ^ 63 - 1)
+unfoldable pub greatestSize : Bool → ℕ
+greatestSize negative = cond negative (2 ^ 63) (2 ^ 63 - 1)
 
 -- what the rule answers for the whole part x of a value that is exactly x, or isn't
 unfoldable pub byRule : Taking → Bool → ℤ → Whole

@@ -7,7 +7,7 @@ ghost use mathlib.Core.Path.{_≡_};
 ghost use Prim.Native.Nat.{_+_, _^_, _≤_, _<_};
 ghost use Rattle.word.specs.Reads.{signedSize};
 ghost use Rattle.whole.specs.Wholes.{TakesWhole};
-ghost use Rattle.whole.specs.Parts.{greatest, byRule, TakesNumber};
+ghost use Rattle.whole.specs.Parts.{greatestSize, byRule, TakesNumber};
 
 // Cut drops the fraction toward zero, strict refuses a value that has one.
 pub enum Taking {
@@ -37,6 +37,7 @@ fn take_number(rule: Taking, negative: bool, h: i32, m: u64, p: u32) -> Whole
     requires { ⌜ (p ≤ 63) × (2 ^ p ≤ m) × (m < 2 ^ (p + 1)) ⌝ }
     ensures { λ a. ⌜ TakesNumber rule negative h m p a ⌝ }
 {
+    // Below one the whole part is zero.
     if h < 0 {
         return by_rule(rule, false, 0);
     }
@@ -47,15 +48,15 @@ fn take_number(rule: Taking, negative: bool, h: i32, m: u64, p: u32) -> Whole
     let full = m << (63 - p);
     let fraction = 63 - h as u32;
     let size = full >> fraction;
-    if greatest(negative) < size {
+    if greatest_size(negative) < size {
         return Whole::Refused(Refusal::Over);
     }
     by_rule(rule, size << fraction == full, with_sign(negative, size))
 }
 
 // The greatest size of a signed 64-bit number.
-fn greatest(negative: bool) -> u64
-    ensures { λ r. ⌜ r ≡ greatest negative ⌝ }
+fn greatest_size(negative: bool) -> u64
+    ensures { λ r. ⌜ r ≡ greatestSize negative ⌝ }
 {
     if negative {
         return 1 << 63;
@@ -63,8 +64,9 @@ fn greatest(negative: bool) -> u64
     (1 << 63) - 1
 }
 
+// A whole number of its sign and size; 2^63 itself is no i64, so one is taken off before the sign is set.
 fn with_sign(negative: bool, size: u64) -> i64
-    requires { ⌜ (0 < size) × (size ≤ greatest negative) ⌝ }
+    requires { ⌜ (0 < size) × (size ≤ greatestSize negative) ⌝ }
     ensures { λ x. ⌜ x ≡ signedSize negative size ⌝ }
 {
     if negative {
@@ -73,7 +75,7 @@ fn with_sign(negative: bool, size: u64) -> i64
     size as i64
 }
 
-// What the rule answers where the whole part is x; the value is exactly x, or has a fraction beside it.
+// What the rule answers where the whole part is x, and the value is exactly x or has a fraction beside it.
 fn by_rule(rule: Taking, exactly: bool, x: i64) -> Whole
     ensures { λ a. ⌜ a ≡ byRule rule exactly x ⌝ }
 {

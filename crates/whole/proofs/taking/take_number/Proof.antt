@@ -18,7 +18,7 @@ use Rattle.word.specs.Reads.{signedSize}
 use Rattle.word.proofs.Casts.{tested, not-negative, is-negative, plain-value}
 use Rattle.word.proofs.Powers.{shl-below}
 use Rattle.whole.specs.declared.taking.Whole.{Whole}
-use Rattle.whole.specs.Parts.{greatest, byRule, TakesNumber}
+use Rattle.whole.specs.Parts.{greatestSize, byRule, TakesNumber}
 use Rattle.whole.proofs.Takings.{full, kept, takes-under-one, takes-past, kept-some, takes-over, takes-inside}
 use Rattle.whole.proofs.taking.take_number.Statement.{statement}
 use Rattle.whole.proofs.taking.take_number.Tie as tie
@@ -96,20 +96,20 @@ cast-size c = search needs
 shr-size : tie.Need-shr-size
 shr-size c = search needs
 
-greatest-requires : tie.Need-greatest-requires
-greatest-requires c κs = search needs
+greatest-size-requires : tie.Need-greatest-size-requires
+greatest-size-requires c κs = search needs
 
 returns-3 : tie.Need-returns-3
 returns-3 c = let k = c .before .before in
     let s = k .before .before in
     subst (λ (z : ℤ). TakesNumber (s .args .rule) (s .args .negative) z (s .args .m) (s .args .p) (Whole.Refused Refusal.Over)) (sym (exponent (s .fits .h) (k .before .if1 .left)))
     (takes-over (s .args .rule) (s .args .negative) (s .args .m) (s .args .p) (s .pre .0) (s .pre .1) (mag (s .args .h)) (few k)
-    (subst₂ (λ (x y : ℕ). x < y) (c .before .greatest .ensures) (kept-is (s .args .m) (s .args .p) (s .pre .0) (s .pre .2) (s .fits .h) (k .before .if1 .left)) (c .if3 .taken)))
+    (subst₂ (λ (x y : ℕ). x < y) (c .before .greatest-size .ensures) (kept-is (s .args .m) (s .args .p) (s .pre .0) (s .pre .2) (s .fits .h) (k .before .if1 .left)) (c .if3 .taken)))
 
-kept-most : (c : tie.Else3) → kept (c .before .before .before .before .args .m) (c .before .before .before .before .args .p) (mag (c .before .before .before .before .args .h)) ≤ greatest (c .before .before .before .before .args .negative)
+kept-most : (c : tie.Else3) → kept (c .before .before .before .before .args .m) (c .before .before .before .before .args .p) (mag (c .before .before .before .before .args .h)) ≤ greatestSize (c .before .before .before .before .args .negative)
 kept-most c = let k = c .before .before in
     let s = k .before .before in
-    subst₂ (λ (x y : ℕ). x ≤ y) (kept-is (s .args .m) (s .args .p) (s .pre .0) (s .pre .2) (s .fits .h) (k .before .if1 .left)) (c .before .greatest .ensures) (c .if3 .left)
+    subst₂ (λ (x y : ℕ). x ≤ y) (kept-is (s .args .m) (s .args .p) (s .pre .0) (s .pre .2) (s .fits .h) (k .before .if1 .left)) (c .before .greatest-size .ensures) (c .if3 .left)
 
 cast-by-rule : tie.Need-cast-by-rule
 cast-by-rule c = search needs
@@ -120,7 +120,7 @@ shl-by-rule c = search needs
 with-sign-requires : tie.Need-with-sign-requires
 with-sign-requires c κs = let k = c .before .before in
     let s = k .before .before in
-    subst (λ (x : ℕ). (0 < x) × (x ≤ greatest (s .args .negative))) (sym (kept-is (s .args .m) (s .args .p) (s .pre .0) (s .pre .2) (s .fits .h) (k .before .if1 .left)))
+    subst (λ (x : ℕ). (0 < x) × (x ≤ greatestSize (s .args .negative))) (sym (kept-is (s .args .m) (s .args .p) (s .pre .0) (s .pre .2) (s .fits .h) (k .before .if1 .left)))
     (kept-some (s .args .rule) (s .args .negative) (s .args .m) (s .args .p) (s .pre .0) (s .pre .1) (mag (s .args .h)) (few k), kept-most c)
 
 by-rule-requires-2 : tie.Need-by-rule-requires-2
@@ -150,7 +150,7 @@ take-number-spec =
     sub-fraction
     cast-size
     shr-size
-    greatest-requires
+    greatest-size-requires
     returns-3
     cast-by-rule
     shl-by-rule

@@ -10,17 +10,17 @@ use mir.Syntax.{w64}
 use mir.Val.{SFits, toZ, ofZ}
 use Rattle.word.specs.Reads.{signedSize}
 use Rattle.word.proofs.Signed.{minus-one-less}
-use Rattle.whole.specs.Parts.{greatest}
+use Rattle.whole.specs.Parts.{greatestSize}
 use Rattle.whole.proofs.taking.with_sign.Statement.{statement}
 use Rattle.whole.proofs.taking.with_sign.Tie as tie
 
-most : {s : Bool} {i : ℕ} (t : Bool) → s ≡ t → i ≤ greatest s → i ≤ greatest t
-most {i = i} t q h = subst (λ (b : Bool). i ≤ greatest b) q h
+most : {s : Bool} {i : ℕ} (t : Bool) → s ≡ t → i ≤ greatestSize s → i ≤ greatestSize t
+most {i = i} t q h = subst (λ (b : Bool). i ≤ greatestSize b) q h
 
 -- a size below zero
-module _ (i : ℕ) (some : 0 < i) (least : i ≤ greatest true) where
+module _ (i : ℕ) (some : 0 < i) (least : i ≤ greatestSize true) where
   before : i - 1 < 2 ^ 63
-  unfolding greatest
+  unfolding greatestSize
   before = omega (arith, some, least)
 
   less : negsuc 0 -ℤ toZ w64 (i - 1) ≡ negsuc (i - 1)
@@ -37,9 +37,9 @@ module _ (i : ℕ) (some : 0 < i) (least : i ≤ greatest true) where
   below = toZ-ofZ less-fits ∙ less ∙ ap (λ (x : ℕ). negℤ (pos x)) next
 
 -- a size above zero
-module _ (i : ℕ) (least : i ≤ greatest false) where
+module _ (i : ℕ) (least : i ≤ greatestSize false) where
   room : i < 2 ^ 63
-  unfolding greatest
+  unfolding greatestSize
   room = omega (arith, least)
 
   above : toZ w64 i ≡ signedSize false i

@@ -2,7 +2,7 @@
 use mathlib.Core.Path.{_≡_, refl, sym, ap, _∙_, subst}
 use mathlib.Core.Bool.{Bool, true, false, cond}
 use Prim.Native.Nat.{ℕ, zero, suc, _+_, _-_, _*_, _^_, _≤_, _<_}
-use native.Mathlib.Nat.{add-zero, add-suc, mul-one, mul-assoc, zero-mul, mul-pos, lt-of-lt-of-le, lt-of-mul-lt-mul-right, mul-lt-mul-of-pos-right, mul-right-comm, mul-comm}
+use native.Mathlib.Nat.{add-zero, add-suc, mul-one, mul-assoc, zero-mul, mul-pos, lt-of-lt-of-le, lt-of-mul-lt-mul-right, mul-lt-mul-of-pos-right, mul-comm}
 use native.Mathlib.Omega.{arith}
 use borrow.Author.Tests.{ltb-true, ltb-false}
 use lib.Dec.{ltb}

@@ -1,7 +1,7 @@
 -- What is taken out of a word, by what its reading answers. Assumes nothing.
-use mathlib.Core.Path.{_≡_, refl, sym, ap, _∙_, subst}
-use mathlib.Core.Bool.{Bool, false}
-use Prim.Native.Nat.{ℕ, zero, _+_, _^_, _≤_, _<_, zero-le}
+use mathlib.Core.Path.{refl, sym, ap, subst}
+use mathlib.Core.Bool.{Bool}
+use Prim.Native.Nat.{ℕ, _+_, _^_, _≤_, _<_}
 use native.Mathlib.Nat.{le-trans, le-of-eq}
 use lib.Dec.{lit≤}
 use lib.IntN.{ℤ, pos}
@@ -9,7 +9,7 @@ use Rattle.word.specs.declared.reading.Reading.{Reading}
 use Rattle.word.specs.declared.refusal.Refusal.{Refusal}
 use Rattle.word.specs.Refusals.{through, refused}
 use Rattle.word.specs.Takum.{Takum, takum, fractionBits}
-use Rattle.word.specs.Reads.{IsNumber, IsReading, Reads, signedSize}
+use Rattle.word.specs.Reads.{IsReading, Reads, signedSize}
 use Rattle.word.proofs.Readings.{fraction-bits-most}
 use Rattle.word.proofs.Verdicts.{word-through}
 use Rattle.write.specs.Writes.{isNegative}

@@ -1,6 +1,6 @@
 -- In and out again: a whole number that was written strictly is taken out as itself, and a word that was taken out strictly is written as itself. Assumes nothing.
 use mathlib.Core.Path.{_≡_, refl, sym, ap, _∙_, subst}
-use mathlib.Core.Bool.{Bool, true, false, cond}
+use mathlib.Core.Bool.{Bool, true, false}
 use Prim.Native.Nat.{ℕ, zero, suc, _*_, _^_}
 use native.Mathlib.Nat.{mul-one, zero-lt-suc}
 use borrow.Author.Tests.{eqb-true}
@@ -10,9 +10,9 @@ use Rattle.word.specs.declared.answer.Answer.{Answer}
 use Rattle.word.specs.declared.refusal.Refusal.{Refusal}
 use Rattle.word.specs.declared.refusal.Verdict.{Verdict}
 use Rattle.word.specs.Refusals.{_then_, IsWord, through, refused}
-use Rattle.word.specs.Takum.{Takum, real, NaR, takum}
+use Rattle.word.specs.Takum.{Takum, real, takum}
 use Rattle.word.specs.Reads.{signedSize}
-use Rattle.word.proofs.Verdicts.{then-through, open-when, width-fits, word-through, word-passes, answered}
+use Rattle.word.proofs.Verdicts.{then-through, open-when, width-fits, word-passes, answered}
 use Rattle.write.specs.declared.value.Rule.{Rule}
 use Rattle.write.specs.Writes.{isNegative, IsWritten}
 use Rattle.write.proofs.Moves.{rejoined}
@@ -56,7 +56,7 @@ signed-value true zero = refl
 signed-value true (suc i) = refl
 
 -- a value that is as large as its whole part is its whole part's
-exact-value : (z x : ℤ) → IsWholePart z x → natAbs x * 2 ^ 307 ≡ natAbs z → z ≡ valueOf x
+pub exact-value : (z x : ℤ) → IsWholePart z x → natAbs x * 2 ^ 307 ≡ natAbs z → z ≡ valueOf x
 exact-value z x part q = sym (ap valueOf (part .sign) ∙ signed-value (isNegative z) (natAbs x) ∙ ap (signedSize (isNegative z)) q ∙ rejoined z)
 
 not-inexact : (z x : ℤ) → overTest x then inexactTest Taking.Strict z x ≡ Verdict.Through → natAbs x * 2 ^ 307 ≡ natAbs z

@@ -5,6 +5,7 @@ pub mod Fractions
 pub mod InAndOut
 pub mod OneOutcome
 pub mod Order
+pub mod Refused
 pub mod TakenOut
 pub mod Takings
 pub mod WholeParts

@@ -1,6 +1,6 @@
 -- What is taken out of a number, by where its exponent lies: below zero, from 0 to 63, or past it. Assumes nothing.
 use mathlib.Core.Path.{_≡_, refl, sym, ap, ap₂, _∙_, subst}
-use mathlib.Core.Bool.{Bool, true, false, cond}
+use mathlib.Core.Bool.{Bool, true, false}
 use Prim.Native.Nat.{ℕ, zero, suc, _+_, _-_, _*_, _/_, _^_, _≤_, _<_, zero-le}
 use native.Mathlib.Nat.{le-trans, le-of-eq, mul-le-mul, mul-le-mul-right, mul-assoc, le-div-iff-mul-le, zero-mul, one-mul, le-refl, ne-of-lt, mul-lt-mul-of-pos-right, lt-of-lt-of-le, lt-of-le-of-lt}
 use native.Mathlib.Omega.{arith}
@@ -12,7 +12,7 @@ use Rattle.word.specs.declared.refusal.Refusal.{Refusal}
 use Rattle.word.specs.declared.refusal.Verdict.{Verdict}
 use Rattle.word.specs.Refusals.{_then_, through, refused}
 use Rattle.word.specs.Takum.{Takum, real}
-use Rattle.word.specs.Reads.{IsNumber, signedSize}
+use Rattle.word.specs.Reads.{signedSize}
 use Rattle.word.proofs.Powers.{pow-sum}
 use Rattle.word.proofs.Values.{absolute}
 use Rattle.whole.specs.declared.taking.Taking.{Taking}

@@ -1,15 +1,15 @@
 -- The value of a whole number: its whole part is the number itself, and by either rule the number itself is taken out. Assumes nothing.
-use mathlib.Core.Path.{_≡_, refl, sym, ap, _∙_, subst}
-use mathlib.Core.Bool.{Bool, true, false}
-use Prim.Native.Nat.{ℕ, suc, _*_, _^_}
+use mathlib.Core.Path.{_≡_, refl, sym, subst}
+use mathlib.Core.Bool.{true}
+use Prim.Native.Nat.{suc, _*_, _^_}
 use native.Mathlib.Nat.{le-refl, mul-lt-mul-of-pos-right}
 use borrow.Author.Tests.{eq-eqb}
-use lib.Dec.{eqb, leb·suc-zero}
+use lib.Dec.{leb·suc-zero}
 use lib.IntN.{ℤ, pos, negsuc, natAbs}
 use lib.Pow.{pow-pos}
 use lib.Signed.{ltZ}
 use Rattle.word.specs.declared.refusal.Verdict.{Verdict}
-use Rattle.word.specs.Takum.{Takum, real}
+use Rattle.word.specs.Takum.{real}
 use Rattle.word.specs.Reads.{signedSize}
 use Rattle.word.proofs.Values.{absolute}
 use Rattle.write.specs.Writes.{isNegative}

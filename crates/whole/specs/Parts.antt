@@ -1,5 +1,5 @@
 -- What the parts of taking out answer: the whole part of a number that was read, its range, its sign and the rule.
-use mathlib.Core.Bool.{Bool, true, false, cond}
+use mathlib.Core.Bool.{Bool, cond}
 use Prim.Native.Nat.{ℕ, _-_, _^_}
 use lib.IntN.{ℤ}
 use Rattle.word.specs.declared.refusal.Refusal.{Refusal}

@@ -1,5 +1,5 @@
 -- `size` meets its contract: no step leaves the 64 bits, at -2^63 either. Assumes nothing.
-use mathlib.Core.Path.{_≡_, sym, ap, _∙_}
+use mathlib.Core.Path.{sym, ap, _∙_}
 use Prim.Native.Nat.{ℕ, _+_}
 use borrow.Author.Needs.{needs}
 use lib.IntN.{natAbs}

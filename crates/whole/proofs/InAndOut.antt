@@ -1,7 +1,6 @@
 -- In and out again: a whole number that was written strictly is taken out as itself, and a word that was taken out strictly is written as itself. Assumes nothing.
-use mathlib.Core.Path.{_≡_, refl, sym, ap, _∙_, subst}
-use mathlib.Core.Bool.{Bool, true, false}
-use Prim.Native.Nat.{ℕ, zero, suc, _*_, _^_}
+use mathlib.Core.Path.{_≡_, sym, ap, _∙_, subst}
+use Prim.Native.Nat.{ℕ, _*_, _^_}
 use native.Mathlib.Nat.{mul-one, zero-lt-suc}
 use borrow.Author.Tests.{eqb-true}
 use lib.Dec.{eqb}
@@ -15,14 +14,13 @@ use Rattle.word.specs.Reads.{signedSize}
 use Rattle.word.proofs.Verdicts.{then-through, open-when, width-fits, word-passes, answered}
 use Rattle.write.specs.declared.value.Rule.{Rule}
 use Rattle.write.specs.Writes.{isNegative, IsWritten}
-use Rattle.write.proofs.Moves.{rejoined}
 use Rattle.write.proofs.Rounding.{exact-written}
 use Rattle.whole.specs.declared.taking.Taking.{Taking}
 use Rattle.whole.specs.declared.taking.Whole.{Whole}
-use Rattle.whole.specs.Wholes.{IsWholePart, overTest, inexactTest, IsTaken, WritesWhole, TakesWhole}
+use Rattle.whole.specs.Wholes.{overTest, inexactTest, IsTaken, WritesWhole, TakesWhole}
 use Rattle.whole.proofs.OneOutcome.{taken-one}
 use Rattle.whole.proofs.TakenOut.{taken-out}
-use Rattle.whole.proofs.WholeValues.{valueOf, taken-as-itself}
+use Rattle.whole.proofs.WholeValues.{valueOf, exact-value, taken-as-itself}
 
 -- an answer that gives a word isn't a refusal
 gives-word : Answer → Type 0
@@ -49,16 +47,6 @@ written-as n rule x w r k y =
     (answered (width-fits n (k .word .least) (k .word .most)) y)
 
 -- ---- a whole number out
-signed-value : (s : Bool) (i : ℕ) → valueOf (signedSize s i) ≡ signedSize s (i * 2 ^ 307)
-unfolding valueOf signedSize isNegative
-signed-value false i = refl
-signed-value true zero = refl
-signed-value true (suc i) = refl
-
--- a value that is as large as its whole part is its whole part's
-pub exact-value : (z x : ℤ) → IsWholePart z x → natAbs x * 2 ^ 307 ≡ natAbs z → z ≡ valueOf x
-exact-value z x part q = sym (ap valueOf (part .sign) ∙ signed-value (isNegative z) (natAbs x) ∙ ap (signedSize (isNegative z)) q ∙ rejoined z)
-
 not-inexact : (z x : ℤ) → overTest x then inexactTest Taking.Strict z x ≡ Verdict.Through → natAbs x * 2 ^ 307 ≡ natAbs z
 unfolding inexactTest
 not-inexact z x h = eqb-true (natAbs x * 2 ^ 307) (natAbs z) (open-when (eqb (natAbs x * 2 ^ 307) (natAbs z)) Refusal.Inexact (then-through (overTest x) (inexactTest Taking.Strict z x) h .1))

@@ -1,5 +1,6 @@
 -- The laws of whole numbers, one idea a file.
 pub mod Amounts
+pub mod Answers
 pub mod ByReading
 pub mod Fractions
 pub mod InAndOut

@@ -19,11 +19,10 @@ use Rattle.whole.specs.declared.taking.Taking.{Taking}
 use Rattle.whole.specs.declared.taking.Whole.{Whole}
 use Rattle.whole.specs.Wholes.{IsWholePart, overTest, IsTaken, TakesWhole}
 use Rattle.whole.specs.Parts.{byRule}
-use Rattle.whole.proofs.InAndOut.{exact-value}
 use Rattle.whole.proofs.OneOutcome.{taken-one}
-use Rattle.whole.proofs.Takings.{taken-inside, taken-over}
+use Rattle.whole.proofs.Answers.{taken-inside, taken-over}
 use Rattle.whole.proofs.WholeParts.{one-whole-part}
-use Rattle.whole.proofs.WholeValues.{valueOf, is-its-whole-part}
+use Rattle.whole.proofs.WholeValues.{valueOf, is-its-whole-part, exact-value}
 
 -- no whole number has the value
 abbrev pub NotWhole : ℤ → Type 0

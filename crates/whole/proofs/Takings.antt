@@ -1,64 +1,39 @@
 -- What is taken out of a number, by where its exponent lies: below zero, from 0 to 63, or past it. Assumes nothing.
-use mathlib.Core.Path.{_≡_, refl, sym, ap, ap₂, _∙_, subst}
+use mathlib.Core.Path.{_≡_, sym, ap, ap₂, _∙_, subst}
 use mathlib.Core.Bool.{Bool, true, false}
-use Prim.Native.Nat.{ℕ, zero, suc, _+_, _-_, _*_, _/_, _^_, _≤_, _<_, zero-le}
+use Prim.Native.Nat.{ℕ, suc, _+_, _-_, _*_, _/_, _^_, _≤_, _<_, zero-le}
 use native.Mathlib.Nat.{le-trans, le-of-eq, mul-le-mul, mul-le-mul-right, mul-assoc, le-div-iff-mul-le, zero-mul, one-mul, le-refl, ne-of-lt, mul-lt-mul-of-pos-right, lt-of-lt-of-le, lt-of-le-of-lt}
 use native.Mathlib.Omega.{arith}
-use borrow.Author.Tests.{lt-ltb, le-ltb, le-leb, lt-leb, ne-eqb}
+use borrow.Author.Tests.{ne-eqb}
 use lib.Dec.{eqb, lit<}
-use lib.IntN.{ℤ, pos, negsuc, natAbs}
+use lib.IntN.{pos, negsuc, natAbs}
 use lib.Pow.{pow-pos, pow-mono}
 use Rattle.word.specs.declared.refusal.Refusal.{Refusal}
-use Rattle.word.specs.declared.refusal.Verdict.{Verdict}
-use Rattle.word.specs.Refusals.{_then_, through, refused}
-use Rattle.word.specs.Takum.{Takum, real}
+use Rattle.word.specs.Takum.{Takum}
 use Rattle.word.specs.Reads.{signedSize}
 use Rattle.word.proofs.Powers.{pow-sum}
 use Rattle.word.proofs.Values.{absolute}
 use Rattle.whole.specs.declared.taking.Taking.{Taking}
 use Rattle.whole.specs.declared.taking.Whole.{Whole}
-use Rattle.whole.specs.Wholes.{IsWholePart, overTest, inexactTest, IsTaken}
+use Rattle.whole.specs.Wholes.{IsWholePart, IsTaken}
 use Rattle.whole.specs.Parts.{greatestSize, byRule, TakesNumber}
 use Rattle.whole.proofs.Amounts.{amount, under-one}
 use Rattle.whole.proofs.Fractions.{not-above, next-above, nothing-lost}
 use Rattle.whole.proofs.WholeParts.{no-sign, whole-part}
+use Rattle.whole.proofs.Answers.{inside, outside, taken-inside, taken-over}
 
--- ---- the range
-pub inside : (s : Bool) (i : ℕ) → i ≤ greatestSize s → overTest (signedSize s i) ≡ Verdict.Through
-unfolding overTest signedSize greatestSize
-inside false i h = rw (lt-ltb i (2 ^ 63) (omega (arith, h)))
-inside true zero h = refl
-inside true (suc i) h = rw (le-leb (suc i) (2 ^ 63) h)
-
-pub outside : (s : Bool) (i : ℕ) → greatestSize s < i → overTest (signedSize s i) ≡ Verdict.Refused Refusal.Over
-unfolding overTest signedSize greatestSize
-outside false i h = rw (le-ltb i (2 ^ 63) (omega (arith, h)))
-outside true zero h = absurd (omega (arith, h))
-outside true (suc i) h = rw (lt-leb (suc i) (2 ^ 63) h)
-
-most : (s : Bool) → greatestSize s < 2 ^ 63 * 2 ^ 1
-unfolding greatestSize
-most false = lit< tt
-most true = lit< tt
-
--- ---- the rule
-pub taken-inside : (rule : Taking) (z x : ℤ) (b : Bool) → IsWholePart z x → overTest x ≡ Verdict.Through → b ≡ eqb (natAbs x * 2 ^ 307) (natAbs z) → IsTaken rule (real z) (byRule rule b x)
-unfolding IsTaken byRule inexactTest
-taken-inside Taking.Cut z x b part h q = (x, part, through (ap (λ (v : Verdict). v then Verdict.Through) h) refl)
-taken-inside Taking.Strict z x true part h q = (x, part, through (rw (h, ← q)) refl)
-taken-inside Taking.Strict z x false part h q = (x, part, refused {q = Refusal.Inexact} (rw (h, ← q)) refl)
-
-pub taken-over : (rule : Taking) (z x : ℤ) → IsWholePart z x → overTest x ≡ Verdict.Refused Refusal.Over → IsTaken rule (real z) (Whole.Refused Refusal.Over)
-unfolding IsTaken
-taken-over rule z x part h = (x, part, refused (ap (λ (v : Verdict). v then inexactTest rule z x) h) refl)
-
--- ---- a number with its exponent
 -- the significand with its top bit at 2^63, and what is left of it without its fraction
 abbrev pub full : ℕ → ℕ → ℕ
 full m p = m * 2 ^ (63 - p)
 
 abbrev pub kept : ℕ → ℕ → ℕ → ℕ
 kept m p i = full m p / 2 ^ (63 - i)
+
+-- a size from 2^64 up is outside
+most : (s : Bool) → greatestSize s < 2 ^ 63 * 2 ^ 1
+unfolding greatestSize
+most false = lit< tt
+most true = lit< tt
 
 module _ (rule : Taking) (s : Bool) (m p : ℕ) (short : p ≤ 63) (low : 2 ^ p ≤ m) where
   full-low : 2 ^ 63 ≤ full m p

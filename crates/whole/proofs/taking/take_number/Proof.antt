@@ -33,22 +33,16 @@ module _ {h : ℤ} (fits : SFits w32 h) (from-zero : ltZ (toZ w32 (ofZ w32 h)) (
 
 -- what the machine computes of a number from one up
 module _ (m p : ℕ) (short : p ≤ 63) (high : m < 2 ^ (p + 1)) {h : ℤ} (fits : SFits w32 h) (from-zero : ltZ (toZ w32 (ofZ w32 h)) (pos 0) ≡ false) where
-  held : ℕ
-  held = natAbs (toZ w32 (ofZ w32 h))
-
-  held-is : held ≡ mag h
-  unfolding held
+  held-is : natAbs (toZ w32 (ofZ w32 h)) ≡ mag h
   held-is = plain-value w32 tt fits from-zero
 
   full-is : m * 2 ^ (63 - p) % 2 ^ 64 ≡ full m p
   full-is = shl-exact (p + 1) (63 - p) 64 high (omega (arith, short))
 
   kept-is : m * 2 ^ (63 - p) % 2 ^ 64 / 2 ^ (63 - natAbs (toZ w32 (ofZ w32 h))) ≡ kept m p (mag h)
-  unfolding held
   kept-is = ap₂ (λ (x i : ℕ). x / 2 ^ (63 - i)) full-is held-is
 
   back-is : m * 2 ^ (63 - p) % 2 ^ 64 / 2 ^ (63 - natAbs (toZ w32 (ofZ w32 h))) * 2 ^ (63 - natAbs (toZ w32 (ofZ w32 h))) % 2 ^ 64 ≡ kept m p (mag h) * 2 ^ (63 - mag h)
-  unfolding held
   back-is = ap₂ (λ (x i : ℕ). x * 2 ^ (63 - i) % 2 ^ 64) kept-is held-is ∙ mod-eq-of-lt (lt-of-le-of-lt not-more (shl-below (p + 1) (63 - p) 64 high (omega (arith, short))))
     where
       not-more : kept m p (mag h) * 2 ^ (63 - mag h) ≤ full m p

@@ -1,0 +1,2 @@
+-- What is stated of whole numbers.
+pub mod Limits

@@ -1,4 +1,7 @@
 -- The laws of binary64 in and out, one idea a file.
-pub mod Differences
+pub mod Exponents
+pub mod Fractions
 pub mod Held
+pub mod Patterns
 pub mod Scaling
+pub mod Written

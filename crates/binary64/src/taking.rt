@@ -24,7 +24,7 @@ pub fn take_binary64(width: Width, word: u64) -> Binary64
         Reading::Zero => Binary64::Number(0.0),
         Reading::NotReal => Binary64::NotReal,
         Reading::Number { negative, h, m, p } => {
-            Binary64::Number(number(negative, m, (h - p as i32 + 1023) as u64))
+            Binary64::Number(number(negative, m, (h + 1023) as u64 - p as u64))
         }
         Reading::Refused(q) => Binary64::Refused(q),
     }

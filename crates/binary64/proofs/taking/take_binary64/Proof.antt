@@ -22,21 +22,21 @@ enum-told-2 c = search needs
 enum-known-negative : tie.Need-enum-known-negative
 enum-known-negative c = search needs
 
--- src/taking.rt:27:55
-cast-number : tie.Need-cast-number
-cast-number c = ?
-
--- src/taking.rt:27:51
-sub-number : tie.Need-sub-number
-sub-number c = ?
-
 -- src/taking.rt:27:51
 add-number : tie.Need-add-number
 add-number c = ?
 
 -- src/taking.rt:27:50
+cast-number : tie.Need-cast-number
+cast-number c = ?
+
+-- src/taking.rt:27:70
 cast-number-2 : tie.Need-cast-number-2
-cast-number-2 c = ?
+cast-number-2 c = search needs
+
+-- src/taking.rt:27:50
+sub-number : tie.Need-sub-number
+sub-number c = ?
 
 -- src/taking.rt:27:30
 number-requires : tie.Need-number-requires
@@ -70,10 +70,10 @@ take-binary64-spec =
     enum-told
     enum-told-2
     enum-known-negative
-    cast-number
-    sub-number
     add-number
+    cast-number
     cast-number-2
+    sub-number
     number-requires
     enum-known-q
     returns

@@ -1,14 +1,15 @@
 -- A value that a format holds is known by its sign and its size, and rounding its size gives it back. Assumes nothing.
 use mathlib.Core.Path.{_≡_, refl, sym, ap, _∙_, subst}
-use mathlib.Core.Bool.{Bool, cond, not, _&&_}
+use mathlib.Core.Bool.{Bool, false, cond, not, _&&_, true≢false}
 use Prim.Native.Nat.{ℕ, zero, suc, _+_, _-_, _*_, _/_, _%_, _^_, _≤_, _<_}
 use native.Mathlib.Nat.{mul-pos, zero-mul, one-mul, mul-one, mul-assoc, mul-comm, mul-right-comm, eq-of-mul-eq-mul-right, lt-of-mul-lt-mul-right, mul-lt-mul-of-pos-right, zero-lt-suc, lt-of-lt-of-le, pow-succ'}
 use native.Mathlib.Omega.{arith}
 use lib.Dec.{T, leb, ltb, eqb, ltb→lt, leb→le}
 use lib.IntN.{ℤ, pos, negsuc}
 use lib.Pow.{pow-add, pow-pos}
-use lib.Ieee.{Float, nan, inf, fin, Format, prec, emax, low, up, down, size, round, fits, isNan, hid, top, ofBits, toBits}
+use lib.Ieee.{Float, nan, inf, fin, Format, prec, emax, low, up, down, size, round, ne, fits, isNan, hid, top, ofBits, toBits}
 use lib.Ieee.Bits.{ofBits-toBits}
+use lib.Ieee.Compare.{nan-differs}
 use lib.Ieee.Exact.{HasValue, round-exact}
 use lib.Ieee.Fits.{and-l, and-r, down-pos, round-fits}
 use lib.Ieee.Nearest.{div-same}
@@ -87,6 +88,13 @@ value-same (fin t m e) s a c a' c' some q h = (
   eq-of-mul-eq-mul-right c some (m * up e * c') (a' * down e)
       (mul-right-comm (m * up e) c' c ∙ ap (λ (z : ℕ). z * c') (h .1) ∙ mul-right-comm a (down e) c' ∙ ap (λ (z : ℕ). z * down e) q ∙ mul-right-comm a' c (down e)),
 )
+
+-- ---- what is no NaN
+pub equals-itself : (x : Float) → ne x x ≡ false → T (not (isNan x))
+unfolding isNan
+equals-itself nan h = absurd (true≢false (sym nan-differs ∙ h))
+equals-itself (inf t) h = tt
+equals-itself (fin t m e) h = tt
 
 pub value-no-nan : (x : Float) (s : Bool) (a c : ℕ) → HasValue x s a c → T (not (isNan x))
 unfolding isNan

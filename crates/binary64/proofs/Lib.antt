@@ -1,7 +1,9 @@
 -- The laws of binary64 in and out, one idea a file.
+pub mod Decisions
 pub mod Exponents
 pub mod Fractions
 pub mod Held
 pub mod Patterns
 pub mod Scaling
+pub mod Taken
 pub mod Written

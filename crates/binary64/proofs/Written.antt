@@ -10,11 +10,8 @@ use lib.Ieee.{Float, nan, inf, fin, binary64, up, down, ofBits}
 use lib.Ieee.Exact.{HasValue}
 use lib.Ieee.Fits.{down-pos}
 use Rattle.word.specs.Reads.{num, den}
-use Rattle.word.specs.Refusals.{Decided, through, refused}
 use Rattle.word.specs.Widths.{narWord}
 use Rattle.word.specs.declared.answer.Answer.{Answer}
-use Rattle.word.specs.declared.refusal.Refusal.{Refusal}
-use Rattle.word.specs.declared.refusal.Verdict.{Verdict}
 use Rattle.word.proofs.Integers.{sub-add}
 use Rattle.word.proofs.Signed.{difference}
 use Rattle.write.specs.declared.value.Rule.{Rule}
@@ -24,11 +21,6 @@ use Rattle.binary64.specs.Writes.{IsWrittenBinary64}
 use Rattle.binary64.proofs.Exponents.{power-law}
 use Rattle.binary64.proofs.Fractions.{written-same}
 use Rattle.binary64.proofs.Patterns.{isNegative, field, digits, lead, lead-small, Unbounded, is-nan, is-inf, pattern-value, pattern-unbounded}
-
--- what a contract says where the input is let through may be said otherwise
-pub decided-as : {v : Verdict} {P : Refusal → Type 0} {Q Q' : Type 0} → (Q → Q') → Decided v P Q → Decided v P Q'
-decided-as f (through h x) = through h (f x)
-decided-as f (refused h x) = refused h x
 
 module _ (n : ℕ) (rule : Rule) (r : Answer) where
   pub unbounded-written : (x : Float) → Unbounded x → r ≡ Answer.Word (narWord n) → IsWrittenBinary64 n rule x r

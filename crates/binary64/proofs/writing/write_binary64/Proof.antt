@@ -8,8 +8,9 @@ use lib.Ieee.Compare.{differs-from-itself}
 use Rattle.word.specs.Widths.{GivesWord}
 use Rattle.binary64.specs.Writes.{WritesBinary64}
 use Rattle.binary64.proofs.Held.{equals-itself}
+use Rattle.binary64.proofs.Decisions.{decided-as}
 use Rattle.binary64.proofs.Patterns.{Unbounded, is-nan}
-use Rattle.binary64.proofs.Written.{decided-as, unbounded-written}
+use Rattle.binary64.proofs.Written.{unbounded-written}
 use Rattle.binary64.proofs.writing.write_binary64.Statement.{statement}
 use Rattle.binary64.proofs.writing.write_binary64.Tie as tie
 
@@ -18,7 +19,7 @@ nar-requires c κs = search needs
 
 returns : tie.Need-returns
 unfolding WritesBinary64 GivesWord
-returns c = decided-as (unbounded-written _ _ _ _ (subst Unbounded (sym (differs-from-itself _ (subst T (sym (c .before .if1 .taken)) tt))) is-nan)) (c .nar .ensures)
+returns c = decided-as (λ q h. h) (unbounded-written _ _ _ _ (subst Unbounded (sym (differs-from-itself _ (subst T (sym (c .before .if1 .taken)) tt))) is-nan)) (c .nar .ensures)
 
 float-to-bits-write-bits : tie.Need-float-to-bits-write-bits
 float-to-bits-write-bits c = equals-itself _ (c .if1 .left)

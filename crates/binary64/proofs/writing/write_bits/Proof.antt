@@ -15,8 +15,9 @@ use Rattle.word.specs.Widths.{GivesWord}
 use Rattle.word.proofs.Signed.{sub-mag}
 use Rattle.write.specs.Writes.{IsWritten, Writes}
 use Rattle.binary64.specs.Writes.{WritesBinary64}
+use Rattle.binary64.proofs.Decisions.{decided-as}
 use Rattle.binary64.proofs.Patterns.{isNegative, field, digits, lead, lead-small, pattern-unbounded}
-use Rattle.binary64.proofs.Written.{decided-as, unbounded-written, pattern-written}
+use Rattle.binary64.proofs.Written.{unbounded-written, pattern-written}
 use Rattle.binary64.proofs.writing.write_bits.Statement.{statement}
 use Rattle.binary64.proofs.writing.write_bits.Tie as tie
 
@@ -66,7 +67,7 @@ nar-requires c κs = search needs
 
 returns : tie.Need-returns
 unfolding WritesBinary64 GivesWord
-returns c = decided-as (unbounded-written _ _ _ _ (pattern-unbounded _ (c .before .if1 .taken))) (c .nar .ensures)
+returns c = decided-as (λ q h. h) (unbounded-written _ _ _ _ (pattern-unbounded _ (c .before .if1 .taken))) (c .nar .ensures)
 
 leading-digit-requires : tie.Need-leading-digit-requires
 leading-digit-requires c κs = search needs
@@ -94,7 +95,7 @@ unfolding WritesBinary64 Writes
 returns-2 c =
     let k = c .before in
     let s = k .before .before in
-    decided-as
+    decided-as (λ q h. h)
     (λ x. pattern-written _ _ _ (s .args .bits) (k .before .if1 .left)
     (subst₂ (λ (m : ℕ) (z : ℤ). IsWritten (s .args .width .bits) (s .args .rule) (isNegative (s .args .bits)) (m * num (z +ℤ pos 307)) (den (z +ℤ pos 307)) (c .write .result)) (significand k) (exponent k) x))
     (c .write .ensures)

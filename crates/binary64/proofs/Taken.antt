@@ -1,0 +1,117 @@
+-- What is taken out for each reading of a word. Assumes nothing.
+use mathlib.Core.Path.{_≡_, refl, sym, ap, ap₂, _∙_, subst}
+use mathlib.Core.Bool.{Bool, true, false}
+use Prim.Native.Nat.{ℕ, zero, suc, _+_, _-_, _*_, _^_, _≤_, _<_}
+use native.Mathlib.Nat.{zero-mul, mul-assoc, mul-right-comm, mul-pos, lt-of-lt-of-le, eq-of-mul-eq-mul-right}
+use native.Mathlib.Omega.{arith}
+use borrow.Author.Tests.{le-ltb}
+use lib.IntN.{ℤ, pos, negsuc, natAbs, _+ℤ_, _-ℤ_, +ℤ-idr}
+use lib.Pow.{pow-add, pow-pos}
+use lib.Signed.{mag}
+use lib.Ieee.{Float, binary64, round, ofBits}
+use lib.Ieee.Scale.{round-same}
+use Rattle.word.specs.Refusals.{widthTest, strayTest, _then_, IsWord, Decided, through, refused}
+use Rattle.word.specs.Takum.{Takum, real, takum, fractionBits}
+use Rattle.word.specs.Reads.{num, den, signedSize, IsSize, IsNumber, IsReading, Reads}
+use Rattle.word.specs.declared.reading.Reading.{Reading}
+use Rattle.word.specs.declared.refusal.Refusal.{Refusal}
+use Rattle.word.proofs.Integers.{balance}
+use Rattle.word.proofs.Readings.{not-refused}
+use Rattle.word.proofs.Verdicts.{word-through}
+use Rattle.write.specs.Writes.{isNegative}
+use Rattle.write.proofs.Exponents.{unit-some}
+use Rattle.binary64.specs.declared.taking.Binary64.{Binary64}
+use Rattle.binary64.specs.Takes.{IsTaken, TakesBinary64}
+use Rattle.binary64.proofs.Decisions.{decided-as}
+use Rattle.binary64.proofs.Exponents.{power-law}
+
+-- an exponent raised by 1023
+pub raise : (h : ℤ) → mag h ≤ 255 → (g : ℕ) × (h +ℤ pos 1023 ≡ pos g) × (767 ≤ g) × (g ≤ 1278)
+raise (pos i) small = (i + 1023, refl, omega arith, omega (arith, small))
+raise (negsuc i) small = (1023 - suc i, rw (le-ltb 1023 (suc i) (omega (arith, small))), omega (arith, small), omega arith)
+
+-- zero is positive zero
+zero-taken : (t : Takum) → t ≡ real (pos 0) → IsTaken t (Binary64.Number (ofBits binary64 0))
+unfolding IsTaken isNegative
+zero-taken t q = subst (λ (t : Takum). IsTaken t (Binary64.Number (ofBits binary64 0))) (sym q) (ap Binary64.Number zeros)
+  where
+    zeros : ofBits binary64 0 ≡ round binary64 false 0 (2 ^ 307)
+    zeros = unfold ofBits round in refl
+
+-- ---- a number, with its exponent raised
+module _ {t : Takum} {f : ℕ} {s : Bool} {h : ℤ} {m p : ℕ} (x : IsNumber t f s h m p) (j : ℕ) (raised : h +ℤ pos 1023 ≡ pos (j + p)) where
+  abbrev e : ℤ
+  e = h -ℤ pos p +ℤ pos 307
+
+  some : 0 < m
+  some = lt-of-lt-of-le (pow-pos p) (x .low)
+
+  number-some : 0 < x .v
+  unfolding IsSize
+  number-some = by (x .v) (x .size)
+    where
+      by : (v : ℕ) → m * num e ≡ v * den e → 0 < v
+      by zero q = absurd (omega (arith, q, zero-mul (den e), mul-pos some (unit-some e .0)))
+      by (suc v) q = omega arith
+
+  -- the size as a fraction over 2^1023 and over 2^307
+  same-size : m * 2 ^ j * 2 ^ 307 ≡ x .v * 2 ^ 1023
+  unfolding IsSize
+  same-size =
+      eq-of-mul-eq-mul-right (den e) (unit-some e .1) (m * 2 ^ j * 2 ^ 307) (x .v * 2 ^ 1023)
+      (ap (λ (z : ℕ). z * den e) (mul-assoc m (2 ^ j) (2 ^ 307) ∙ ap (λ (z : ℕ). m * z) (sym (pow-add 2 j 307))) ∙ mul-assoc m (2 ^ (j + 307)) (den e)
+      ∙ ap (λ (z : ℕ). m * z) (sym (power-law (h -ℤ pos p) 307 (j + 307) 1023 count)) ∙ sym (mul-assoc m (num e) (2 ^ 1023)) ∙ ap (λ (z : ℕ). z * 2 ^ 1023) (x .size) ∙ mul-right-comm (x .v) (den e) (2 ^ 1023))
+    where
+      count : h -ℤ pos p +ℤ pos (307 + 1023) ≡ pos (j + 307)
+      count = balance h 0 1023 (j + p) (ap (λ (z : ℤ). z +ℤ pos 1023) (+ℤ-idr h) ∙ raised) p 1330 (j + 307) (omega arith)
+
+  number-taken : IsTaken t (Binary64.Number (round binary64 s (m * 2 ^ j) (2 ^ 1023)))
+  unfolding IsTaken isNegative signedSize
+  number-taken =
+      subst (λ (t : Takum). IsTaken t (Binary64.Number (round binary64 s (m * 2 ^ j) (2 ^ 1023)))) (sym (x .means))
+      (ap Binary64.Number (round-same binary64 s (m * 2 ^ j) (2 ^ 1023) (x .v) (2 ^ 307) (pow-pos 1023) (pow-pos 307) same-size ∙ by s (x .v) number-some))
+    where
+      by : (s : Bool) (v : ℕ) → 0 < v → round binary64 s v (2 ^ 307) ≡ round binary64 (isNegative (signedSize s v)) (natAbs (signedSize s v)) (2 ^ 307)
+      by false v k = refl
+      by true (suc v) k = refl
+      by true zero k = absurd (omega (arith, k))
+
+-- ---- the answer to each reading
+module _ (n w : ℕ) {a : Reading} (x : Reads n w a) where
+  let-through : {b : Binary64} {a' : Reading} → a ≡ a' → ((q : Refusal) → a' ≡ Reading.Refused q → b ≡ Binary64.Refused q) → (IsReading (takum n w) (fractionBits n w) a' → IsTaken (takum n w) b) → TakesBinary64 n w b
+  unfolding Reads TakesBinary64
+  let-through e f g = decided-as (λ q h. f q (sym e ∙ h)) (λ y. g (subst (IsReading (takum n w) (fractionBits n w)) e y)) x
+
+  pub taken-zero : a ≡ Reading.Zero → TakesBinary64 n w (Binary64.Number (ofBits binary64 0))
+  unfolding IsReading
+  taken-zero e = let-through e (λ q h. absurd (zero-answers h)) (λ y. zero-taken (takum n w) y)
+    where
+      zero-answers : {q : Refusal} → Reading.Zero ≡ Reading.Refused q → ⊥
+      zero-answers h = let z : _≡_ {A = ℕ} 0 1 = cc in omega arith
+
+  pub taken-NaR : a ≡ Reading.NotReal → TakesBinary64 n w Binary64.NotReal
+  unfolding IsReading IsTaken
+  taken-NaR e = let-through e (λ q h. absurd (NaR-answers h)) (λ y. subst (λ (t : Takum). IsTaken t Binary64.NotReal) (sym y) refl)
+    where
+      NaR-answers : {q : Refusal} → Reading.NotReal ≡ Reading.Refused q → ⊥
+      NaR-answers h = let z : _≡_ {A = ℕ} 0 1 = cc in omega arith
+
+  pub taken-refused : {q : Refusal} → a ≡ Reading.Refused q → TakesBinary64 n w (Binary64.Refused q)
+  unfolding IsReading
+  taken-refused e = let-through e (λ q h. ap Binary64.Refused (same h)) (λ y. absurd y)
+    where
+      same : {q q' : Refusal} → Reading.Refused q ≡ Reading.Refused q' → q ≡ q'
+      same h = cc
+
+  pub taken-number : {s : Bool} {h : ℤ} {m p : ℕ} → a ≡ Reading.Number s h m p → (j : ℕ) → h +ℤ pos 1023 ≡ pos (j + p) → TakesBinary64 n w (Binary64.Number (round binary64 s (m * 2 ^ j) (2 ^ 1023)))
+  unfolding IsReading
+  taken-number e j raised = let-through e (λ q h. absurd (not-refused h)) (λ y. number-taken y j raised)
+
+  -- a number was read of a word, and not of a stray
+  pub number-read : {s : Bool} {h : ℤ} {m p : ℕ} → a ≡ Reading.Number s h m p → IsWord n w × IsNumber (takum n w) (fractionBits n w) s h m p
+  unfolding Reads IsReading
+  number-read {s} {h} {m} {p} e = by x
+    where
+      by : Decided (widthTest n then strayTest n w) (λ q. a ≡ Reading.Refused q) (IsReading (takum n w) (fractionBits n w) a) → IsWord n w × IsNumber (takum n w) (fractionBits n w) s h m p
+      by (through v y) = (word-through n w v, subst (IsReading (takum n w) (fractionBits n w)) e y)
+      by (refused v y) = absurd (not-refused (sym e ∙ y))

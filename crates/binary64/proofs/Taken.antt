@@ -11,7 +11,7 @@ use lib.Signed.{mag}
 use lib.Ieee.{Float, binary64, round, ofBits}
 use lib.Ieee.Scale.{round-same}
 use Rattle.word.specs.Refusals.{widthTest, strayTest, _then_, IsWord, Decided, through, refused}
-use Rattle.word.specs.Takum.{Takum, real, takum, fractionBits}
+use Rattle.word.specs.Takum.{Takum, real, NaR, takum, fractionBits}
 use Rattle.word.specs.Reads.{num, den, signedSize, IsSize, IsNumber, IsReading, Reads}
 use Rattle.word.specs.declared.reading.Reading.{Reading}
 use Rattle.word.specs.declared.refusal.Refusal.{Refusal}
@@ -38,26 +38,36 @@ zero-taken t q = subst (λ (t : Takum). IsTaken t (Binary64.Number (ofBits binar
     zeros : ofBits binary64 0 ≡ round binary64 false 0 (2 ^ 307)
     zeros = unfold ofBits round in refl
 
--- ---- a number, with its exponent raised
-module _ {t : Takum} {f : ℕ} {s : Bool} {h : ℤ} {m p : ℕ} (x : IsNumber t f s h m p) (j : ℕ) (raised : h +ℤ pos 1023 ≡ pos (j + p)) where
+-- ---- a number
+module _ {t : Takum} {f : ℕ} {s : Bool} {h : ℤ} {m p : ℕ} (x : IsNumber t f s h m p) where
   abbrev e : ℤ
   e = h -ℤ pos p +ℤ pos 307
-
-  some : 0 < m
-  some = lt-of-lt-of-le (pow-pos p) (x .low)
 
   number-some : 0 < x .v
   unfolding IsSize
   number-some = by (x .v) (x .size)
     where
+      some : 0 < m
+      some = lt-of-lt-of-le (pow-pos p) (x .low)
+
       by : (v : ℕ) → m * num e ≡ v * den e → 0 < v
       by zero q = absurd (omega (arith, q, zero-mul (den e), mul-pos some (unit-some e .0)))
       by (suc v) q = omega arith
 
-  -- the size as a fraction over 2^1023 and over 2^307
-  same-size : m * 2 ^ j * 2 ^ 307 ≡ x .v * 2 ^ 1023
+  -- its value has its sign and its size
+  pub number-sign : (isNegative (signedSize s (x .v)) ≡ s) × (natAbs (signedSize s (x .v)) ≡ x .v)
+  unfolding isNegative signedSize
+  number-sign = by s (x .v) number-some
+    where
+      by : (s : Bool) (v : ℕ) → 0 < v → (isNegative (signedSize s v) ≡ s) × (natAbs (signedSize s v) ≡ v)
+      by false v k = (refl, refl)
+      by true (suc v) k = (refl, refl)
+      by true zero k = absurd (omega (arith, k))
+
+  -- its size with the exponent raised, as a fraction over 2^1023 and over 2^307
+  pub same-size : (j : ℕ) → h +ℤ pos 1023 ≡ pos (j + p) → m * 2 ^ j * 2 ^ 307 ≡ x .v * 2 ^ 1023
   unfolding IsSize
-  same-size =
+  same-size j raised =
       eq-of-mul-eq-mul-right (den e) (unit-some e .1) (m * 2 ^ j * 2 ^ 307) (x .v * 2 ^ 1023)
       (ap (λ (z : ℕ). z * den e) (mul-assoc m (2 ^ j) (2 ^ 307) ∙ ap (λ (z : ℕ). m * z) (sym (pow-add 2 j 307))) ∙ mul-assoc m (2 ^ (j + 307)) (den e)
       ∙ ap (λ (z : ℕ). m * z) (sym (power-law (h -ℤ pos p) 307 (j + 307) 1023 count)) ∙ sym (mul-assoc m (num e) (2 ^ 1023)) ∙ ap (λ (z : ℕ). z * 2 ^ 1023) (x .size) ∙ mul-right-comm (x .v) (den e) (2 ^ 1023))
@@ -65,16 +75,11 @@ module _ {t : Takum} {f : ℕ} {s : Bool} {h : ℤ} {m p : ℕ} (x : IsNumber t 
       count : h -ℤ pos p +ℤ pos (307 + 1023) ≡ pos (j + 307)
       count = balance h 0 1023 (j + p) (ap (λ (z : ℤ). z +ℤ pos 1023) (+ℤ-idr h) ∙ raised) p 1330 (j + 307) (omega arith)
 
-  number-taken : IsTaken t (Binary64.Number (round binary64 s (m * 2 ^ j) (2 ^ 1023)))
-  unfolding IsTaken isNegative signedSize
-  number-taken =
+  number-taken : (j : ℕ) → h +ℤ pos 1023 ≡ pos (j + p) → IsTaken t (Binary64.Number (round binary64 s (m * 2 ^ j) (2 ^ 1023)))
+  unfolding IsTaken
+  number-taken j raised =
       subst (λ (t : Takum). IsTaken t (Binary64.Number (round binary64 s (m * 2 ^ j) (2 ^ 1023)))) (sym (x .means))
-      (ap Binary64.Number (round-same binary64 s (m * 2 ^ j) (2 ^ 1023) (x .v) (2 ^ 307) (pow-pos 1023) (pow-pos 307) same-size ∙ by s (x .v) number-some))
-    where
-      by : (s : Bool) (v : ℕ) → 0 < v → round binary64 s v (2 ^ 307) ≡ round binary64 (isNegative (signedSize s v)) (natAbs (signedSize s v)) (2 ^ 307)
-      by false v k = refl
-      by true (suc v) k = refl
-      by true zero k = absurd (omega (arith, k))
+      (ap Binary64.Number (round-same binary64 s (m * 2 ^ j) (2 ^ 1023) (x .v) (2 ^ 307) (pow-pos 1023) (pow-pos 307) (same-size j raised) ∙ sym (ap₂ (λ (s : Bool) (v : ℕ). round binary64 s v (2 ^ 307)) (number-sign .0) (number-sign .1))))
 
 -- ---- the answer to each reading
 module _ (n w : ℕ) {a : Reading} (x : Reads n w a) where
@@ -115,3 +120,19 @@ module _ (n w : ℕ) {a : Reading} (x : Reads n w a) where
       by : Decided (widthTest n then strayTest n w) (λ q. a ≡ Reading.Refused q) (IsReading (takum n w) (fractionBits n w) a) → IsWord n w × IsNumber (takum n w) (fractionBits n w) s h m p
       by (through v y) = (word-through n w v, subst (IsReading (takum n w) (fractionBits n w)) e y)
       by (refused v y) = absurd (not-refused (sym e ∙ y))
+
+-- ---- the other way round: where a number is taken out, it is the nearest to the word's value
+pub record Taken (n w : ℕ) (x : Float) : Type 0 where
+  pub word : IsWord n w
+  pub z : ℤ
+  pub means : takum n w ≡ real z
+  pub is : x ≡ round binary64 (isNegative z) (natAbs z) (2 ^ 307)
+
+pub taken : (n w : ℕ) (x : Float) → TakesBinary64 n w (Binary64.Number x) → Taken n w x
+unfolding TakesBinary64 IsTaken
+taken n w x (through v y) = by (takum n w) refl y
+  where
+    by : (t : Takum) → takum n w ≡ t → IsTaken t (Binary64.Number x) → Taken n w x
+    by (real z) q y = record { word = word-through n w v; z = z; means = q; is = cc }
+    by NaR q y = let z : _≡_ {A = ℕ} 0 1 = cc in absurd (omega arith)
+taken n w x (refused v y) = let z : _≡_ {A = ℕ} 0 1 = cc in absurd (omega arith)

@@ -4,8 +4,11 @@ pub mod Exactness
 pub mod Exponents
 pub mod Fractions
 pub mod Held
+pub mod Negation
 pub mod Numbers
+pub mod OneOutcome
 pub mod Patterns
+pub mod RoundTrip
 pub mod Scaling
 pub mod Taken
 pub mod Written

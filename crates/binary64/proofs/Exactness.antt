@@ -59,7 +59,7 @@ module _ (n w : ℕ) (i : IsWord n w) (narrow : n ≤ 57) where
       subst (λ (y : Float). HasValue y (x .sign) (x .number .v) (2 ^ 307)) (round-same binary64 (x .sign) (x .m * 2 ^ j) (2 ^ 1023) (x .number .v) (2 ^ 307) (pow-pos 1023) (pow-pos 307) same)
       (value-same (round binary64 (x .sign) (x .m * 2 ^ j) (2 ^ 1023)) (x .sign) (x .m * 2 ^ j) (2 ^ 1023) (x .number .v) (2 ^ 307) (pow-pos 1023) same (product-exact (x .sign) (x .m) j short hi))
 
-  word-exact : (z : ℤ) → takum n w ≡ real z → HasValue (round binary64 (isNegative z) (natAbs z) (2 ^ 307)) (isNegative z) (natAbs z) (2 ^ 307)
+  pub word-exact : (z : ℤ) → takum n w ≡ real z → HasValue (round binary64 (isNegative z) (natAbs z) (2 ^ 307)) (isNegative z) (natAbs z) (2 ^ 307)
   word-exact z q = by (lies n w)
     where
       Exact : Bool → ℕ → Type 0

@@ -7,6 +7,7 @@ pub mod Held
 pub mod Negation
 pub mod Numbers
 pub mod OneOutcome
+pub mod Order
 pub mod Patterns
 pub mod RoundTrip
 pub mod Scaling

@@ -1,31 +1,30 @@
 -- Up to width 57 nothing is rounded: the cast, the scaling and the number taken out are exact. Assumes nothing.
 use mathlib.Core.Path.{_≡_, refl, sym, ap, _∙_, subst, subst₂}
-use mathlib.Core.Bool.{Bool, true, false}
-use Prim.Native.Nat.{ℕ, zero, suc, _+_, _-_, _*_, _^_, _≤_, _<_, max}
-use native.Mathlib.Nat.{zero-mul, mul-assoc, mul-right-comm, le-of-lt, le-trans, le-of-eq, lt-of-lt-of-le, ne-of-gt, ne-of-lt}
+use mathlib.Core.Bool.{Bool, false}
+use Prim.Native.Nat.{ℕ, _+_, _-_, _*_, _^_, _≤_, _<_}
+use native.Mathlib.Nat.{mul-assoc, le-of-lt, lt-of-lt-of-le, ne-of-gt, ne-of-lt}
 use native.Mathlib.Omega.{arith}
 use lib.Dec.{lit<}
-use lib.IntN.{ℤ, pos, negsuc, natAbs, _+ℤ_}
+use lib.IntN.{ℤ, pos, natAbs}
 use lib.Pow.{pow-pos, pow-mono}
 use lib.Ieee.{Float, binary64, round, mul}
 use lib.Ieee.Back.{round-whole}
 use lib.Ieee.Exact.{HasValue, round-exact}
 use lib.Ieee.Scale.{round-same}
-use Rattle.word.specs.Refusals.{IsWord, through, refused}
-use Rattle.word.specs.Takum.{Takum, real, NaR, p, N, takum, fractionBits}
-use Rattle.word.specs.Reads.{signedSize, IsNumber}
+use Rattle.word.specs.Refusals.{IsWord}
+use Rattle.word.specs.Takum.{real, p, N, takum, fractionBits}
+use Rattle.word.specs.Reads.{signedSize}
 use Rattle.word.proofs.Powers.{pow-sum, shl-below}
-use Rattle.word.proofs.Readings.{exponent-small, fraction-bits-most}
+use Rattle.word.proofs.Readings.{exponent-small}
 use Rattle.word.proofs.Values.{real-inj, not-NaR}
-use Rattle.word.proofs.Verdicts.{word-through}
 use Rattle.word.proofs.Words.{Lies, at-zero, above, at-NaR, under, lies, takum-zero, takum-NaR}
 use Rattle.write.specs.Writes.{isNegative}
 use Rattle.binary64.specs.declared.taking.Binary64.{Binary64}
-use Rattle.binary64.specs.Takes.{IsTaken, TakesBinary64}
+use Rattle.binary64.specs.Takes.{TakesBinary64}
 use Rattle.binary64.proofs.Held.{value-same}
 use Rattle.binary64.proofs.Numbers.{Holds, holds}
 use Rattle.binary64.proofs.Scaling.{scaled}
-use Rattle.binary64.proofs.Taken.{raise, same-size, number-sign, Taken, taken}
+use Rattle.binary64.proofs.Taken.{raise, same-size, number-sign, taken}
 
 -- ---- the operations
 -- m, of no more than 53 digits, times 2^(j - 1023)

@@ -1,8 +1,8 @@
 -- A value that a format holds is known by its sign and its size, and rounding its size gives it back. Assumes nothing.
-use mathlib.Core.Path.{_≡_, refl, sym, ap, _∙_, subst}
+use mathlib.Core.Path.{_≡_, sym, ap, _∙_, subst}
 use mathlib.Core.Bool.{Bool, false, cond, not, _&&_, true≢false}
 use Prim.Native.Nat.{ℕ, zero, suc, _+_, _-_, _*_, _/_, _%_, _^_, _≤_, _<_}
-use native.Mathlib.Nat.{mul-pos, zero-mul, one-mul, mul-one, mul-assoc, mul-comm, mul-right-comm, eq-of-mul-eq-mul-right, lt-of-mul-lt-mul-right, mul-lt-mul-of-pos-right, zero-lt-suc, lt-of-lt-of-le, pow-succ'}
+use native.Mathlib.Nat.{mul-pos, zero-mul, one-mul, mul-one, mul-assoc, mul-comm, mul-right-comm, eq-of-mul-eq-mul-right, lt-of-mul-lt-mul-right, mul-lt-mul-of-pos-right, zero-lt-suc, pow-succ'}
 use native.Mathlib.Omega.{arith}
 use lib.Dec.{T, leb, ltb, eqb, ltb→lt, leb→le}
 use lib.IntN.{ℤ, pos, negsuc}

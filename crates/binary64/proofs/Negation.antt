@@ -1,21 +1,19 @@
 -- The negated word is taken out as the negated number; zero stays positive zero. Assumes nothing.
-use mathlib.Core.Path.{_≡_, refl, sym, ap, _∙_, subst}
-use mathlib.Core.Bool.{Bool, true, false, not}
+use mathlib.Core.Path.{_≡_, refl, sym, ap, _∙_}
+use mathlib.Core.Bool.{true, false}
 use Prim.Native.Nat.{ℕ, zero, suc, _^_}
-use native.Mathlib.Omega.{arith}
 use lib.IntN.{ℤ, pos, negsuc, negℤ, natAbs}
 use lib.Pow.{pow-pos}
 use lib.Ieee.{Float, nan, inf, fin, binary64, round, neg}
 use Rattle.word.specs.Orders.{negated, opposite}
-use Rattle.word.specs.Refusals.{IsWord}
-use Rattle.word.specs.Takum.{Takum, real, takum}
+use Rattle.word.specs.Takum.{real}
 use Rattle.word.proofs.Values.{real-inj, words-differ, negation-negates}
 use Rattle.word.proofs.Words.{takum-zero}
 use Rattle.write.specs.Writes.{isNegative}
 use Rattle.binary64.specs.declared.taking.Binary64.{Binary64}
 use Rattle.binary64.specs.Takes.{TakesBinary64}
 use Rattle.binary64.proofs.Scaling.{round-negated}
-use Rattle.binary64.proofs.Taken.{Taken, taken}
+use Rattle.binary64.proofs.Taken.{taken}
 
 neg-neg : (x : Float) → neg (neg x) ≡ x
 unfolding neg

@@ -1,5 +1,5 @@
 -- Up to width 57 a word taken out and written again, by either rule, is the first word. Assumes nothing.
-use mathlib.Core.Path.{_≡_, refl, sym, ap, _∙_, subst}
+use mathlib.Core.Path.{_≡_, refl, sym, ap, _∙_}
 use mathlib.Core.Bool.{Bool}
 use Prim.Native.Nat.{ℕ, _*_, _^_, _≤_}
 use lib.IntN.{ℤ, pos, negsuc, natAbs}
@@ -13,7 +13,7 @@ use Rattle.word.specs.declared.answer.Answer.{Answer}
 use Rattle.word.proofs.Verdicts.{width-fits, answered}
 use Rattle.write.specs.declared.value.Rule.{Rule}
 use Rattle.write.specs.Writes as Writes
-use Rattle.write.specs.Writes.{IsExact, IsWritten, isNegative}
+use Rattle.write.specs.Writes.{isNegative}
 use Rattle.write.proofs.Rounding.{exact-written}
 use Rattle.binary64.specs.declared.taking.Binary64.{Binary64}
 use Rattle.binary64.specs.Takes.{TakesBinary64}

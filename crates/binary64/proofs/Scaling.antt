@@ -1,12 +1,12 @@
 -- A rounded whole number times a power of two is the rounded product: no digit is lost in the scaling. Assumes nothing.
-use mathlib.Core.Path.{_≡_, refl, sym, ap, ap₂, _∙_, subst}
-use mathlib.Core.Bool.{Bool, true, false, not, cond}
+use mathlib.Core.Path.{_≡_, refl, sym, ap, _∙_, subst}
+use mathlib.Core.Bool.{Bool, true, false, cond}
 use Prim.Native.Nat.{ℕ, zero, suc, _+_, _-_, _*_, _^_, _≤_, _<_}
-use native.Mathlib.Nat.{mul-one, one-mul, mul-assoc, mul-comm, mul-right-comm, mul-le-mul-right, le-of-lt, le-of-eq, le-trans, mul-pos, zero-lt-suc}
+use native.Mathlib.Nat.{mul-one, one-mul, mul-assoc, mul-comm, mul-le-mul-right, le-of-lt, le-of-eq, le-trans, mul-pos, zero-lt-suc}
 use native.Mathlib.Omega.{arith}
 use lib.Dec.{T, ltb, lit<}
-use lib.Pow.{pow-add, pow-pos, pow-lt, pow-mono}
-use lib.Ieee.{Float, nan, inf, fin, Format, binary64, prec, emax, low, odd, units, round, mul, neg}
+use lib.Pow.{pow-pos, pow-lt, pow-mono}
+use lib.Ieee.{Float, inf, Format, binary64, prec, low, odd, units, round, mul, neg}
 use lib.Ieee.Exact.{HasValue, round-exact}
 use lib.Ieee.Fits.{round-is, round-fits}
 use lib.Ieee.Order.{round-mono}

@@ -1,5 +1,5 @@
 -- What is written for the value of a bit pattern. Assumes nothing.
-use mathlib.Core.Path.{_≡_, refl, sym, ap, _∙_, subst}
+use mathlib.Core.Path.{_≡_, sym, ap, _∙_, subst}
 use mathlib.Core.Bool.{Bool}
 use Prim.Native.Nat.{ℕ, _+_, _-_, _*_, _^_, _≤_, _<_}
 use native.Mathlib.Nat.{mul-assoc, mul-right-comm}
@@ -20,7 +20,7 @@ use Rattle.write.proofs.Exponents.{unit-some}
 use Rattle.binary64.specs.Writes.{IsWrittenBinary64}
 use Rattle.binary64.proofs.Exponents.{power-law}
 use Rattle.binary64.proofs.Fractions.{written-same}
-use Rattle.binary64.proofs.Patterns.{isNegative, field, digits, lead, lead-small, Unbounded, is-nan, is-inf, pattern-value, pattern-unbounded}
+use Rattle.binary64.proofs.Patterns.{isNegative, field, digits, lead, lead-small, Unbounded, is-nan, is-inf, pattern-value}
 
 module _ (n : ℕ) (rule : Rule) (r : Answer) where
   pub unbounded-written : (x : Float) → Unbounded x → r ≡ Answer.Word (narWord n) → IsWrittenBinary64 n rule x r

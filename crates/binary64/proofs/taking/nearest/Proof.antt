@@ -1,5 +1,5 @@
 -- `nearest` meets its contract: the cast loses nothing below 2^53, and the kit's call rounds once. Assumes nothing.
-use mathlib.Core.Path.{refl, _∙_}
+use mathlib.Core.Path.{refl}
 use native.Mathlib.Nat.{le-of-lt}
 use borrow.Author.Needs.{needs}
 use lib.Dec.{le→leb}

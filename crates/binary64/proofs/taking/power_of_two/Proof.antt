@@ -1,9 +1,8 @@
 -- `power_of_two` meets its contract: its pattern is a field with no digits. Assumes nothing.
-use mathlib.Core.Path.{_≡_, sym, ap, ap₂, _∙_, subst}
-use mathlib.Core.Bool.{Bool, true, false, not}
-use Prim.Native.Nat.{ℕ, _*_, _%_, _^_, _<_}
+use mathlib.Core.Path.{sym, subst}
+use mathlib.Core.Bool.{Bool, not}
 use lib.Dec.{T}
-use lib.Ieee.{binary64, isNan, ofBits}
+use lib.Ieee.{binary64}
 use lib.Ieee.Bits.{nanBits-is}
 use Rattle.binary64.proofs.Held.{value-no-nan}
 use Rattle.binary64.proofs.Patterns.{power-pattern}

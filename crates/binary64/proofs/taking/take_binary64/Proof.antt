@@ -1,18 +1,17 @@
 -- `take_binary64` meets its contract: each reading gives its answer, a number with its exponent raised. Assumes nothing.
 use mathlib.Core.Path.{_≡_, sym, ap, _∙_, subst}
-use mathlib.Core.Bool.{Bool}
-use Prim.Native.Nat.{ℕ, _+_, _-_, _*_, _^_, _≤_, _<_}
-use native.Mathlib.Nat.{le-trans, le-of-eq, lt-of-lt-of-le, sub-add-cancel}
+use Prim.Native.Nat.{ℕ, _+_, _-_, _^_, _≤_, _<_}
+use native.Mathlib.Nat.{le-trans, le-of-eq, lt-of-lt-of-le}
 use native.Mathlib.Omega.{arith}
 use borrow.Author.Needs.{needs, sfits-of}
 use lib.Dec.{T}
 use lib.IntN.{ℤ, pos, natAbs, _+ℤ_}
 use lib.Pow.{pow-pos, pow-mono}
 use lib.Signed.{nonNeg}
-use lib.Ieee.{Float, binary64, round}
+use lib.Ieee.{Float}
 use mir.Facts.{toZ-ofZ}
-use mir.Syntax.{w32, w64}
-use mir.Val.{Fits, SFits, toZ, ofZ}
+use mir.Syntax.{w32}
+use mir.Val.{SFits, toZ, ofZ}
 use Rattle.word.specs.Reads.{IsNumber}
 use Rattle.word.specs.Refusals.{IsWord}
 use Rattle.word.specs.Takum.{takum, fractionBits}

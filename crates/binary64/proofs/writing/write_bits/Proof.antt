@@ -1,6 +1,5 @@
 -- `write_bits` meets its contract: the fields that it cuts out are those of the value. Assumes nothing.
 use mathlib.Core.Path.{_≡_, sym, ap, _∙_, subst, subst₂}
-use mathlib.Core.Bool.{Bool}
 use Prim.Native.Nat.{ℕ, _+_, _-_, _*_, _/_, _%_, _^_, _≤_, _<_}
 use native.Mathlib.Nat.{le-trans, le-of-eq}
 use native.Mathlib.Omega.{arith}
@@ -8,8 +7,8 @@ use borrow.Author.Needs.{needs}
 use lib.Bits.{mask-lt}
 use lib.IntN.{ℤ, pos, _+ℤ_, _-ℤ_}
 use mir.Facts.{toZ-ofZ, toZ-pos}
-use mir.Syntax.{w32, w64}
-use mir.Val.{Fits, SFits, toZ, ofZ}
+use mir.Syntax.{w32}
+use mir.Val.{SFits, toZ, ofZ}
 use Rattle.word.specs.Reads.{num, den}
 use Rattle.word.specs.Widths.{GivesWord}
 use Rattle.word.proofs.Signed.{sub-mag}

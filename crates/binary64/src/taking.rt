@@ -32,7 +32,7 @@ pub fn take_binary64(width: Width, word: u64) -> Binary64
 
 // The number m * 2^(j - 1023) with its sign. Scaling and the sign change nothing more: they are exact.
 fn number(negative: bool, m: u64, j: u64) -> f64
-    requires { ⌜ (0 < m) × (m < 2 ^ 64) × (700 ≤ j) × (j ≤ 1400) ⌝ }
+    requires { ⌜ (0 < m) × (700 ≤ j) × (j ≤ 1400) ⌝ }
     ensures { λ r. ⌜ r ≡ round binary64 negative (m * 2 ^ j) (2 ^ 1023) ⌝ }
 {
     let size = nearest(m) * power_of_two(j);

@@ -7,21 +7,28 @@ use write::writing::write;
 ghost use mathlib.Core.Path.{_≡_};
 ghost use mathlib.Core.Bool.{cond};
 ghost use lib.Dec.{eqb};
-ghost use lib.Ieee.{binary64, ofBits};
+ghost use lib.Ieee.{binary64, ofBits, toBits};
 ghost use Rattle.binary64.specs.Writes.{WritesBinary64};
 
 // The word for a number: NaN and the infinities give NaR, everything else is written as its value.
 pub fn write_binary64(width: Width, rule: Rule, x: f64) -> Answer
     ensures { λ r. ⌜ WritesBinary64 (width .bits) rule x r ⌝ }
 {
-    // Only a NaN differs from itself.
-    if x != x {
-        return width.nar();
-    }
-    write_bits(width, rule, f64::to_bits(x))
+    write_bits(width, rule, bits_of(x))
 }
 
-// The same for a number by its bit pattern: sign, exponent and the digits below the leading one.
+// The bit pattern. A NaN has many, and `to_bits` is not defined there; this one stands for all.
+fn bits_of(x: f64) -> u64
+    ensures { λ r. ⌜ r ≡ toBits binary64 x ⌝ }
+{
+    // Only a NaN differs from itself.
+    if x != x {
+        return 0x7ff8_0000_0000_0000;
+    }
+    f64::to_bits(x)
+}
+
+// The word for the number of a bit pattern: its sign, its exponent and the digits below the leading one.
 fn write_bits(width: Width, rule: Rule, bits: u64) -> Answer
     ensures { λ r. ⌜ WritesBinary64 (width .bits) rule (ofBits binary64 bits) r ⌝ }
 {

@@ -18,7 +18,7 @@ power-of-two-requires c κs = search needs
 size : (c : tie.After-power-of-two) → mul binary64 (c .before .nearest .result) (c .power-of-two .result) ≡ round binary64 false (c .before .before .args .m * 2 ^ c .before .before .args .j) (2 ^ 1023)
 size c =
     let k = c .before .before .pre in
-    ap (λ (x : Float). mul binary64 x (c .power-of-two .result)) (c .before .nearest .ensures) ∙ scaled _ _ (k .0) (k .1) (k .2) (k .3) (c .power-of-two .result) (c .power-of-two .ensures)
+    ap (λ (x : Float). mul binary64 x (c .power-of-two .result)) (c .before .nearest .ensures) ∙ scaled _ _ (k .0) (c .before .before .fits .m .fits) (k .1) (k .2) (c .power-of-two .result) (c .power-of-two .ensures)
 
 -- and with it
 signed : (c : tie.After-power-of-two) {s : Bool} (t : Bool) → s ≡ t → round binary64 t (c .before .before .args .m * 2 ^ c .before .before .args .j) (2 ^ 1023) ≡ round binary64 s (c .before .before .args .m * 2 ^ c .before .before .args .j) (2 ^ 1023)

@@ -1,12 +1,12 @@
 -- `take_binary64` meets its contract: each reading gives its answer, a number with its exponent raised. Assumes nothing.
 use mathlib.Core.Path.{_≡_, sym, ap, _∙_, subst}
-use Prim.Native.Nat.{ℕ, _+_, _-_, _^_, _≤_, _<_}
+use Prim.Native.Nat.{ℕ, _+_, _-_, _≤_, _<_}
 use native.Mathlib.Nat.{le-trans, le-of-eq, lt-of-lt-of-le}
 use native.Mathlib.Omega.{arith}
 use borrow.Author.Needs.{needs, sfits-of}
 use lib.Dec.{T}
 use lib.IntN.{ℤ, pos, natAbs, _+ℤ_}
-use lib.Pow.{pow-pos, pow-mono}
+use lib.Pow.{pow-pos}
 use lib.Signed.{nonNeg}
 use lib.Ieee.{Float}
 use mir.Facts.{toZ-ofZ}
@@ -47,9 +47,6 @@ module _ (c : tie.After-known-told) where
 
   some : 0 < m
   some = lt-of-lt-of-le (pow-pos p) (read-as .1 .low)
-
-  short : m < 2 ^ 64
-  short = lt-of-lt-of-le (read-as .1 .high) (pow-mono {i = p + 1} {j = 64} (omega (arith, few)))
 
   up : (g : ℕ) × (h +ℤ pos 1023 ≡ pos g) × (767 ≤ g) × (g ≤ 1278)
   up = raise h (exponent-small n word (read-as .0) (read-as .1))
@@ -97,7 +94,7 @@ sub-number : tie.Need-sub-number
 sub-number c = omega (arith, raised c, few c, up c .2)
 
 number-requires : tie.Need-number-requires
-number-requires c κs = (some c, short c, omega (arith, raised c, few c, up c .2), omega (arith, raised c, up c .3))
+number-requires c κs = (some c, omega (arith, raised c, few c, up c .2), omega (arith, raised c, up c .3))
 
 enum-known-q : tie.Need-enum-known-q
 enum-known-q c = search needs

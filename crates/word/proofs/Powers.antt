@@ -1,11 +1,11 @@
 -- Powers of two by the sum of their exponents, the exponents being known only by an equation, and one fact of order. Assumes nothing.
-use mathlib.Core.Path.{_≡_, sym, ap, _∙_, subst}
+use mathlib.Core.Path.{_≡_, sym, ap, ap₂, _∙_, subst}
 use Prim.Native.Nat.{ℕ, zero, suc, _+_, _-_, _*_, _/_, _%_, _^_, _≤_, _<_}
-use native.Mathlib.Nat.{div-lt-iff-lt-mul, lt-of-not-le, le-of-suc-le-suc, one-mul}
+use native.Mathlib.Nat.{div-lt-iff-lt-mul, lt-of-not-le, le-of-suc-le-suc, one-mul, mul-mod-left}
 use native.Mathlib.Omega.{arith}
 use lib.Count.{leadingZeros, leading-top}
 use lib.Dec.{lit<}
-use lib.Pow.{pow-add, pow-pos, shl-lt, shl-exact, high, ones-split, ones-lt}
+use lib.Pow.{pow-add, pow-pos, shl-lt, shl-exact, shl-shr, high, ones-split, ones-lt, mod-pow-add}
 
 -- not less, so at most
 pub not-more : {a b : ℕ} → ¬ (a < b) → b ≤ a
@@ -28,6 +28,13 @@ shr-none n w h = omega (arith, div-lt-iff-lt-mul {x = w} {y = 1} (pow-pos n) .0 
 -- 1 << l in a number of b bits
 pub one-shl : (b l : ℕ) → l < b → 1 * 2 ^ l % 2 ^ b ≡ 2 ^ l
 one-shl b l h = shl-exact {a = 1} 1 l b (lit< tt) (omega (arith, h)) ∙ one-mul (2 ^ l)
+
+-- a shift to the left in 64 bits loses the bits at the top
+pub shl-out : (m k : ℕ) → k ≤ 64 → m * 2 ^ k % 2 ^ 64 ≡ m % 2 ^ (64 - k) * 2 ^ k
+shl-out m k h = ap (λ (j : ℕ). m * 2 ^ k % 2 ^ j) whole ∙ mod-pow-add (m * 2 ^ k) (64 - k) k ∙ ap₂ (λ (x y : ℕ). x % 2 ^ (64 - k) * 2 ^ k + y) (shl-shr m k) (mul-mod-left m (2 ^ k)) ∙ omega arith
+  where
+    whole : 64 ≡ 64 - k + k
+    whole = omega (arith, h)
 
 -- leading zeros give floor(log2 a), which is k
 pub record Log (k a : ℕ) : Type 0 where

@@ -1,13 +1,14 @@
-// Reading a word: its fields are cut out of the carrier by shifts and masks, in the letters of document 004, Definition 2.
+// Reading a word: what its fields mean, in the letters of document 004, Definition 2.
 use crate::bits::low_bits;
 use crate::bits::power_of_two;
+use crate::fields::characteristic_of;
+use crate::fields::regime_of;
 use crate::refusal::Refusal;
 use crate::refusal::Verdict;
 use crate::width::Width;
-ghost use mathlib.Core.Path.{_≡_};
 ghost use Prim.Native.Nat.{_≤_, _<_, _^_};
 ghost use Rattle.word.specs.Takum as Takum;
-ghost use Rattle.word.specs.Takum.{real, regimeOf, characteristicOf};
+ghost use Rattle.word.specs.Takum.{real};
 ghost use Rattle.word.specs.Reads.{IsReading, Reads};
 
 // A number is its sign and the size m * 2^(h - p), with 2^p <= m < 2^(p + 1).
@@ -49,10 +50,8 @@ fn number(n: u32, t: u64) -> Reading
     requires { ⌜ (12 ≤ n) × (n ≤ 64) × (t < 2 ^ n) ⌝ }
     ensures { λ a. ⌜ IsReading (real (Takum.value n t)) (Takum.p n t) a ⌝ }
 {
-    let d = low_bits(t >> (n - 2), 1);
-    let r = regime(d, low_bits(t >> (n - 5), 3));
-    let p = n - r - 5;
-    let c = characteristic(d, r, low_bits(t >> p, r));
+    let p = n - regime_of(n, t) - 5;
+    let c = characteristic_of(n, t);
     let f = low_bits(t, p);
     if t >> (n - 1) == 0 {
         return Reading::Number {
@@ -78,24 +77,4 @@ fn number(n: u32, t: u64) -> Reading
         m: power_of_two(p) + rest,
         p,
     }
-}
-
-fn regime(direction: u64, bits: u64) -> u32
-    requires { ⌜ bits < 8 ⌝ }
-    ensures { λ r. ⌜ r ≡ regimeOf direction bits ⌝ }
-{
-    if direction == 1 {
-        return bits as u32;
-    }
-    7 - bits as u32
-}
-
-fn characteristic(direction: u64, r: u32, bits: u64) -> i32
-    requires { ⌜ (r ≤ 7) × (bits < 2 ^ r) ⌝ }
-    ensures { λ c. ⌜ c ≡ characteristicOf direction r bits ⌝ }
-{
-    if direction == 1 {
-        return power_of_two(r) as i32 - 1 + bits as i32;
-    }
-    bits as i32 + 1 - power_of_two(r + 1) as i32
 }

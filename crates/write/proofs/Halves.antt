@@ -1,13 +1,15 @@
 -- An exact size (m + rest) units, rest being below one unit, against a half and against the midpoint of two powers of two. Assumes nothing.
 use mathlib.Core.Path.{_≡_, refl, sym, ap, _∙_, subst}
-use Prim.Native.Nat.{ℕ, zero, suc, _+_, _-_, _*_, _^_, _≤_, _<_}
-use native.Mathlib.Nat.{mul-le-mul-right, mul-right-comm, lt-of-mul-lt-mul-right, eq-of-mul-eq-mul-right, one-mul}
+use Prim.Native.Nat.{ℕ, zero, suc, _+_, _-_, _*_, _%_, _^_, _≤_, _<_}
+use native.Mathlib.Nat.{mul-le-mul-right, mul-lt-mul-of-pos-right, mul-right-comm, lt-of-mul-lt-mul-right, eq-of-mul-eq-mul-right, one-mul, mod-lt, le-antisymm}
+use native.Mathlib.Decide.{decLt}
 use native.Mathlib.Omega.{arith}
+use lib.Dec.{lit≤}
 use lib.Pow.{pow-pos, pow-add, pow-mono}
-use Rattle.word.proofs.Powers.{pow-sum}
+use Rattle.word.proofs.Powers.{pow-sum, not-more}
 use Rattle.write.specs.declared.size.Rest.{Rest}
 use Rattle.write.specs.declared.size.Side.{Side}
-use Rattle.write.specs.Offers.{Amounts, Tells, TellsHalf, TellsPowers}
+use Rattle.write.specs.Offers.{Amounts, Tells, TellsHalf, TellsPowers, chosenOf, marginOf, ChoosesByCut}
 
 -- the size lies from m units up to m + 1
 pub record Within (m unit a : ℕ) : Type 0 where
@@ -50,6 +52,53 @@ module _ (beyond half : ℕ) (q : beyond ≡ half) where
   pub past-over-half : TellsHalf beyond half Rest.OverHalf Side.Over
   unfolding TellsHalf Tells Amounts
   past-over-half = λ base unit a h x. omega (arith, x .0, scaled base unit, h)
+
+-- ---- what the bits cut off choose, which stand shifted to the top of 64 bits
+Chosen : ℕ → ℕ → ℕ → Rest → ℕ → Type 0
+Chosen low beyond half rest w = (side : Side) × TellsHalf beyond half rest side × (w ≡ chosenOf low side)
+
+pub margin-le : (low : ℕ) (rest : Rest) → marginOf low rest ≤ 1
+unfolding marginOf
+margin-le low Rest.Nothing = omega (arith, mod-lt low (lit≤ {m = 1} {n = 2} tt))
+margin-le low Rest.UnderHalf = lit≤ tt
+margin-le low Rest.Half = lit≤ tt
+margin-le low Rest.OverHalf = lit≤ tt
+
+-- the order of shifted numbers is that of the numbers
+shifted-lt : (t x y : ℕ) → x < y → x * 2 ^ t < y * 2 ^ t
+shifted-lt t x y h = mul-lt-mul-of-pos-right h (pow-pos t)
+
+neither : (x y : ℕ) → ¬ (x < y) → ¬ (y < x) → y ≡ x
+neither x y f g = le-antisymm (not-more f) (not-more g)
+
+module _ (low t beyond half : ℕ) (top : 2 ^ 63 ≡ half * 2 ^ t) where
+  up : (rest : Rest) → 2 ^ 63 - marginOf low rest < beyond * 2 ^ t → Dec (half < beyond) → Dec (beyond < half) → Chosen low beyond half rest (low + 1)
+  unfolding Chosen chosenOf marginOf
+  up rest l (yes h) d = (Side.Over, half-above beyond half rest h, refl)
+  up rest l (no f) (yes h) = absurd (omega (arith, l, top, shifted-lt t beyond half h, margin-le low rest))
+  up Rest.Nothing l (no f) (no g) = let q = neither half beyond f g in
+      (Side.Midway, half-midway beyond half q, omega (arith, l, top, ap (λ (x : ℕ). x * 2 ^ t) q, mod-lt low (lit≤ {m = 1} {n = 2} tt)))
+  up Rest.UnderHalf l (no f) (no g) = (Side.Over, past-under-half beyond half (neither half beyond f g), refl)
+  up Rest.Half l (no f) (no g) = (Side.Over, past-half beyond half (neither half beyond f g), refl)
+  up Rest.OverHalf l (no f) (no g) = (Side.Over, past-over-half beyond half (neither half beyond f g), refl)
+
+  down : (rest : Rest) → beyond * 2 ^ t ≤ 2 ^ 63 - marginOf low rest → Dec (beyond < half) → Dec (half < beyond) → Chosen low beyond half rest low
+  unfolding Chosen chosenOf marginOf
+  down rest l (yes h) d = (Side.Under, half-below beyond half rest h, refl)
+  down rest l (no f) (yes h) = absurd (omega (arith, l, top, shifted-lt t half beyond h))
+  down Rest.Nothing l (no f) (no g) = let q = neither half beyond g f in
+      (Side.Midway, half-midway beyond half q, omega (arith, l, top, ap (λ (x : ℕ). x * 2 ^ t) q))
+  down Rest.UnderHalf l (no f) (no g) = absurd (omega (arith, l, top, ap (λ (x : ℕ). x * 2 ^ t) (neither half beyond g f)))
+  down Rest.Half l (no f) (no g) = absurd (omega (arith, l, top, ap (λ (x : ℕ). x * 2 ^ t) (neither half beyond g f)))
+  down Rest.OverHalf l (no f) (no g) = absurd (omega (arith, l, top, ap (λ (x : ℕ). x * 2 ^ t) (neither half beyond g f)))
+
+pub cut-up : (low cut : ℕ) (rest : Rest) → 2 ^ 63 - marginOf low rest < cut → ChoosesByCut low cut rest (low + 1)
+unfolding ChoosesByCut Chosen
+cut-up low cut rest l = λ t beyond half q top. up low t beyond half top rest (subst (λ (x : ℕ). 2 ^ 63 - marginOf low rest < x) q l) (decLt half beyond) (decLt beyond half)
+
+pub cut-down : (low cut : ℕ) (rest : Rest) → cut ≤ 2 ^ 63 - marginOf low rest → ChoosesByCut low cut rest low
+unfolding ChoosesByCut Chosen
+cut-down low cut rest l = λ t beyond half q top. down low t beyond half top rest (subst (λ (x : ℕ). x ≤ 2 ^ 63 - marginOf low rest) q l) (decLt beyond half) (decLt half beyond)
 
 -- ---- against the midpoint of two powers of two
 pub double : (s : Side) (a x : ℕ) → Tells s a x → Tells s (2 * a) (x + x)

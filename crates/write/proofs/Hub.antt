@@ -17,7 +17,7 @@ use Rattle.write.specs.declared.size.Rest.{Rest}
 use Rattle.write.specs.declared.size.Side.{Side}
 use Rattle.write.specs.declared.size.Start.{Start}
 use Rattle.write.specs.Writes.{HasValue, Nearest}
-use Rattle.write.specs.Offers.{Begins, firstBits, Amounts, IsOffered, IsNearest, IsRaised, Tells, TellsMidpoint}
+use Rattle.write.specs.Offers.{Begins, firstBits, Amounts, IsOffered, IsNearest, IsRaised, Tells, TellsMidpoint, chosenOf}
 use Rattle.write.proofs.Exponents.{offset-up, offset-down}
 use Rattle.write.proofs.Halves.{within}
 use Rattle.write.proofs.Nearest.{NearestPlace, at-first, at-last, nearer-below, nearer-above, midway}
@@ -118,18 +118,25 @@ module _ (n : ℕ) (lo : 2 ≤ n) (hi : n ≤ 64) where
           subst (Tells side (2 * a)) (add-mul (grown n v) (grown n (suc v)) b)
           (t h a b (grown n v) (grown n (suc v)) is some offered (has-value n lo hi false v first (omega (arith, room))) (subst (HasValue n false (grown n (suc v))) (sym (add-one v)) (has-value n lo hi false (suc v) (zero-lt-suc v) room)))
 
-      pub side-under : TellsMidpoint n v e m rest Side.Under → IsNearest n h m rest v
+      side-under : TellsMidpoint n v e m rest Side.Under → IsNearest n h m rest v
       unfolding IsNearest Tells
       side-under t = λ a b some offered.
           place a b v (nearer-below (grown n) (2 ^ (n - 1)) a b increasing some v first room (low a b some offered first) (high a b some offered room) (tells Side.Under t a b some offered))
 
-      pub side-midway : TellsMidpoint n v e m rest Side.Midway → IsNearest n h m rest (v + v % 2)
+      side-midway : TellsMidpoint n v e m rest Side.Midway → IsNearest n h m rest (v + v % 2)
       unfolding IsNearest Tells
       side-midway t = λ a b some offered.
           place a b (v + v % 2) (midway (grown n) (2 ^ (n - 1)) a b increasing some v first room (low a b some offered first) (high a b some offered room) (tells Side.Midway t a b some offered))
 
-      pub side-over : TellsMidpoint n v e m rest Side.Over → IsNearest n h m rest (v + 1)
+      side-over : TellsMidpoint n v e m rest Side.Over → IsNearest n h m rest (v + 1)
       unfolding IsNearest Tells
       side-over t = λ a b some offered.
           subst (Nearest n false a b) (sym (add-one v))
           (place a b (suc v) (nearer-above (grown n) (2 ^ (n - 1)) a b increasing some v first room (low a b some offered first) (high a b some offered room) (tells Side.Over t a b some offered)))
+
+      -- the word that the side chooses
+      pub by-side : (w : ℕ) (side : Side) → TellsMidpoint n v e m rest side → w ≡ chosenOf v side → IsNearest n h m rest w
+      unfolding chosenOf
+      by-side w Side.Under t q = subst (IsNearest n h m rest) (sym q) (side-under t)
+      by-side w Side.Midway t q = subst (IsNearest n h m rest) (sym q) (side-midway t)
+      by-side w Side.Over t q = subst (IsNearest n h m rest) (sym q) (side-over t)

@@ -17,3 +17,4 @@ pub mod Sides
 pub mod Signs
 pub mod Starts
 pub mod Strings
+pub mod Tops

@@ -3,8 +3,8 @@
 use mathlib.Core.Path.{_≡_, refl, sym, ap, ap₂, _∙_, subst, subst₂}
 use mathlib.Core.Bool.{false}
 use mathlib.Core.Logic.{_⊎_, inl, inr}
-use Prim.Native.Nat.{ℕ, zero, suc, _+_, _-_, _*_, _/_, _%_, _^_, _≤_, _<_, max}
-use native.Mathlib.Nat.{max-eq-right, le-of-lt, lt-of-not-le, mul-assoc, mul-pos, mod-lt, lt-of-le-of-lt, le-of-suc-le-suc}
+use Prim.Native.Nat.{ℕ, zero, suc, _+_, _-_, _*_, _/_, _%_, _^_, _≤_, _<_}
+use native.Mathlib.Nat.{le-of-lt, lt-of-not-le, mul-assoc, mul-pos, mod-lt, lt-of-le-of-lt, le-of-suc-le-suc}
 use native.Mathlib.Numerals.{add-one}
 use native.Mathlib.Decide.{decLt}
 use native.Mathlib.Omega.{arith}
@@ -13,16 +13,16 @@ use lib.Pow.{pow-pos, shr-shr, split}
 use Rattle.word.specs.Takum as Takum
 use Rattle.word.specs.Reads.{num, den}
 use Rattle.word.specs.Refusals.{IsWord}
-use Rattle.word.proofs.Powers.{pow-sum, shl-below}
+use Rattle.word.proofs.Powers.{pow-sum, shl-below, shl-out}
 use Rattle.word.proofs.Limits.{exponent-lt}
-use Rattle.word.proofs.Cut.{r-head}
+use Rattle.word.proofs.Cut.{r-head, c-head}
 use Rattle.word.proofs.Sizes.{size, size-lt}
 use Rattle.word.proofs.Values.{grown, grown-suc, grown-lt}
 use Rattle.write.specs.declared.size.Rest.{Rest}
 use Rattle.write.specs.declared.size.Side.{Side}
 use Rattle.write.specs.declared.size.Start.{Start}
 use Rattle.write.specs.Writes.{HasValue}
-use Rattle.write.specs.Offers.{Begins, firstBits, Amounts, IsOffered, IsRaised, Tells, TellsHalf, TellsPowers, TellsMidpoint}
+use Rattle.write.specs.Offers.{Begins, firstBits, Amounts, IsOffered, IsRaised, Tells, TellsHalf, TellsPowers, TellsMidpoint, chosenOf, ChoosesByCut}
 use Rattle.write.proofs.Exponents.{raised-inj, unit-law, unit-some}
 use Rattle.write.proofs.Halves.{cancel}
 use Rattle.write.proofs.Strings.{Binade, binade-of, string-regime}
@@ -77,6 +77,14 @@ module _ (n low e m : ℕ) (start : Start) (given : Given n low e m start) where
       (subst (λ (x : ℕ). suc x < 2 ^ (n - 1)) word next-room) (subst (λ (x : ℕ). zero < x) word (given .first)) side
       (subst (λ (x : ℕ). TellsHalf (m % 2 ^ x) (2 ^ (62 - (59 - start .r) + (64 - n))) rest side) (omega (arith, fine, seven, given .hi)) (subst (λ (x : ℕ). TellsHalf (m % 2 ^ (64 - (n - start .r - 4))) (2 ^ x) rest side) (omega (arith, fine, seven, given .hi)) t)))
 
+  -- the same of what is cut off when it stands at the top
+  pub fine-cut : (rest : Rest) (w : ℕ) → 5 + start .r ≤ n → ChoosesByCut low (m * 2 ^ (n - start .r - 4) % 2 ^ 64) rest w → (side : Side) × TellsMidpoint n low e m rest side × (w ≡ chosenOf low side)
+  unfolding ChoosesByCut
+  fine-cut rest w fine x =
+      let kept = n - start .r - 4 in
+      let y = x kept (m % 2 ^ (64 - kept)) (2 ^ (63 - kept)) (shl-out m kept (omega (arith, given .hi))) (sym (pow-sum (63 - kept) kept 63 (omega (arith, given .hi)))) in
+      (y .0, fine-tells rest (y .0) fine (y .1), y .2)
+
   -- ---- powers of two
   module _ (short : n < 5 + start .r) where
     narrow : n < 12
@@ -118,16 +126,19 @@ module _ (n low e m : ℕ) (start : Start) (given : Given n low e m start) where
     high-is = high-power n low (given .lo) narrow (given .first) next-room cut
 
     -- a raised characteristic of a word is that of its head
-    at-head : (v i : ℕ) → IsRaised (Takum.c (Takum.N n) (Takum.padded n v)) i → i ≡ raisedAt (headOf n v)
-    unfolding Takum.N Takum.padded headOf
-    at-head v i x = raised-inj (Takum.c 12 (headOf n v)) i (raisedAt (headOf n v)) (subst (λ (k : ℕ). IsRaised (Takum.c k (v * 2 ^ (k - n))) i) (max-eq-right (le-of-lt narrow)) x) (raised-is (headOf n v))
+    at-head : (v i : ℕ) → IsRaised (Takum.c 64 (v * 2 ^ (64 - n))) i → i ≡ raisedAt (headOf n v)
+    unfolding headOf
+    at-head v i x = raised-inj (Takum.c 12 (headOf n v)) i (raisedAt (headOf n v)) (subst (λ (z : ℤ). IsRaised z i) (ap (Takum.c 64) above ∙ c-head 52 (headOf n v) 0 (pow-pos 52)) x) (raised-is (headOf n v))
+      where
+        above : v * 2 ^ (64 - n) ≡ v * 2 ^ (12 - n) * 2 ^ 52 + 0
+        above = omega (arith, ap (λ (x : ℕ). v * x) (pow-sum (12 - n) 52 (64 - n) (omega (arith, narrow))))
 
-    module _ (i j : ℕ) (hi : IsRaised (Takum.c (Takum.N n) (Takum.padded n low)) i) (hj : IsRaised (Takum.c (Takum.N n) (Takum.padded n (low + 1))) j) where
+    module _ (i j : ℕ) (hi : IsRaised (Takum.c 64 (low * 2 ^ (64 - n))) i) (hj : IsRaised (Takum.c 64 ((low + 1) * 2 ^ (64 - n))) j) where
       i-is : i ≡ raisedAt (headOf n low)
       i-is = at-head low i hi
 
       j-is : j ≡ raisedAt (headOf n (suc low))
-      j-is = at-head (suc low) j (subst (λ (v : ℕ). IsRaised (Takum.c (Takum.N n) (Takum.padded n v)) j) (add-one low) hj)
+      j-is = at-head (suc low) j (subst (λ (v : ℕ). IsRaised (Takum.c 64 (v * 2 ^ (64 - n))) j) (add-one low) hj)
 
       shifted-lt : (x y : ℕ) → 2 ^ (x + 52) < 2 ^ (y + 52) → x < y
       shifted-lt x y l = omega (arith, exponent-lt (x + 52) (y + 52) l)

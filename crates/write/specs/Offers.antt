@@ -1,15 +1,17 @@
 -- The normal size that size::nearest, the hub, takes, (m + rest) * 2^(h - 63), and what the hub and its parts answer.
 use mathlib.Core.Path.{_≡_}
 use mathlib.Core.Bool.{Bool, true, false, cond}
-use Prim.Native.Nat.{ℕ, _+_, _-_, _*_, _/_, _^_, _≤_, _<_}
+use Prim.Native.Nat.{ℕ, _+_, _-_, _*_, _/_, _%_, _^_, _≤_, _<_}
+use lib.Dec.{ltb}
 use lib.IntN.{ℤ, pos, _+ℤ_, _-ℤ_}
 use Rattle.word.specs.Takum as Takum
 use Rattle.word.specs.Orders.{negated}
-use Rattle.word.specs.Reads.{num, den}
+use Rattle.word.specs.Reads.{num, den, IsSize}
 use Rattle.word.specs.declared.answer.Answer.{Answer}
 use Rattle.write.specs.declared.value.Rule.{Rule}
 use Rattle.write.specs.declared.size.Rest.{Rest}
 use Rattle.write.specs.declared.size.Side.{Side}
+use Rattle.write.specs.declared.size.Size.{Size}
 use Rattle.write.specs.declared.size.Start.{Start}
 use Rattle.write.specs.Writes.{HasValue, Nearest, IsExact, IsWritten}
 
@@ -32,6 +34,18 @@ IsNearest n h m rest w = (a b : ℕ) → 0 < b → IsOffered m rest (h -ℤ pos 
 unfoldable pub TellsExact : ℕ → ℕ → ℤ → ℕ → Bool → Type 0
 TellsExact n w h m true = (a b : ℕ) → 0 < b → IsOffered m Rest.Nothing (h -ℤ pos 63) a b → IsExact n false a b w
 TellsExact n w h m false = (a b : ℕ) → 0 < b → IsOffered m Rest.Nothing (h -ℤ pos 63) a b → IsExact n false a b w → ⊥
+
+-- a positive word's characteristic as it stands at the top of 64 bits, and its size m * 2^(h - 63), which is v * 2^-307
+pub record IsSizeOf (n w : ℕ) (s : Size) : Type 0 where
+  pub v : ℕ
+  pub value : HasValue n false v w
+  pub characteristic : s .h ≡ Takum.c 64 (w * 2 ^ (64 - n))
+  pub full : 2 ^ 63 ≤ s .m
+  pub size : IsSize (s .m) (s .h -ℤ pos 63) v
+
+-- a word that lies above NaR mirrored to below it
+unfoldable pub withoutSign : ℕ → ℕ → ℕ
+withoutSign nar w = cond (ltb w nar) w (nar + nar - w)
 
 -- the word with the sign
 unfoldable pub withSign : ℕ → Bool → ℕ → ℕ
@@ -57,6 +71,23 @@ Tells Side.Over x y = y < x
 -- beyond + rest against half, whatever both are added to
 unfoldable pub TellsHalf : ℕ → ℕ → Rest → Side → Type 0
 TellsHalf beyond half rest side = (base unit a : ℕ) → 0 < unit → Amounts (base + beyond) rest a unit → Tells side a ((base + half) * unit)
+
+-- low or low + 1 as the side tells, halfway the one whose lowest bit is 0
+unfoldable pub chosenOf : ℕ → Side → ℕ
+chosenOf low Side.Under = low
+chosenOf low Side.Midway = low + low % 2
+chosenOf low Side.Over = low + 1
+
+-- how far the bits that are cut off may stay under a half for low + 1 to be chosen, in units too small to matter
+unfoldable pub marginOf : ℕ → Rest → ℕ
+marginOf low Rest.Nothing = low % 2
+marginOf low Rest.UnderHalf = 1
+marginOf low Rest.Half = 1
+marginOf low Rest.OverHalf = 1
+
+-- what is chosen by the bits cut off: they are `beyond`, shifted to the top of 64 bits, and a half stands there as 2^63
+unfoldable pub ChoosesByCut : ℕ → ℕ → Rest → ℕ → Type 0
+ChoosesByCut low cut rest w = (t beyond half : ℕ) → cut ≡ beyond * 2 ^ t → 2 ^ 63 ≡ half * 2 ^ t → (side : Side) × TellsHalf beyond half rest side × (w ≡ chosenOf low side)
 
 -- an exponent raised by 255, so that it isn't negative
 unfoldable pub IsRaised : ℤ → ℕ → Type 0

@@ -1,14 +1,12 @@
 // One normal size goes in and the nearest positive word comes out: every number that is written passes here.
-use word::reading::Reading;
-use word::reading::read;
-use word::width::Width;
+use word::fields::cut;
 ghost use mathlib.Core.Path.{_≡_};
-ghost use Prim.Native.Nat.{_+_, _-_, _/_, _^_, _≤_, _<_};
-ghost use lib.IntN.{ℤ, pos, negsuc};
+ghost use Prim.Native.Nat.{_+_, _-_, _*_, _^_, _≤_, _<_};
+ghost use lib.IntN.{pos, negsuc};
 ghost use lib.Signed.{mag};
 ghost use Rattle.word.specs.Takum as Takum;
 ghost use Rattle.word.specs.Refusals.{IsWord};
-ghost use Rattle.write.specs.Offers.{IsNearest, Begins, firstBits, IsRaised, TellsHalf, TellsPowers, TellsMidpoint};
+ghost use Rattle.write.specs.Offers.{IsNearest, IsSizeOf, Begins, firstBits, IsRaised, TellsHalf, TellsPowers, chosenOf, marginOf, ChoosesByCut};
 
 // What lies below the last unit of a significand.
 pub(crate) enum Rest {
@@ -23,6 +21,12 @@ pub(crate) enum Side {
     Under,
     Midway,
     Over,
+}
+
+// The size m * 2^(h - 63), m having its top bit set.
+pub(crate) struct Size {
+    pub(crate) h: i32,
+    pub(crate) m: u64,
 }
 
 // How every string of a characteristic begins after its sign: direction, regime and characteristic bits, and the regime.
@@ -46,7 +50,7 @@ pub(crate) fn nearest(n: u32, h: i64, m: u64, rest: Rest) -> u64
 }
 
 // The same where h is a characteristic.
-fn nearest_inside(n: u32, h: i32, m: u64, rest: Rest) -> u64
+pub(crate) fn nearest_inside(n: u32, h: i32, m: u64, rest: Rest) -> u64
     requires { ⌜ (2 ≤ n) × (n ≤ 64) × (2 ^ 63 ≤ m) × (mag h ≤ 254) ⌝ }
     ensures { λ w. ⌜ IsNearest n h m rest w ⌝ }
 {
@@ -58,11 +62,51 @@ fn nearest_inside(n: u32, h: i32, m: u64, rest: Rest) -> u64
     if low == last_word(n) {
         return low;
     }
-    // The carry needs no code: the next word is one more, across fractions, characteristics and regimes.
-    match side_of(n, low, start, raised(h), m, rest) {
+    // The nearest is low or the next word, which is one more, across fractions, characteristics and regimes: the carry needs no code.
+    // Where the cut falls in the regime or the characteristic, both are powers of two.
+    if n < 5 + start.r {
+        return chosen(
+            low,
+            side_of_powers(exponent(n, low), exponent(n, low + 1), raised(h), m, rest),
+        );
+    }
+    // Where it falls in the fraction, words are evenly spaced and the bits that are cut off decide.
+    chosen_by_cut(low, m << (n - start.r - 4), rest)
+}
+
+// Low or low + 1, halfway the even one.
+fn chosen(low: u64, side: Side) -> u64
+    requires { ⌜ low + 1 < 2 ^ 63 ⌝ }
+    ensures { λ w. ⌜ w ≡ chosenOf low side ⌝ }
+{
+    match side {
         Side::Under => low,
         Side::Midway => low + low % 2,
         Side::Over => low + 1,
+    }
+}
+
+// The same by the bits that are cut off, which stand at the top of 64 bits and have the rest below them. One test decides, since nobody
+// can foretell which way it goes.
+fn chosen_by_cut(low: u64, cut: u64, rest: Rest) -> u64
+    requires { ⌜ low + 1 < 2 ^ 63 ⌝ }
+    ensures { λ w. ⌜ ChoosesByCut low cut rest w ⌝ }
+{
+    if (1 << 63) - margin(low, rest) < cut {
+        return low + 1;
+    }
+    low
+}
+
+// At half exactly, an odd word goes up; with any rest at half, the size is past it.
+fn margin(low: u64, rest: Rest) -> u64
+    ensures { λ x. ⌜ x ≡ marginOf low rest ⌝ }
+{
+    match rest {
+        Rest::Nothing => low % 2,
+        Rest::UnderHalf => 1,
+        Rest::Half => 1,
+        Rest::OverHalf => 1,
     }
 }
 
@@ -115,21 +159,6 @@ fn first_bits(start: Start, m: u64) -> u64
     (start.bits << (59 - start.r)) + ((m << 1) >> (5 + start.r))
 }
 
-// Where the cut falls in the fraction, words are evenly spaced and the bits that are cut off decide.
-// Where it falls in the regime or the characteristic, the two words are powers of two.
-fn side_of(n: u32, low: u64, start: Start, e: u32, m: u64, rest: Rest) -> Side
-    requires { ⌜ (2 ≤ n) × (n ≤ 64) × (0 < low) × (low + 1 < 2 ^ (n - 1)) × (2 ^ 63 ≤ m) × (low ≡ firstBits start m / 2 ^ (64 - n)) ⌝ }
-    requires { ⌜ (e < 510) × ((h : ℤ) → IsRaised h e → Begins h start) ⌝ }
-    ensures { λ s. ⌜ TellsMidpoint n low e m rest s ⌝ }
-{
-    let r = start.r;
-    if n < 5 + r {
-        return side_of_powers(exponent(n, low), exponent(n, low + 1), e, m, rest);
-    }
-    let kept = n - r - 4;
-    against((m << kept) >> kept, 1 << (63 - kept), rest)
-}
-
 // The midpoint of 2^i and 2^j is 2^(j - 1) + 2^(i - 1).
 fn side_of_powers(i: u32, j: u32, e: u32, m: u64, rest: Rest) -> Side
     requires { ⌜ (i < j) × (j ≤ i + 64) × (e < j) × (j < 510) × (2 ^ 63 ≤ m) ⌝ }
@@ -174,18 +203,20 @@ fn against(beyond: u64, half: u64, rest: Rest) -> Side
 // The characteristic of a positive word, raised.
 fn exponent(n: u32, word: u64) -> u32
     requires { ⌜ IsWord n word × (0 < word) × (word < 2 ^ (n - 1)) ⌝ }
-    ensures { λ e. ⌜ IsRaised (Takum.c (Takum.N n) (Takum.padded n word)) e ⌝ }
+    ensures { λ e. ⌜ IsRaised (Takum.c 64 (word * 2 ^ (64 - n))) e ⌝ }
 {
-    match read(Width { bits: n }, word) {
-        Reading::Number {
-            negative: _,
-            h,
-            m: _,
-            p: _,
-        } => raised(h),
-        Reading::Zero => 0,
-        Reading::NotReal => 0,
-        Reading::Refused(_) => 0,
+    raised(size_of(n, word).h)
+}
+
+// The size of a positive word, from the fields of the word at the top of 64 bits.
+pub(crate) fn size_of(n: u32, word: u64) -> Size
+    requires { ⌜ IsWord n word × (0 < word) × (word < 2 ^ (n - 1)) ⌝ }
+    ensures { λ s. ⌜ IsSizeOf n word s ⌝ }
+{
+    let fields = cut(word << (64 - n));
+    Size {
+        h: fields.c,
+        m: (1 << 63) + (fields.f >> 1),
     }
 }
 

@@ -1,29 +1,31 @@
--- `move_word` meets its contract: what was read at the one width is written at the other. Assumes nothing.
-use mathlib.Core.Path.{_≡_, refl, sym, ap, ap₂, _∙_, subst}
-use mathlib.Core.Bool.{Bool, false}
-use Prim.Native.Nat.{ℕ, _*_, _^_, _≤_, _<_}
+-- `move_word` meets its contract: the size of the word without its sign is written at the other width. Assumes nothing.
+use mathlib.Core.Path.{_≡_, refl, sym, ap, _∙_, subst, subst₂}
+use mathlib.Core.Bool.{false}
+use Prim.Native.Nat.{ℕ, zero, _+_, _-_, _*_, _%_, _^_, _≤_, _<_}
 use native.Mathlib.Omega.{arith}
-use native.Mathlib.Nat.{le-trans, le-of-eq, lt-of-le-of-lt}
-use borrow.Author.Needs.{sfits-of}
+use native.Mathlib.Nat.{pos-of-ne-zero}
 use borrow.Author.Needs.{needs}
-use lib.Dec.{lit<}
-use lib.IntN.{ℤ, pos, _+ℤ_, _-ℤ_}
+use lib.Dec.{ltb}
+use lib.IntN.{ℤ, pos}
 use lib.Signed.{mag}
+use mir.Facts.{toZ-ofZ}
+use mir.Syntax.{w32, w64}
 use mir.Val.{SFits, toZ, ofZ}
-use mir.Facts.{toZ-ofZ, toZ-pos}
-use mir.Syntax.{w32}
-use Rattle.write.proofs.Rules.{zero-written, number-moved}
-use Rattle.word.specs.Takum.{Takum, takum, fractionBits}
 use Rattle.word.specs.declared.answer.Answer.{Answer}
-use Rattle.word.proofs.Signed.{sub-mag}
 use Rattle.word.specs.declared.refusal.Verdict.{Verdict}
-use Rattle.word.proofs.Verdicts.{told-three, move-through, word-passes, width-through, answered}
-use Rattle.word.proofs.Readings.{exponent-small, fraction-bits-most}
-use Rattle.write.specs.Writes.{IsWritten, isNegative, IsMoved, Writes, Moves}
 use Rattle.word.specs.Refusals.{widthTest, strayTest, _then_, IsWord, through, refused}
+use Rattle.word.specs.Takum.{Takum, real, NaR, takum}
+use Rattle.word.specs.Reads.{signedSize}
 use Rattle.word.specs.Widths.{GivesWord}
-use Rattle.word.specs.declared.reading.Reading.{Reading}
-use Rattle.word.specs.Reads.{num, den, IsNumber, IsReading, Reads}
+use Rattle.word.proofs.Numbers.{characteristic-of-string}
+use Rattle.word.proofs.Powers.{pow-sum, one-shl}
+use Rattle.word.proofs.Verdicts.{told-three, move-through, width-through, answered}
+use Rattle.word.proofs.Words.{takum-zero, takum-NaR}
+use Rattle.write.specs.declared.size.Rest.{Rest}
+use Rattle.write.specs.Writes.{HasValue, isNegative, IsMoved, Moves}
+use Rattle.write.specs.Offers.{IsNearest, withoutSign, WritesSize}
+use Rattle.write.proofs.Rules.{zero-written, size-moved}
+use Rattle.write.proofs.Signs.{unsigned-word, unsigned-value}
 use Rattle.write.proofs.moving.move_word.Statement.{statement}
 use Rattle.write.proofs.moving.move_word.Tie as tie
 
@@ -38,48 +40,61 @@ let-through c = told (c .before .before) (c .enum-told .given .1)
 open-row : (c : tie.After-enum-told) → IsWord (c .before .before .before .before .before .before .before .args .from .bits) (c .before .before .before .before .before .before .before .args .word) × (widthTest (c .before .before .before .before .before .before .before .args .to .bits) ≡ Verdict.Through)
 open-row c = move-through _ _ _ (let-through c)
 
-read-as : (c : tie.After-read) {a : Reading} → c .read .result ≡ a → IsReading (takum (c .before .before .before .before .before .before .before .before .args .from .bits) (c .before .before .before .before .before .before .before .before .args .word)) (fractionBits (c .before .before .before .before .before .before .before .before .args .from .bits) (c .before .before .before .before .before .before .before .before .args .word)) a
-unfolding Reads
-read-as c q = subst (IsReading _ _) q (answered (word-passes _ _ (open-row (c .before) .0)) (c .read .ensures))
-
--- the number that was read, and its exponent as the machine computes it
-module _ (c : tie.After-known-told2) where
+-- the width of the source, and NaR's word there
+module _ (g : tie.After-enum-told) where
   abbrev from : ℕ
-  from = c .before .before .before .before .before .before .before .before .before .before .before .args .from .bits
+  from = g .before .before .before .before .before .before .before .args .from .bits
+
+  is-word : IsWord from (g .before .before .before .before .before .before .before .args .word)
+  is-word = open-row g .0
+
+  nar-is : 1 * 2 ^ (from - 1) % 2 ^ 64 ≡ 2 ^ (from - 1)
+  nar-is = one-shl 64 (from - 1) (omega (arith, is-word .most))
+
+-- a word that is neither zero nor NaR
+module _ (b : tie.Else2) where
+  abbrev g : tie.After-enum-told
+  g = b .before .before .before
 
   abbrev word : ℕ
-  word = c .before .before .before .before .before .before .before .before .before .before .before .args .word
+  word = g .before .before .before .before .before .before .before .args .word
+
+  some : zero < word
+  some = pos-of-ne-zero (b .before .before .if1 .left)
+
+  other : word ≡ 2 ^ (from g - 1) → ⊥
+  other q = b .if2 .left (q ∙ sym (nar-is g))
+
+  unsigned : IsWord (from g) (withoutSign (2 ^ (from g - 1)) word) × (zero < withoutSign (2 ^ (from g - 1)) word) × (withoutSign (2 ^ (from g - 1)) word < 2 ^ (from g - 1))
+  unsigned = unsigned-word (from g) (is-word g .least) (is-word g .most) word (is-word g) some other
+
+-- the word without its sign, and its size
+without-is : (c : tie.After-without-sign) → c .without-sign .result ≡ withoutSign (2 ^ (from (g (c .before)) - 1)) (word (c .before))
+without-is c = c .without-sign .ensures ∙ ap (λ (x : ℕ). withoutSign x (word (c .before))) (nar-is (g (c .before)))
+
+module _ (k : tie.After-size-of) where
+  abbrev b : tie.Else2
+  b = k .before .before
 
   abbrev h : ℤ
-  h = c .before .negative .given .0 .1 .0
+  h = k .size-of .result .h
 
-  abbrev p : ℕ
-  p = c .before .negative .given .0 .1 .1 .1 .0
-
-  number : IsNumber (takum from word) (fractionBits from word) (c .before .negative .given .0 .0) h (c .before .negative .given .0 .1 .1 .0) p
-  unfolding IsReading
-  number = read-as (c .before .before .before) (c .before .negative .given .1)
-
-  is-word : IsWord from word
-  is-word = open-row (c .before .before .before .before) .0
-
-  few : p ≤ 59
-  few = le-trans (le-of-eq (number .count)) (fraction-bits-most from word is-word)
-
-  count-fits : SFits w32 (pos p)
-  count-fits = record { sfits = omega (arith, few) }
+  small : mag h ≤ 254
+  small = subst (λ (z : ℤ). mag z ≤ 254) (sym (k .size-of .ensures .characteristic)) (characteristic-of-string _ _)
 
   h-fits : SFits w32 h
-  h-fits = sfits-of (c .known-told2 .given .1 .0 .1)
+  h-fits = record { sfits = omega (arith, small) }
 
-  difference : toZ w32 (ofZ w32 h) -ℤ toZ w32 p ≡ h -ℤ pos p
-  difference = ap₂ (λ (x y : ℤ). x -ℤ y) (toZ-ofZ h-fits) (toZ-pos w32 (lt-of-le-of-lt few (lit< tt)))
+  wide-fits : SFits w64 h
+  wide-fits = record { sfits = omega (arith, small) }
 
-  difference-fits : SFits w32 (h -ℤ pos p)
-  difference-fits = record { sfits = omega (arith, sub-mag h (pos p), exponent-small from word is-word number, few) }
+  held : toZ w64 (ofZ w64 (toZ w32 (ofZ w32 h))) ≡ h
+  held = ap (λ (z : ℤ). toZ w64 (ofZ w64 z)) (toZ-ofZ h-fits) ∙ toZ-ofZ wide-fits
 
-  held : toZ w32 (ofZ w32 (toZ w32 (ofZ w32 h) -ℤ toZ w32 p)) ≡ h -ℤ pos p
-  held = ap (λ (z : ℤ). toZ w32 (ofZ w32 z)) difference ∙ toZ-ofZ difference-fits
+  means : takum (from (g b)) (word b) ≡ real (signedSize (ltb (2 ^ (from (g b) - 1)) (word b)) (k .size-of .ensures .v))
+  means =
+      unsigned-value (from (g b)) (is-word (g b) .least) (is-word (g b) .most) (word b) _ (is-word (g b)) (some b) (other b)
+      (subst (λ (w : ℕ). HasValue (from (g b)) false (k .size-of .ensures .v) w) (without-is (k .before)) (k .size-of .ensures .value))
 
 test-requires : tie.Need-test-requires
 test-requires c κs = search needs
@@ -106,57 +121,57 @@ returns c = refused (told (c .before .before .before) (c .before .verdict .given
 enum-told : tie.Need-enum-told
 enum-told c = search needs
 
-read-requires : tie.Need-read-requires
-read-requires c κs = search needs
+returns-2 : tie.Need-returns-2
+unfolding Moves IsMoved isNegative
+returns-2 c = let g = c .before in
+    let s = g .before .before .before .before .before .before .before in
+    let t = width-through _ (open-row g .1) in
+    through (let-through g) (subst (λ (t : Takum). IsMoved (s .args .to .bits) (s .args .rule) t (Answer.Word 0)) (sym (ap (takum (from g)) (c .if1 .taken) ∙ takum-zero (from g))) (zero-written (s .args .to .bits) (t .0) (t .1) (s .args .rule) false 0 1 refl))
 
-enum-told-2 : tie.Need-enum-told-2
-enum-told-2 c = search needs
+sub-nar : tie.Need-sub-nar
+sub-nar c = omega (arith, is-word (c .before .before) .least)
 
-enum-told-3 : tie.Need-enum-told-3
-enum-told-3 c = search needs
+cast-nar : tie.Need-cast-nar
+cast-nar c = search needs
+
+shl-nar : tie.Need-shl-nar
+shl-nar c = omega (arith, is-word (c .before .before) .most)
 
 nar-requires : tie.Need-nar-requires
 nar-requires c κs = search needs
 
-enum-known-negative : tie.Need-enum-known-negative
-enum-known-negative c = search needs
-
-cast-t19 : tie.Need-cast-t19
-cast-t19 c = count-fits c
-
-sub-t20 : tie.Need-sub-t20
-sub-t20 c = subst (λ (z : ℤ). SFits w32 z) (sym (difference c)) (difference-fits c)
-
-write-requires : tie.Need-write-requires
-write-requires c κs = search needs
-
-enum-known-q : tie.Need-enum-known-q
-enum-known-q c = search needs
-
-returns-2 : tie.Need-returns-2
-unfolding Moves IsMoved isNegative IsReading
-returns-2 c = let g = c .before .before .before in
-    let s = g .before .before .before .before .before .before .before in
-    let o = open-row g in
-    let t = width-through _ (o .1) in
-    through (let-through g) (subst (λ (t : Takum). IsMoved (s .args .to .bits) (s .args .rule) t (Answer.Word 0)) (sym (read-as (c .before .before) (c .enum-told2 .given .1))) (zero-written (s .args .to .bits) (t .0) (t .1) (s .args .rule) false 0 1 refl))
-
 returns-3 : tie.Need-returns-3
-unfolding Moves IsMoved IsReading GivesWord
+unfolding Moves IsMoved GivesWord
 returns-3 c = let g = c .before .before .before .before in
     let s = g .before .before .before .before .before .before .before in
-    through (let-through g) (subst (λ (t : Takum). IsMoved (s .args .to .bits) (s .args .rule) t (c .nar .result)) (sym (read-as (c .before .before .before) (c .before .enum-told3 .given .1))) (answered (open-row g .1) (c .nar .ensures)))
+    through (let-through g) (subst (λ (t : Takum). IsMoved (s .args .to .bits) (s .args .rule) t (c .nar .result)) (sym (takum-NaR (from g) (s .args .word) (is-word g .least) (is-word g .most) (c .before .if2 .taken ∙ nar-is g))) (answered (open-row g .1) (c .nar .ensures)))
+
+without-sign-requires : tie.Need-without-sign-requires
+without-sign-requires c κs = omega (arith, nar-is (g c), is-word (g c) .fits, pow-sum (from (g c) - 1) 1 (from (g c)) (omega (arith, is-word (g c) .least)))
+
+size-of-requires : tie.Need-size-of-requires
+size-of-requires c κs = subst (λ (w : ℕ). IsWord (from (g (c .before))) w × (zero < w) × (w < 2 ^ (from (g (c .before)) - 1))) (sym (without-is c)) (unsigned (c .before))
+
+nearest-inside-requires : tie.Need-nearest-inside-requires
+nearest-inside-requires c κs = let t = width-through _ (open-row (g (b (c .before))) .1) in
+    (t .0, t .1, c .before .size-of .ensures .full, subst (λ (z : ℤ). mag z ≤ 254) (sym (toZ-ofZ (h-fits (c .before)))) (small (c .before)))
+
+cast-by-rule : tie.Need-cast-by-rule
+cast-by-rule c = let k = c .before .before .before .before in
+    subst (λ (z : ℤ). SFits w64 z) (sym (toZ-ofZ (h-fits k))) (wide-fits k)
+
+by-rule-requires : tie.Need-by-rule-requires
+by-rule-requires c κs = let k = c .before .before .before .before in
+    let t = width-through _ (open-row (g (b k)) .1) in
+    (t .0, t .1, k .size-of .ensures .full, subst (λ (z : ℤ). IsNearest (g (b k) .before .before .before .before .before .before .before .args .to .bits) z (k .size-of .result .m) Rest.Nothing (c .before .before .nearest-inside .result)) (toZ-ofZ (h-fits k) ∙ sym (held k)) (c .before .before .nearest-inside .ensures))
 
 returns-4 : tie.Need-returns-4
-unfolding Moves Writes
-returns-4 c = let k = c .before in
-    let g = k .before .before .before .before in
-    let s = g .before .before .before .before .before .before .before in
-    through (let-through g) (number-moved (s .args .to .bits) (s .args .rule) (c .write .result) _ _ _ _ _ _ (number k) (subst (λ (z : ℤ). IsWritten (s .args .to .bits) (s .args .rule) (k .before .negative .given .0 .0) (k .before .negative .given .0 .1 .1 .0 * num (z +ℤ pos 307)) (den (z +ℤ pos 307)) (c .write .result)) (held k) (answered (open-row g .1) (c .write .ensures))))
-
-returns-5 : tie.Need-returns-5
-unfolding IsReading
-returns-5 c = absurd (read-as (c .before .before .before) (c .before .q .given .1))
+unfolding Moves
+returns-4 c = let k = c .before .before .before .before .before in
+    let s = g (b k) .before .before .before .before .before .before .before in
+    through (let-through (g (b k)))
+    (size-moved (s .args .to .bits) (s .args .rule) (c .by-rule .result) _ _ (h k) _ _ (means k) (omega (arith, k .size-of .ensures .full)) (k .size-of .ensures .size)
+    (subst₂ (λ (x : ℕ) (z : ℤ). WritesSize (s .args .to .bits) (s .args .rule) (ltb x (s .args .word)) z (k .size-of .result .m) (c .by-rule .result)) (nar-is (g (b k))) (held k) (c .by-rule .ensures)))
 
 pub move-word-spec : {M : Type 1} → statement M
 move-word-spec =
@@ -170,16 +185,15 @@ move-word-spec =
     enum-known-verdict
     returns
     enum-told
-    read-requires
-    enum-told-2
-    enum-told-3
-    nar-requires
-    enum-known-negative
-    cast-t19
-    sub-t20
-    write-requires
-    enum-known-q
     returns-2
+    sub-nar
+    cast-nar
+    shl-nar
+    nar-requires
     returns-3
-    returns-4
-    returns-5)
+    without-sign-requires
+    size-of-requires
+    nearest-inside-requires
+    cast-by-rule
+    by-rule-requires
+    returns-4)

@@ -2,20 +2,18 @@
 use mathlib.Core.Path.{_≡_, refl, sym, ap, _∙_, subst}
 use Prim.Native.Nat.{ℕ, zero, suc, _+_, _-_, _/_, _%_, _^_, _≤_, _<_}
 use native.Mathlib.Omega.{arith}
-use native.Mathlib.Nat.{pos-of-ne-zero, lt-of-le-of-lt, mod-lt}
+use native.Mathlib.Nat.{pos-of-ne-zero, lt-of-lt-of-le}
 use borrow.Author.Needs.{needs}
 use lib.Signed.{mag}
 use lib.Pow.{pow-mono}
 use lib.IntN.{ℤ}
-use lib.Dec.{lit≤}
 use mir.Facts.{toZ-ofZ}
-use mir.Val.{Fits}
-use mir.Syntax.{w64}
-use Rattle.write.specs.declared.size.Side.{Side}
-use Rattle.write.proofs.Hub.{start-lt, below-end, at-zero, at-end, side-under, side-midway, side-over}
+use Rattle.word.specs.Refusals.{IsWord}
+use Rattle.write.proofs.Hub.{start-lt, below-end, at-zero, at-end, by-side}
+use Rattle.write.proofs.Sides.{Given, fine-cut, lower-lt, gap-le, upper-small, under-upper, coarse-tells}
 use Rattle.write.proofs.Exponents.{raise, raised-same, raised-inj}
 use Rattle.write.specs.declared.size.Start.{Start}
-use Rattle.write.specs.Offers.{Begins, firstBits, IsRaised, TellsMidpoint}
+use Rattle.write.specs.Offers.{Begins, firstBits, IsRaised, TellsPowers}
 use Rattle.write.proofs.size.nearest_inside.Statement.{statement}
 use Rattle.write.proofs.size.nearest_inside.Tie as tie
 
@@ -64,23 +62,30 @@ room c =
 power : (c : tie.After-first-bits) → 2 ^ (c .before .before .args .n - 1) ≤ 2 ^ 63
 power c = pow-mono {i = c .before .before .args .n - 1} {j = 63} (omega (arith, hi c))
 
--- the exponent that was raised
-raised-result : (c : tie.After-raised) → IsRaised (c .before .before .before .before .before .before .args .h) (c .raised .result)
-raised-result c = subst (λ (z : ℤ). IsRaised z (c .raised .result)) (toZ-ofZ (c .before .before .before .before .before .before .fits .h)) (c .raised .ensures)
+-- the cut with what its two neighbours need
+given : (c : tie.Else2) → Given (c .before .before .before .before .before .args .n) (low (c .before .before .before)) (raise (c .before .before .before .before .before .args .h) (c .before .before .before .before .before .pre .3) .0) (c .before .before .before .before .before .args .m) (c .before .before .before .before .start-of .result)
+unfolding low
+given c =
+    let k = c .before .before .before in
+    record {
+      lo = lo k;
+      hi = hi k;
+      first = first (c .before .before);
+      room = room c;
+      full = full k;
+      top = top k;
+      is = is k;
+      begins = λ h q. subst (λ (z : ℤ). Begins z (k .before .start-of .result)) (raised-same _ h _ (raised-is k) q) (begins k);
+    }
 
-small-enough : (c : tie.After-raised) → c .raised .result < 510
-small-enough c =
-    let h = c .before .before .before .before .before .before .args .h in
-    subst (λ (x : ℕ). x < 510) (raised-inj h _ _ (raised-is (c .before .before .before .before)) (raised-result c)) (raise h (c .before .before .before .before .before .before .pre .3) .2)
+word-at : (n v : ℕ) → 2 ≤ n → n ≤ 64 → v < 2 ^ (n - 1) → IsWord n v
+word-at n v lo hi b = record { least = lo; most = hi; fits = lt-of-lt-of-le b (pow-mono {i = n - 1} {j = n} (omega arith)) }
 
--- the midpoint told
-module _ (c : tie.After-side-of) where
-  abbrev k : tie.After-first-bits
-  k = c .before .before .before .before .before
-
-  told : (side : Side) → c .side-of .result ≡ side → TellsMidpoint (k .before .before .args .n) (low k) (c .before .raised .result) (k .before .before .args .m) (k .before .before .args .rest) side
-  unfolding low
-  told side q = subst (TellsMidpoint _ _ _ _ _) q (c .side-of .ensures)
+-- the exponent as it was raised
+raised-result : (c : tie.After-raised) → c .raised .result ≡ raise (c .before .before .before .before .before .before .before .before .before .before .args .h) (c .before .before .before .before .before .before .before .before .before .before .pre .3) .0
+raised-result c =
+    let k = c .before .before .before .before .before .before .before .before in
+    raised-inj (k .before .before .args .h) _ _ (subst (λ (z : ℤ). IsRaised z (c .raised .result)) (toZ-ofZ (k .before .before .fits .h)) (c .raised .ensures)) (raised-is k)
 
 start-of-requires : tie.Need-start-of-requires
 start-of-requires c κs = search needs
@@ -110,45 +115,75 @@ unfolding low
 returns-2 c = let k = c .before .before .before in
     at-end _ (lo k) (hi k) _ _ _ _ _ (raised-is k) (begins k) (full k) (top k) _ (is k) (c .if2 .taken ∙ c .before .last-word .ensures)
 
+add-if3 : tie.Need-add-if3
+add-if3 c = search needs
+
+exponent-requires : tie.Need-exponent-requires
+unfolding low
+exponent-requires c κs = let g = given (c .before .before) in
+    (word-at _ _ (g .lo) (g .hi) (omega (arith, g .room)), g .first, omega (arith, g .room))
+
+add-exponent : tie.Need-add-exponent
+unfolding low
+add-exponent c = let g = given (c .before .before .before) in
+    record { fits = lt-of-lt-of-le (g .room) (pow-mono {i = c .before .before .before .before .before .before .before .before .args .n - 1} {j = 64} (omega (arith, g .hi))) }
+
+exponent-requires-2 : tie.Need-exponent-requires-2
+unfolding low
+exponent-requires-2 c κs = let g = given (c .before .before .before) in
+    (word-at _ _ (g .lo) (g .hi) (g .room), omega arith, g .room)
+
 raised-requires : tie.Need-raised-requires
 raised-requires c κs = search needs
 
-side-of-requires : tie.Need-side-of-requires
+side-of-powers-requires : tie.Need-side-of-powers-requires
 unfolding low
-side-of-requires c κs = let k = c .before .before .before .before in
-    ((lo k, hi k, first (c .before .before .before), room (c .before), full k, is k), (small-enough c, λ h q. subst (λ (z : ℤ). Begins z (k .before .start-of .result)) (raised-same _ h _ (raised-result c) q) (begins k)))
+side-of-powers-requires c κs =
+    let g = given (c .before .before .before .before .before) in
+    let short = c .before .before .before .if3 .taken in
+    let i = c .before .before .exponent .ensures in
+    let j = c .before .exponent2 .ensures in
+    (lower-lt _ _ _ _ _ g short _ _ i j, gap-le _ _ _ _ _ g short _ _ i j, subst (λ (e : ℕ). e < c .before .exponent2 .result) (sym (raised-result c)) (under-upper _ _ _ _ _ g short _ _ i j), upper-small _ _ _ _ _ g short _ _ i j, g .full)
 
-enum-told : tie.Need-enum-told
-enum-told c = search needs
-
-enum-told-2 : tie.Need-enum-told-2
-enum-told-2 c = search needs
-
-add-result : tie.Need-add-result
+chosen-requires : tie.Need-chosen-requires
 unfolding low
-add-result c = record { fits = omega (arith, room (c .before .before .before .before), power (c .before .before .before .before .before .before .before), mod-lt (low (c .before .before .before .before .before .before .before)) (lit≤ {m = 1} {n = 2} tt)) }
-
-enum-told-3 : tie.Need-enum-told-3
-enum-told-3 c = search needs
-
-add-result-2 : tie.Need-add-result-2
-unfolding low
-add-result-2 c = record { fits = omega (arith, room (c .before .before .before .before), power (c .before .before .before .before .before .before .before)) }
+chosen-requires c κs = let g = given (c .before .before .before .before .before .before) in
+    lt-of-lt-of-le (g .room) (pow-mono {i = c .before .before .before .before .before .before .before .before .before .before .before .args .n - 1} {j = 63} (omega (arith, g .hi)))
 
 returns-3 : tie.Need-returns-3
 unfolding low
-returns-3 c = let k = c .before .before .before .before .before .before .before in
-    side-under _ (lo k) (hi k) _ _ _ _ _ (raised-result (c .before .before .before)) (begins k) (full k) (top k) _ (is k) (first (c .before .before .before .before .before .before)) (omega (arith, room (c .before .before .before .before))) (told (c .before .before) Side.Under (c .enum-told .given .1))
+returns-3 c =
+    let r = c .before .before in
+    let b = r .before .before .before .before .before in
+    let k = b .before .before .before in
+    let short = r .before .before .before .if3 .taken in
+    by-side _ (lo k) (hi k) _ _ _ _ _ (raised-is k) (begins k) (full k) (top k) _ (is k) (first (b .before .before)) (omega (arith, room b)) _ _
+    (coarse-tells _ _ _ _ _ (given b) short _ _ (r .before .before .exponent .ensures) (r .before .exponent2 .ensures) _ _ (subst (λ (e : ℕ). TellsPowers (r .before .before .exponent .result) (r .before .exponent2 .result) e (k .before .before .args .m) (k .before .before .args .rest) (c .before .side-of-powers .result)) (raised-result r) (c .before .side-of-powers .ensures))) (c .chosen .ensures)
+
+sub-chosen-by-cut : tie.Need-sub-chosen-by-cut
+sub-chosen-by-cut c = search needs
+
+sub-chosen-by-cut-2 : tie.Need-sub-chosen-by-cut-2
+sub-chosen-by-cut-2 c = search needs
+
+cast-chosen-by-cut : tie.Need-cast-chosen-by-cut
+cast-chosen-by-cut c = search needs
+
+shl-chosen-by-cut : tie.Need-shl-chosen-by-cut
+shl-chosen-by-cut c = search needs
+
+chosen-by-cut-requires : tie.Need-chosen-by-cut-requires
+unfolding low
+chosen-by-cut-requires c κs = let g = given (c .before .before .before) in
+    lt-of-lt-of-le (g .room) (pow-mono {i = c .before .before .before .before .before .before .before .before .args .n - 1} {j = 63} (omega (arith, g .hi)))
 
 returns-4 : tie.Need-returns-4
 unfolding low
-returns-4 c = let k = c .before .before .before .before .before .before .before in
-    side-midway _ (lo k) (hi k) _ _ _ _ _ (raised-result (c .before .before .before)) (begins k) (full k) (top k) _ (is k) (first (c .before .before .before .before .before .before)) (omega (arith, room (c .before .before .before .before))) (told (c .before .before) Side.Midway (c .enum-told2 .given .1))
-
-returns-5 : tie.Need-returns-5
-unfolding low
-returns-5 c = let k = c .before .before .before .before .before .before .before in
-    side-over _ (lo k) (hi k) _ _ _ _ _ (raised-result (c .before .before .before)) (begins k) (full k) (top k) _ (is k) (first (c .before .before .before .before .before .before)) (omega (arith, room (c .before .before .before .before))) (told (c .before .before) Side.Over (c .enum-told3 .given .1))
+returns-4 c =
+    let b = c .before .before .before .before in
+    let k = b .before .before .before in
+    let x = fine-cut _ _ _ _ _ (given b) _ _ (c .before .before .if3 .left) (c .chosen-by-cut .ensures) in
+    by-side _ (lo k) (hi k) _ _ _ _ _ (raised-is k) (begins k) (full k) (top k) _ (is k) (first (b .before .before)) (omega (arith, room b)) _ (x .0) (x .1) (x .2)
 
 pub nearest-inside-spec : {M : Type 1} → statement M
 nearest-inside-spec =
@@ -162,13 +197,17 @@ nearest-inside-spec =
     returns
     last-word-requires
     returns-2
+    add-if3
+    exponent-requires
+    add-exponent
+    exponent-requires-2
     raised-requires
-    side-of-requires
-    enum-told
-    enum-told-2
-    add-result
-    enum-told-3
-    add-result-2
+    side-of-powers-requires
+    chosen-requires
     returns-3
-    returns-4
-    returns-5)
+    sub-chosen-by-cut
+    sub-chosen-by-cut-2
+    cast-chosen-by-cut
+    shl-chosen-by-cut
+    chosen-by-cut-requires
+    returns-4)

@@ -98,21 +98,25 @@ cast-h-2 c = search needs
 add-h : tie.Need-add-h
 add-h c = subst (λ (z : ℤ). SFits w64 z) (sym (sum c)) (sum-fits c)
 
-cast-write-size : tie.Need-cast-write-size
-cast-write-size c = record { fits = lt-of-le-of-lt (few c) (lit< tt) }
+cast-full : tie.Need-cast-full
+cast-full c = record { fits = lt-of-le-of-lt (few c) (lit< tt) }
 
-shl-write-size : tie.Need-shl-write-size
-shl-write-size c = lt-of-le-of-lt (few c) (lit< tt)
+shl-full : tie.Need-shl-full
+shl-full c = lt-of-le-of-lt (few c) (lit< tt)
 
-write-size-requires : tie.Need-write-size-requires
-write-size-requires c κs = (bounds (c .before .before .before) .0, bounds (c .before .before .before) .1, shifted-full _ (some c) (fits c))
+nearest-requires : tie.Need-nearest-requires
+nearest-requires c κs = (bounds (c .before .before .before) .0, bounds (c .before .before .before) .1, shifted-full _ (some c) (fits c))
+
+by-rule-requires : tie.Need-by-rule-requires
+by-rule-requires c κs = let k = c .before in
+    (bounds (k .before .before .before) .0, bounds (k .before .before .before) .1, shifted-full _ (some k) (fits k), c .nearest .ensures)
 
 returns-3 : tie.Need-returns-3
 unfolding Writes WritesSize
-returns-3 c = let k = c .before in
+returns-3 c = let k = c .before .before in
     let s = k .before .before .before .before .before .before in
     through (let-through (k .before .before .before))
-    (subst (λ (z : ℤ). WritesSize (s .args .width .bits) (s .args .rule) (s .args .value .negative) z (s .args .value .m * 2 ^ leadingZeros 64 (s .args .value .m) % 2 ^ 64) (c .write-size .result)) (held k) (c .write-size .ensures) _ _ (mul-pos (some k) (unit-some _ .0)) (unit-some _ .1) (shifted-offer _ (some k) (fits k) (s .args .value .k)))
+    (subst (λ (z : ℤ). WritesSize (s .args .width .bits) (s .args .rule) (s .args .value .negative) z (s .args .value .m * 2 ^ leadingZeros 64 (s .args .value .m) % 2 ^ 64) (c .by-rule .result)) (held k) (c .by-rule .ensures) _ _ (mul-pos (some k) (unit-some _ .0)) (unit-some _ .1) (shifted-offer _ (some k) (fits k) (s .args .value .k)))
 
 pub write-spec : {M : Type 1} → statement M
 write-spec =
@@ -127,7 +131,8 @@ write-spec =
     sub-h
     cast-h-2
     add-h
-    cast-write-size
-    shl-write-size
-    write-size-requires
+    cast-full
+    shl-full
+    nearest-requires
+    by-rule-requires
     returns-3)

@@ -3,8 +3,8 @@ use mathlib.Core.Path.{sym}
 use borrow.Author.Needs.{needs}
 use borrow.Author.Tests.{eq-eqb, ne-eqb}
 use Rattle.word.specs.Takum.{regimeOf}
-use Rattle.word.proofs.reading.regime.Statement.{statement}
-use Rattle.word.proofs.reading.regime.Tie as tie
+use Rattle.word.proofs.fields.regime.Statement.{statement}
+use Rattle.word.proofs.fields.regime.Tie as tie
 
 cast-result : tie.Need-cast-result
 cast-result c = search needs

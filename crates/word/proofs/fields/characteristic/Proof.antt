@@ -13,8 +13,8 @@ use mir.Val.{SFits, toZ, ofZ}
 use mir.Facts.{toZ-pos, toZ-ofZ}
 use Rattle.word.specs.Takum.{characteristicOf}
 use Rattle.word.proofs.Signed.{difference, sub-mag}
-use Rattle.word.proofs.reading.characteristic.Statement.{statement}
-use Rattle.word.proofs.reading.characteristic.Tie as tie
+use Rattle.word.proofs.fields.characteristic.Statement.{statement}
+use Rattle.word.proofs.fields.characteristic.Tie as tie
 
 module _ (r b : ℕ) (seven : r ≤ 7) (fits : b < 2 ^ r) where
   power-le : 2 ^ r ≤ 128

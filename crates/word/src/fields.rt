@@ -1,0 +1,69 @@
+// The fields of a string, cut from the top of the carrier by shifts and masks, in the letters of document 004, Definition 2.
+use crate::bits::low_bits;
+use crate::bits::power_of_two;
+ghost use mathlib.Core.Path.{_≡_};
+ghost use Prim.Native.Nat.{_≤_, _<_, _^_};
+ghost use Rattle.word.specs.Takum as Takum;
+ghost use Rattle.word.specs.Takum.{regimeOf, characteristicOf};
+ghost use Rattle.word.specs.Cuts.{Cuts};
+
+// The characteristic c, and the fraction as f * 2^-64.
+pub struct Fields {
+    pub c: i32,
+    pub f: u64,
+}
+
+// The fields of a string of 64 bits, as a word of any width is one with zero bits after it. Every string has them, also zero's and NaR's;
+// what they mean is for `read` to say.
+pub fn cut(t: u64) -> Fields
+    ensures { λ x. ⌜ Cuts t x ⌝ }
+{
+    Fields {
+        c: characteristic_of(64, t),
+        f: t << (5 + regime_of(64, t)),
+    }
+}
+
+// The regime of a string t of n bits, n at least 12.
+pub(crate) fn regime_of(n: u32, t: u64) -> u32
+    requires { ⌜ (12 ≤ n) × (n ≤ 64) ⌝ }
+    ensures { λ r. ⌜ r ≡ Takum.r n t ⌝ }
+{
+    regime(direction(n, t), low_bits(t >> (n - 5), 3))
+}
+
+// Its characteristic.
+pub(crate) fn characteristic_of(n: u32, t: u64) -> i32
+    requires { ⌜ (12 ≤ n) × (n ≤ 64) ⌝ }
+    ensures { λ c. ⌜ c ≡ Takum.c n t ⌝ }
+{
+    let r = regime_of(n, t);
+    characteristic(direction(n, t), r, low_bits(t >> (n - r - 5), r))
+}
+
+fn direction(n: u32, t: u64) -> u64
+    requires { ⌜ (12 ≤ n) × (n ≤ 64) ⌝ }
+    ensures { λ d. ⌜ d ≡ Takum.D n t ⌝ }
+{
+    low_bits(t >> (n - 2), 1)
+}
+
+fn regime(direction: u64, bits: u64) -> u32
+    requires { ⌜ bits < 8 ⌝ }
+    ensures { λ r. ⌜ r ≡ regimeOf direction bits ⌝ }
+{
+    if direction == 1 {
+        return bits as u32;
+    }
+    7 - bits as u32
+}
+
+fn characteristic(direction: u64, r: u32, bits: u64) -> i32
+    requires { ⌜ (r ≤ 7) × (bits < 2 ^ r) ⌝ }
+    ensures { λ c. ⌜ c ≡ characteristicOf direction r bits ⌝ }
+{
+    if direction == 1 {
+        return power_of_two(r) as i32 - 1 + bits as i32;
+    }
+    bits as i32 + 1 - power_of_two(r + 1) as i32
+}

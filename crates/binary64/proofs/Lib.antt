@@ -1,7 +1,6 @@
 -- The laws of binary64 in and out, one idea a file.
 pub mod Decisions
 pub mod Exactness
-pub mod Exponents
 pub mod Fractions
 pub mod Held
 pub mod Negation

@@ -1,8 +1,8 @@
 -- Up to width 57 a word taken out and written again, by either rule, is the first word. Assumes nothing.
-use mathlib.Core.Path.{_≡_, refl, sym, ap, _∙_}
+use mathlib.Core.Path.{_≡_, sym, ap, _∙_}
 use mathlib.Core.Bool.{Bool}
 use Prim.Native.Nat.{ℕ, _*_, _^_, _≤_}
-use lib.IntN.{ℤ, pos, negsuc, natAbs}
+use lib.IntN.{ℤ, natAbs}
 use lib.Ieee.{Float, nan, inf, fin, up, down}
 use lib.Ieee.Exact.{HasValue}
 use lib.Ieee.Fits.{down-pos}
@@ -14,18 +14,13 @@ use Rattle.word.proofs.Verdicts.{width-fits, answered}
 use Rattle.write.specs.declared.value.Rule.{Rule}
 use Rattle.write.specs.Writes as Writes
 use Rattle.write.specs.Writes.{isNegative}
+use Rattle.write.proofs.Moves.{rejoined}
 use Rattle.write.proofs.Rounding.{exact-written}
 use Rattle.binary64.specs.declared.taking.Binary64.{Binary64}
 use Rattle.binary64.specs.Takes.{TakesBinary64}
 use Rattle.binary64.specs.Writes.{IsWrittenBinary64, WritesBinary64}
 use Rattle.binary64.proofs.Exactness.{taken-exact}
 use Rattle.binary64.proofs.Taken.{taken}
-
--- a whole number is its sign and its size
-rejoined : (z : ℤ) → signedSize (isNegative z) (natAbs z) ≡ z
-unfolding signedSize isNegative
-rejoined (pos i) = refl
-rejoined (negsuc i) = refl
 
 -- a number with exactly a word's value is written as that word
 pub value-written-back : (n w : ℕ) (rule : Rule) (x : Float) (z : ℤ) (r : Answer) → IsWord n w → takum n w ≡ real z → HasValue x (isNegative z) (natAbs z) (2 ^ 307) → IsWrittenBinary64 n rule x r → r ≡ Answer.Word w

@@ -2,10 +2,10 @@
 use mathlib.Core.Path.{_≡_, refl, sym, ap, ap₂, _∙_, subst}
 use mathlib.Core.Bool.{Bool, true, false}
 use Prim.Native.Nat.{ℕ, zero, suc, _+_, _-_, _*_, _^_, _≤_, _<_}
-use native.Mathlib.Nat.{zero-mul, mul-assoc, mul-right-comm, mul-pos, lt-of-lt-of-le, eq-of-mul-eq-mul-right}
+use native.Mathlib.Nat.{zero-mul, mul-assoc, mul-comm, mul-right-comm, mul-pos, lt-of-lt-of-le, eq-of-mul-eq-mul-right}
 use native.Mathlib.Omega.{arith}
 use borrow.Author.Tests.{le-ltb}
-use lib.IntN.{ℤ, pos, negsuc, natAbs, _+ℤ_, _-ℤ_, +ℤ-idr}
+use lib.IntN.{ℤ, pos, negsuc, natAbs, _+ℤ_, _-ℤ_, +ℤ-assoc, +ℤ-idr}
 use lib.Pow.{pow-add, pow-pos}
 use lib.Signed.{mag}
 use lib.Ieee.{Float, binary64, round, ofBits}
@@ -19,11 +19,10 @@ use Rattle.word.proofs.Integers.{balance}
 use Rattle.word.proofs.Readings.{not-refused}
 use Rattle.word.proofs.Verdicts.{word-through}
 use Rattle.write.specs.Writes.{isNegative}
-use Rattle.write.proofs.Exponents.{unit-some}
+use Rattle.write.proofs.Exponents.{unit-some, shift}
 use Rattle.binary64.specs.declared.taking.Binary64.{Binary64}
 use Rattle.binary64.specs.Takes.{IsTaken, TakesBinary64}
 use Rattle.binary64.proofs.Decisions.{decided-as}
-use Rattle.binary64.proofs.Exponents.{power-law}
 
 -- an exponent raised by 1023
 pub raise : (h : ℤ) → mag h ≤ 255 → (g : ℕ) × (h +ℤ pos 1023 ≡ pos g) × (767 ≤ g) × (g ≤ 1278)
@@ -70,10 +69,10 @@ module _ {t : Takum} {f : ℕ} {s : Bool} {h : ℤ} {m p : ℕ} (x : IsNumber t 
   same-size j raised =
       eq-of-mul-eq-mul-right (den e) (unit-some e .1) (m * 2 ^ j * 2 ^ 307) (x .v * 2 ^ 1023)
       (ap (λ (z : ℕ). z * den e) (mul-assoc m (2 ^ j) (2 ^ 307) ∙ ap (λ (z : ℕ). m * z) (sym (pow-add 2 j 307))) ∙ mul-assoc m (2 ^ (j + 307)) (den e)
-      ∙ ap (λ (z : ℕ). m * z) (sym (power-law (h -ℤ pos p) 307 (j + 307) 1023 count)) ∙ sym (mul-assoc m (num e) (2 ^ 1023)) ∙ ap (λ (z : ℕ). z * 2 ^ 1023) (x .size) ∙ mul-right-comm (x .v) (den e) (2 ^ 1023))
+      ∙ ap (λ (z : ℕ). m * z) (shift e 1023 (j + 307) count ∙ mul-comm (2 ^ 1023) (num e)) ∙ sym (mul-assoc m (num e) (2 ^ 1023)) ∙ ap (λ (z : ℕ). z * 2 ^ 1023) (x .size) ∙ mul-right-comm (x .v) (den e) (2 ^ 1023))
     where
-      count : h -ℤ pos p +ℤ pos (307 + 1023) ≡ pos (j + 307)
-      count = balance h 0 1023 (j + p) (ap (λ (z : ℤ). z +ℤ pos 1023) (+ℤ-idr h) ∙ raised) p 1330 (j + 307) (omega arith)
+      count : e +ℤ pos 1023 ≡ pos (j + 307)
+      count = +ℤ-assoc (h -ℤ pos p) (pos 307) (pos 1023) ∙ balance h 0 1023 (j + p) (ap (λ (z : ℤ). z +ℤ pos 1023) (+ℤ-idr h) ∙ raised) p 1330 (j + 307) (omega arith)
 
   number-taken : (j : ℕ) → h +ℤ pos 1023 ≡ pos (j + p) → IsTaken t (Binary64.Number (round binary64 s (m * 2 ^ j) (2 ^ 1023)))
   unfolding IsTaken

@@ -2,9 +2,9 @@
 use mathlib.Core.Path.{_≡_, sym, ap, _∙_, subst}
 use mathlib.Core.Bool.{Bool}
 use Prim.Native.Nat.{ℕ, _+_, _-_, _*_, _^_, _≤_, _<_}
-use native.Mathlib.Nat.{mul-assoc, mul-right-comm}
+use native.Mathlib.Nat.{mul-assoc, mul-comm, mul-right-comm}
 use native.Mathlib.Omega.{arith}
-use lib.IntN.{ℤ, pos, _+ℤ_, _-ℤ_}
+use lib.IntN.{pos, _+ℤ_, _-ℤ_, +ℤ-assoc}
 use lib.Pow.{pow-add, pow-pos}
 use lib.Ieee.{Float, nan, inf, fin, binary64, up, down, ofBits}
 use lib.Ieee.Exact.{HasValue}
@@ -16,9 +16,8 @@ use Rattle.word.proofs.Integers.{sub-add}
 use Rattle.word.proofs.Signed.{difference}
 use Rattle.write.specs.declared.value.Rule.{Rule}
 use Rattle.write.specs.Writes.{IsWritten}
-use Rattle.write.proofs.Exponents.{unit-some}
+use Rattle.write.proofs.Exponents.{unit-some, shift}
 use Rattle.binary64.specs.Writes.{IsWrittenBinary64}
-use Rattle.binary64.proofs.Exponents.{power-law}
 use Rattle.binary64.proofs.Fractions.{written-same}
 use Rattle.binary64.proofs.Patterns.{isNegative, field, digits, lead, lead-small, Unbounded, is-nan, is-inf, pattern-value}
 
@@ -38,19 +37,14 @@ module _ (n : ℕ) (rule : Rule) (r : Answer) where
       (written-same n s (a * 2 ^ 307) c (m * up e * 2 ^ 307) (down e) some (down-pos e)
       (mul-right-comm a (2 ^ 307) (down e) ∙ ap (λ (z : ℕ). z * 2 ^ 307) (sym (h .1)) ∙ mul-right-comm (m * up e) c (2 ^ 307)) rule r x)
 
-  -- the exponent as the code makes it, from the field x and its leading digit l
-  exponent : ℕ → ℕ → ℤ
-  exponent x l = pos (x + (1 - l)) -ℤ pos 1075
-
-  raised : (x l : ℕ) → l ≤ 1 → l ≤ x → exponent x l +ℤ pos (307 + 1074) ≡ pos (x - l + 307)
-  unfolding exponent
-  raised x l h g = sub-add (pos (x + (1 - l))) (pos 1075) (pos 1381) ∙ difference (x + (1 - l) + 1381) 1075 (omega arith) ∙ ap pos count
+  -- the exponent as the code makes it from the field x and its leading digit l, counted in 2^-307 and raised by 1074
+  raised : (x l : ℕ) → l ≤ 1 → l ≤ x → pos (x + (1 - l)) -ℤ pos 1075 +ℤ pos 307 +ℤ pos 1074 ≡ pos (x - l + 307)
+  raised x l h g = +ℤ-assoc (pos (x + (1 - l)) -ℤ pos 1075) (pos 307) (pos 1074) ∙ sub-add (pos (x + (1 - l))) (pos 1075) (pos 1381) ∙ difference (x + (1 - l) + 1381) 1075 (omega arith) ∙ ap pos count
     where
       count : x + (1 - l) + 1381 - 1075 ≡ x - l + 307
       count = omega (arith, h, g)
 
   pub pattern-written : (b : ℕ) → (field b ≡ 2047 → ⊥) → IsWritten n rule (isNegative b) ((digits b + lead (field b) * 2 ^ 52) * num (pos (field b + (1 - lead (field b))) -ℤ pos 1075 +ℤ pos 307)) (den (pos (field b + (1 - lead (field b))) -ℤ pos 1075 +ℤ pos 307)) r → IsWrittenBinary64 n rule (ofBits binary64 b) r
-  unfolding exponent
   pattern-written b h x =
       let l = lead (field b) in
       let m = digits b + l * 2 ^ 52 in
@@ -59,7 +53,7 @@ module _ (n : ℕ) (rule : Rule) (r : Answer) where
       value-written (ofBits binary64 b) (isNegative b) (m * 2 ^ t) (2 ^ 1074) (pow-pos 1074) (pattern-value b h)
       (written-same n (isNegative b) (m * num k) (den k) (m * 2 ^ t * 2 ^ 307) (2 ^ 1074) (unit-some k .1) (pow-pos 1074)
       (mul-assoc m (num k) (2 ^ 1074)
-      ∙ ap (λ (z : ℕ). m * z) (power-law (pos (field b + (1 - l)) -ℤ pos 1075) 307 (t + 307) 1074 (raised (field b) l (lead-small (field b) .0) (lead-small (field b) .1)))
+      ∙ ap (λ (z : ℕ). m * z) (mul-comm (num k) (2 ^ 1074) ∙ sym (shift k 1074 (t + 307) (raised (field b) l (lead-small (field b) .0) (lead-small (field b) .1))))
       ∙ sym (mul-assoc m (2 ^ (t + 307)) (den k))
       ∙ ap (λ (z : ℕ). z * den k) (ap (λ (z : ℕ). m * z) (pow-add 2 t 307) ∙ sym (mul-assoc m (2 ^ t) (2 ^ 307))))
       rule r x)

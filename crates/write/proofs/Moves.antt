@@ -22,7 +22,7 @@ use Rattle.write.specs.Writes.{HasValue, IsExact, IsWritten, isNegative,
 use Rattle.write.proofs.Rounding.{exact-written}
 
 -- a whole number is its sign and its size
-rejoined : (z : ℤ) → signedSize (isNegative z) (natAbs z) ≡ z
+pub rejoined : (z : ℤ) → signedSize (isNegative z) (natAbs z) ≡ z
 unfolding signedSize isNegative
 rejoined (pos i) = refl
 rejoined (negsuc i) = refl

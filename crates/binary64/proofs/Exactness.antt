@@ -21,10 +21,11 @@ use Rattle.word.proofs.Words.{Lies, at-zero, above, at-NaR, under, lies, takum-
 use Rattle.write.specs.Writes.{isNegative}
 use Rattle.binary64.specs.declared.taking.Binary64.{Binary64}
 use Rattle.binary64.specs.Takes.{TakesBinary64}
-use Rattle.binary64.proofs.Held.{value-same}
+use Rattle.binary64.proofs.Values.{value-same}
 use Rattle.binary64.proofs.Numbers.{Holds, holds}
 use Rattle.binary64.proofs.Scaling.{scaled}
-use Rattle.binary64.proofs.Taken.{raise, same-size, number-sign, taken}
+use Rattle.binary64.proofs.Taken.{taken}
+use Rattle.binary64.proofs.Raised.{raise, same-size, number-sign}
 
 -- ---- the operations
 -- m, of no more than 53 digits, times 2^(j - 1023)

@@ -1,15 +1,14 @@
 -- A value that a format holds is known by its sign and its size, and rounding its size gives it back. Assumes nothing.
 use mathlib.Core.Path.{_≡_, sym, ap, _∙_, subst}
-use mathlib.Core.Bool.{Bool, false, cond, not, _&&_, true≢false}
+use mathlib.Core.Bool.{Bool, cond, _&&_}
 use Prim.Native.Nat.{ℕ, zero, suc, _+_, _-_, _*_, _/_, _%_, _^_, _≤_, _<_}
 use native.Mathlib.Nat.{mul-pos, zero-mul, one-mul, mul-one, mul-assoc, mul-comm, mul-right-comm, eq-of-mul-eq-mul-right, lt-of-mul-lt-mul-right, mul-lt-mul-of-pos-right, zero-lt-suc, pow-succ'}
 use native.Mathlib.Omega.{arith}
 use lib.Dec.{T, leb, ltb, eqb, ltb→lt, leb→le}
 use lib.IntN.{ℤ, pos, negsuc}
 use lib.Pow.{pow-add, pow-pos}
-use lib.Ieee.{Float, nan, inf, fin, Format, prec, emax, low, up, down, size, round, ne, fits, isNan, hid, top, ofBits, toBits}
+use lib.Ieee.{Float, nan, inf, fin, Format, prec, emax, low, up, down, size, round, fits, hid, top, ofBits, toBits}
 use lib.Ieee.Bits.{ofBits-toBits}
-use lib.Ieee.Compare.{nan-differs}
 use lib.Ieee.Exact.{HasValue, round-exact}
 use lib.Ieee.Fits.{and-l, and-r, down-pos, round-fits}
 use lib.Ieee.Nearest.{div-same}
@@ -78,26 +77,3 @@ module _ (f : Format) (s : Bool) (a c : ℕ) (some : 0 < c) where
 
 pub round-held : (f : Format) (x : Float) (s : Bool) (a c : ℕ) → 0 < c → T (fits f x) → HasValue x s a c → round f s a c ≡ x
 round-held f x s a c some p h = value-one f (round f s a c) x s a c some (round-fits f s a c) p (held-exact f s a c some x p h) h
-
--- ---- a finite value by any fraction that it equals
-pub value-same : (x : Float) (s : Bool) (a c a' c' : ℕ) → 0 < c → a * c' ≡ a' * c → HasValue x s a c → HasValue x s a' c'
-value-same nan s a c a' c' some q h = h
-value-same (inf t) s a c a' c' some q h = h
-value-same (fin t m e) s a c a' c' some q h = (
-  h .0,
-  eq-of-mul-eq-mul-right c some (m * up e * c') (a' * down e)
-      (mul-right-comm (m * up e) c' c ∙ ap (λ (z : ℕ). z * c') (h .1) ∙ mul-right-comm a (down e) c' ∙ ap (λ (z : ℕ). z * down e) q ∙ mul-right-comm a' c (down e)),
-)
-
--- ---- what is no NaN
-pub equals-itself : (x : Float) → ne x x ≡ false → T (not (isNan x))
-unfolding isNan
-equals-itself nan h = absurd (true≢false (sym nan-differs ∙ h))
-equals-itself (inf t) h = tt
-equals-itself (fin t m e) h = tt
-
-pub value-no-nan : (x : Float) (s : Bool) (a c : ℕ) → HasValue x s a c → T (not (isNan x))
-unfolding isNan
-value-no-nan nan s a c h = h
-value-no-nan (inf t) s a c h = tt
-value-no-nan (fin t m e) s a c h = tt

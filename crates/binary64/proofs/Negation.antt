@@ -1,10 +1,10 @@
 -- The negated word is taken out as the negated number; zero stays positive zero. Assumes nothing.
 use mathlib.Core.Path.{_≡_, refl, sym, ap, _∙_}
-use mathlib.Core.Bool.{true, false}
+use mathlib.Core.Bool.{false}
 use Prim.Native.Nat.{ℕ, zero, suc, _^_}
 use lib.IntN.{ℤ, pos, negsuc, negℤ, natAbs}
 use lib.Pow.{pow-pos}
-use lib.Ieee.{Float, nan, inf, fin, binary64, round, neg}
+use lib.Ieee.{Float, fin, binary64, round, neg}
 use Rattle.word.specs.Orders.{negated, opposite}
 use Rattle.word.specs.Takum.{real}
 use Rattle.word.proofs.Values.{real-inj, words-differ, negation-negates}
@@ -12,16 +12,8 @@ use Rattle.word.proofs.Words.{takum-zero}
 use Rattle.write.specs.Writes.{isNegative}
 use Rattle.binary64.specs.declared.taking.Binary64.{Binary64}
 use Rattle.binary64.specs.Takes.{TakesBinary64}
-use Rattle.binary64.proofs.Scaling.{round-negated}
+use Rattle.binary64.proofs.Signs.{round-negated, neg-neg}
 use Rattle.binary64.proofs.Taken.{taken}
-
-neg-neg : (x : Float) → neg (neg x) ≡ x
-unfolding neg
-neg-neg nan = refl
-neg-neg (inf true) = refl
-neg-neg (inf false) = refl
-neg-neg (fin true m e) = refl
-neg-neg (fin false m e) = refl
 
 rounded-opposite : (z : ℤ) → (z ≡ pos 0 → ⊥) → round binary64 (isNegative (negℤ z)) (natAbs (negℤ z)) (2 ^ 307) ≡ neg (round binary64 (isNegative z) (natAbs z) (2 ^ 307))
 unfolding isNegative

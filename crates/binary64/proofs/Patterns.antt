@@ -12,10 +12,10 @@ use lib.Ieee.{Float, nan, inf, binary64, odd, ofFields, ofBits}
 use lib.Ieee.Exact.{HasValue, odd-sign}
 use lib.Pow.{pow-pos}
 use Rattle.word.proofs.Powers.{pow-sum}
-use Rattle.binary64.proofs.Held.{value-same}
+use Rattle.binary64.proofs.Values.{value-same}
 
-abbrev pub isNegative : ℕ → Bool
-isNegative b = not (eqb (b / 2 ^ 63) 0)
+abbrev pub signBit : ℕ → Bool
+signBit b = not (eqb (b / 2 ^ 63) 0)
 
 abbrev pub field : ℕ → ℕ
 field b = bitAnd (b / 2 ^ 52) (2 ^ 11 - 1)
@@ -32,22 +32,22 @@ lead-small zero = (omega arith, omega arith)
 lead-small (suc x) = rw eqb·suc-zero (omega arith, omega arith)
 
 -- ---- the kit reads the same fields
-sign-is : (b : ℕ) → leb (2 ^ 63) b ≡ isNegative b
+sign-is : (b : ℕ) → leb (2 ^ 63) b ≡ signBit b
 sign-is b = by (decLe (2 ^ 63) b)
   where
-    by : Dec (2 ^ 63 ≤ b) → leb (2 ^ 63) b ≡ isNegative b
+    by : Dec (2 ^ 63 ≤ b) → leb (2 ^ 63) b ≡ signBit b
     by (yes h) = le-leb (2 ^ 63) b h ∙ sym (ap not (ne-eqb (b / 2 ^ 63) 0 (λ q. omega (arith, h, q))))
     by (no f) = lt-leb (2 ^ 63) b below ∙ sym (ap not (eq-eqb (b / 2 ^ 63) 0 (omega (arith, below))))
       where
         below : b < 2 ^ 63
         below = omega (arith, f)
 
-fields-are : (b : ℕ) → ofBits binary64 b ≡ ofFields binary64 (isNegative b) (field b) (digits b)
+fields-are : (b : ℕ) → ofBits binary64 b ≡ ofFields binary64 (signBit b) (field b) (digits b)
 unfolding ofBits
 fields-are b =
     ap (λ (s : Bool). ofFields binary64 s (b % 2 ^ 63 / 2 ^ 52) (b % 2 ^ 52)) (sign-is b)
-    ∙ ap (λ (x : ℕ). ofFields binary64 (isNegative b) x (b % 2 ^ 52)) (cut ∙ sym (and-mask (b / 2 ^ 52) 11))
-    ∙ ap (ofFields binary64 (isNegative b) (field b)) (sym (and-mask b 52))
+    ∙ ap (λ (x : ℕ). ofFields binary64 (signBit b) x (b % 2 ^ 52)) (cut ∙ sym (and-mask (b / 2 ^ 52) 11))
+    ∙ ap (ofFields binary64 (signBit b) (field b)) (sym (and-mask b 52))
   where
     cut : b % 2 ^ 63 / 2 ^ 52 ≡ b / 2 ^ 52 % 2 ^ 11
     cut = omega arith
@@ -75,11 +75,11 @@ last-field s (suc x) t q = rw (eq-eqb (suc x) 2047 q) (by (eqb t 0))
     by true = is-inf
     by false = is-nan
 
-pub pattern-value : (b : ℕ) → (field b ≡ 2047 → ⊥) → HasValue (ofBits binary64 b) (isNegative b) ((digits b + lead (field b) * 2 ^ 52) * 2 ^ (field b - lead (field b))) (2 ^ 1074)
-pattern-value b h = subst (λ (x : Float). HasValue x (isNegative b) ((digits b + lead (field b) * 2 ^ 52) * 2 ^ (field b - lead (field b))) (2 ^ 1074)) (sym (fields-are b)) (finite-fields (isNegative b) (field b) (digits b) h)
+pub pattern-value : (b : ℕ) → (field b ≡ 2047 → ⊥) → HasValue (ofBits binary64 b) (signBit b) ((digits b + lead (field b) * 2 ^ 52) * 2 ^ (field b - lead (field b))) (2 ^ 1074)
+pattern-value b h = subst (λ (x : Float). HasValue x (signBit b) ((digits b + lead (field b) * 2 ^ 52) * 2 ^ (field b - lead (field b))) (2 ^ 1074)) (sym (fields-are b)) (finite-fields (signBit b) (field b) (digits b) h)
 
 pub pattern-unbounded : (b : ℕ) → field b ≡ 2047 → Unbounded (ofBits binary64 b)
-pattern-unbounded b h = subst Unbounded (sym (fields-are b)) (last-field (isNegative b) (field b) (digits b) h)
+pattern-unbounded b h = subst Unbounded (sym (fields-are b)) (last-field (signBit b) (field b) (digits b) h)
 
 -- ---- a power of two: the field j with no digits
 module _ (j : ℕ) (some : 0 < j) (small : j < 2047) where
@@ -92,7 +92,7 @@ module _ (j : ℕ) (some : 0 < j) (small : j < 2047) where
   digits-are : digits b ≡ 0
   digits-are = and-mask b 52 ∙ omega arith
 
-  plus : isNegative b ≡ false
+  plus : signBit b ≡ false
   plus = ap not (eq-eqb (b / 2 ^ 63) 0 (omega arith))
 
   one : lead (field b) ≡ 1

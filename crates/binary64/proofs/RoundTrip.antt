@@ -12,7 +12,6 @@ use Rattle.word.specs.Takum.{real, takum}
 use Rattle.word.specs.declared.answer.Answer.{Answer}
 use Rattle.word.proofs.Verdicts.{width-fits, answered}
 use Rattle.write.specs.declared.value.Rule.{Rule}
-use Rattle.write.specs.Writes as Writes
 use Rattle.write.specs.Writes.{isNegative}
 use Rattle.write.proofs.Moves.{rejoined}
 use Rattle.write.proofs.Rounding.{exact-written}

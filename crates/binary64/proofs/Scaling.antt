@@ -1,17 +1,17 @@
 -- A rounded whole number times a power of two is the rounded product: no digit is lost in the scaling. Assumes nothing.
 use mathlib.Core.Path.{_≡_, refl, sym, ap, _∙_, subst}
-use mathlib.Core.Bool.{Bool, true, false, cond}
-use Prim.Native.Nat.{ℕ, zero, suc, _+_, _-_, _*_, _^_, _≤_, _<_}
+use mathlib.Core.Bool.{false}
+use Prim.Native.Nat.{ℕ, _+_, _-_, _*_, _^_, _≤_, _<_}
 use native.Mathlib.Nat.{mul-one, one-mul, mul-assoc, mul-comm, mul-le-mul-right, le-of-lt, le-of-eq, le-trans, mul-pos, zero-lt-suc}
 use native.Mathlib.Omega.{arith}
-use lib.Dec.{T, ltb, lit<}
+use lib.Dec.{T, lit<}
 use lib.Pow.{pow-pos, pow-lt, pow-mono}
-use lib.Ieee.{Float, inf, Format, binary64, prec, low, odd, units, round, mul, neg}
+use lib.Ieee.{Float, binary64, round, mul}
 use lib.Ieee.Exact.{HasValue, round-exact}
-use lib.Ieee.Fits.{round-is, round-fits}
+use lib.Ieee.Fits.{round-fits}
 use lib.Ieee.Order.{round-mono}
 use lib.Ieee.Positive.{positive, positive-finite, positive-of-value, between, mul-at}
-use lib.Ieee.Scale.{grid, overflow, round-same, round-val, round-under, grid-scale, normal-of-fraction}
+use lib.Ieee.Scale.{grid, round-same, round-val, round-under, grid-scale, normal-of-fraction}
 use Rattle.word.proofs.Powers.{pow-sum}
 use Rattle.binary64.proofs.Held.{round-held}
 
@@ -76,20 +76,3 @@ module _ (m j : ℕ) (some : 0 < m) (short : m < 2 ^ 64) (lo : 700 ≤ j) (hi : 
       same =
           ap (λ (z : ℕ). z * 2 ^ 1074) (mul-assoc start (2 ^ 323) (2 ^ j) ∙ ap (λ (z : ℕ). start * z) (pow-sum 323 j (j + 323) (omega arith) ∙ sym (pow-sum (j - 700) 1023 (j + 323) (omega (arith, lo)))) ∙ sym (mul-assoc start (2 ^ (j - 700)) (2 ^ 1023)))
           ∙ mul-assoc (start * 2 ^ (j - 700)) (2 ^ 1023) (2 ^ 1074) ∙ ap (λ (z : ℕ). start * 2 ^ (j - 700) * z) (mul-comm (2 ^ 1023) (2 ^ 1074))
-
--- ---- the sign changes nothing but itself
-odd-negated : (d q k l : ℕ) → neg (odd d false q k l) ≡ odd d true q k l
-unfolding neg odd
-odd-negated d zero k l = refl
-odd-negated d (suc q) k l = refl
-
-units-negated : (f : Format) (q k : ℕ) → neg (units f false q k) ≡ units f true q k
-unfolding units
-units-negated f q k = by (ltb (q * 2 ^ k) (overflow f))
-  where
-    by : (b : Bool) → neg (cond b (odd (suc (prec f)) false q k (low f)) (inf false)) ≡ cond b (odd (suc (prec f)) true q k (low f)) (inf true)
-    by true = odd-negated (suc (prec f)) q k (low f)
-    by false = unfold neg in refl
-
-pub round-negated : (f : Format) (a c : ℕ) → neg (round f false a c) ≡ round f true a c
-round-negated f a c = ap neg (round-is f false a c) ∙ units-negated f _ _ ∙ sym (round-is f true a c)

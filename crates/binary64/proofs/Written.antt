@@ -19,7 +19,7 @@ use Rattle.write.specs.Writes.{IsWritten}
 use Rattle.write.proofs.Exponents.{unit-some, shift}
 use Rattle.binary64.specs.Writes.{IsWrittenBinary64}
 use Rattle.binary64.proofs.Fractions.{written-same}
-use Rattle.binary64.proofs.Patterns.{isNegative, field, digits, lead, lead-small, Unbounded, is-nan, is-inf, pattern-value}
+use Rattle.binary64.proofs.Patterns.{signBit, field, digits, lead, lead-small, Unbounded, is-nan, is-inf, pattern-value}
 
 module _ (n : ℕ) (rule : Rule) (r : Answer) where
   pub unbounded-written : (x : Float) → Unbounded x → r ≡ Answer.Word (narWord n) → IsWrittenBinary64 n rule x r
@@ -44,14 +44,14 @@ module _ (n : ℕ) (rule : Rule) (r : Answer) where
       count : x + (1 - l) + 1381 - 1075 ≡ x - l + 307
       count = omega (arith, h, g)
 
-  pub pattern-written : (b : ℕ) → (field b ≡ 2047 → ⊥) → IsWritten n rule (isNegative b) ((digits b + lead (field b) * 2 ^ 52) * num (pos (field b + (1 - lead (field b))) -ℤ pos 1075 +ℤ pos 307)) (den (pos (field b + (1 - lead (field b))) -ℤ pos 1075 +ℤ pos 307)) r → IsWrittenBinary64 n rule (ofBits binary64 b) r
+  pub pattern-written : (b : ℕ) → (field b ≡ 2047 → ⊥) → IsWritten n rule (signBit b) ((digits b + lead (field b) * 2 ^ 52) * num (pos (field b + (1 - lead (field b))) -ℤ pos 1075 +ℤ pos 307)) (den (pos (field b + (1 - lead (field b))) -ℤ pos 1075 +ℤ pos 307)) r → IsWrittenBinary64 n rule (ofBits binary64 b) r
   pattern-written b h x =
       let l = lead (field b) in
       let m = digits b + l * 2 ^ 52 in
       let k = pos (field b + (1 - l)) -ℤ pos 1075 +ℤ pos 307 in
       let t = field b - l in
-      value-written (ofBits binary64 b) (isNegative b) (m * 2 ^ t) (2 ^ 1074) (pow-pos 1074) (pattern-value b h)
-      (written-same n (isNegative b) (m * num k) (den k) (m * 2 ^ t * 2 ^ 307) (2 ^ 1074) (unit-some k .1) (pow-pos 1074)
+      value-written (ofBits binary64 b) (signBit b) (m * 2 ^ t) (2 ^ 1074) (pow-pos 1074) (pattern-value b h)
+      (written-same n (signBit b) (m * num k) (den k) (m * 2 ^ t * 2 ^ 307) (2 ^ 1074) (unit-some k .1) (pow-pos 1074)
       (mul-assoc m (num k) (2 ^ 1074)
       ∙ ap (λ (z : ℕ). m * z) (mul-comm (num k) (2 ^ 1074) ∙ sym (shift k 1074 (t + 307) (raised (field b) l (lead-small (field b) .0) (lead-small (field b) .1))))
       ∙ sym (mul-assoc m (2 ^ (t + 307)) (den k))

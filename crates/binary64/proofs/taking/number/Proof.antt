@@ -4,7 +4,8 @@ use mathlib.Core.Bool.{Bool, true, false}
 use Prim.Native.Nat.{_*_, _^_}
 use borrow.Author.Needs.{needs}
 use lib.Ieee.{Float, binary64, mul, round, neg}
-use Rattle.binary64.proofs.Scaling.{scaled, round-negated}
+use Rattle.binary64.proofs.Scaling.{scaled}
+use Rattle.binary64.proofs.Signs.{round-negated}
 use Rattle.binary64.proofs.taking.number.Statement.{statement}
 use Rattle.binary64.proofs.taking.number.Tie as tie
 

@@ -4,7 +4,7 @@ use mathlib.Core.Bool.{Bool, not}
 use lib.Dec.{T}
 use lib.Ieee.{binary64}
 use lib.Ieee.Bits.{nanBits-is}
-use Rattle.binary64.proofs.Held.{value-no-nan}
+use Rattle.binary64.proofs.Values.{value-no-nan}
 use Rattle.binary64.proofs.Patterns.{power-pattern}
 use Rattle.binary64.proofs.taking.power_of_two.Statement.{statement}
 use Rattle.binary64.proofs.taking.power_of_two.Tie as tie

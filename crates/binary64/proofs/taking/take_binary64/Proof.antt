@@ -18,7 +18,8 @@ use Rattle.word.specs.Takum.{takum, fractionBits}
 use Rattle.word.proofs.Readings.{exponent-small, fraction-bits-most}
 use Rattle.binary64.specs.declared.taking.Binary64.{Binary64}
 use Rattle.binary64.specs.Takes.{TakesBinary64}
-use Rattle.binary64.proofs.Taken.{raise, taken-zero, taken-NaR, taken-refused, taken-number, number-read}
+use Rattle.binary64.proofs.Taken.{taken-zero, taken-NaR, taken-refused, taken-number, number-read}
+use Rattle.binary64.proofs.Raised.{raise}
 use Rattle.binary64.proofs.taking.take_binary64.Statement.{statement}
 use Rattle.binary64.proofs.taking.take_binary64.Tie as tie
 

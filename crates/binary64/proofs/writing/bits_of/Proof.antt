@@ -3,7 +3,7 @@ use mathlib.Core.Path.{refl, sym, ap, subst}
 use lib.Dec.{T}
 use lib.Ieee.{binary64, toBits}
 use lib.Ieee.Compare.{differs-from-itself}
-use Rattle.binary64.proofs.Held.{equals-itself}
+use Rattle.binary64.proofs.Values.{equals-itself}
 use Rattle.binary64.proofs.writing.bits_of.Statement.{statement}
 use Rattle.binary64.proofs.writing.bits_of.Tie as tie
 

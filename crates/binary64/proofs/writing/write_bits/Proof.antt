@@ -15,7 +15,7 @@ use Rattle.word.proofs.Signed.{sub-mag}
 use Rattle.write.specs.Writes.{IsWritten, Writes}
 use Rattle.binary64.specs.Writes.{WritesBinary64}
 use Rattle.binary64.proofs.Decisions.{decided-as}
-use Rattle.binary64.proofs.Patterns.{isNegative, field, digits, lead, lead-small, pattern-unbounded}
+use Rattle.binary64.proofs.Patterns.{signBit, field, digits, lead, lead-small, pattern-unbounded}
 use Rattle.binary64.proofs.Written.{unbounded-written, pattern-written}
 use Rattle.binary64.proofs.writing.write_bits.Statement.{statement}
 use Rattle.binary64.proofs.writing.write_bits.Tie as tie
@@ -96,7 +96,7 @@ returns-2 c =
     let s = k .before .before in
     decided-as (λ q h. h)
     (λ x. pattern-written _ _ _ (s .args .bits) (k .before .if1 .left)
-    (subst₂ (λ (m : ℕ) (z : ℤ). IsWritten (s .args .width .bits) (s .args .rule) (isNegative (s .args .bits)) (m * num (z +ℤ pos 307)) (den (z +ℤ pos 307)) (c .write .result)) (significand k) (exponent k) x))
+    (subst₂ (λ (m : ℕ) (z : ℤ). IsWritten (s .args .width .bits) (s .args .rule) (signBit (s .args .bits)) (m * num (z +ℤ pos 307)) (den (z +ℤ pos 307)) (c .write .result)) (significand k) (exponent k) x))
     (c .write .ensures)
 
 pub write-bits-spec : {M : Type 1} → statement M

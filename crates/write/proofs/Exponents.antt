@@ -28,7 +28,7 @@ unfolding IsRaised
 raised-same h h' e p q = sym (+ℤ-negℤ-cancel h (pos 255)) ∙ ap (λ (z : ℤ). z -ℤ pos 255) (p ∙ sym q) ∙ +ℤ-negℤ-cancel h' (pos 255)
 
 -- 2^k with k = x + s, where 2^x is a fraction
-shift : (x : ℤ) (s k : ℕ) → x +ℤ pos s ≡ pos k → 2 ^ k * den x ≡ 2 ^ s * num x
+pub shift : (x : ℤ) (s k : ℕ) → x +ℤ pos s ≡ pos k → 2 ^ k * den x ≡ 2 ^ s * num x
 unfolding num den
 shift (pos i) s k q = mul-one (2 ^ k) ∙ ap (λ (y : ℕ). 2 ^ y) (sym (ap natAbs q)) ∙ pow-add 2 i s ∙ mul-comm (2 ^ i) (2 ^ s)
 shift (negsuc i) s k q = pow-sum k (suc i) s (by (ltb s (suc i)) refl q) ∙ sym (mul-one (2 ^ s))

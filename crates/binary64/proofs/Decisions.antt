@@ -1,0 +1,8 @@
+-- A contract that decides by a verdict, said otherwise on either side. Assumes nothing.
+use Rattle.word.specs.declared.refusal.Refusal.{Refusal}
+use Rattle.word.specs.declared.refusal.Verdict.{Verdict}
+use Rattle.word.specs.Refusals.{Decided, through, refused}
+
+pub decided-as : {v : Verdict} {P P' : Refusal → Type 0} {Q Q' : Type 0} → ((q : Refusal) → P q → P' q) → (Q → Q') → Decided v P Q → Decided v P' Q'
+decided-as f g (through h x) = through h (g x)
+decided-as f g (refused h x) = refused h (f _ x)

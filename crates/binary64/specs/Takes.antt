@@ -1,0 +1,20 @@
+-- What a word is as a binary64 number (paper 01, "Whole numbers and binary64"), in the toolchain's account of IEEE 754.
+use mathlib.Core.Path.{_≡_}
+use Prim.Native.Nat.{ℕ, _^_}
+use lib.IntN.{natAbs}
+use lib.Ieee.{binary64, round}
+use Rattle.word.specs.Refusals.{widthTest, strayTest, _then_, Decided}
+use Rattle.word.specs.Takum.{Takum, real, NaR, takum}
+use Rattle.write.specs.Writes.{isNegative}
+use Rattle.binary64.specs.declared.taking.Binary64.{Binary64}
+
+-- The nearest binary64, ties to even, to the value z * 2^-307; zero is positive zero. Where a binary64 has the value, that is the nearest
+-- (up to width 57 always: `taken-exact` in proofs/Exactness.antt).
+unfoldable pub IsTaken : Takum → Binary64 → Type 0
+IsTaken (real z) a = a ≡ Binary64.Number (round binary64 (isNegative z) (natAbs z) (2 ^ 307))
+IsTaken NaR a = a ≡ Binary64.NotReal
+
+-- ---- what the call answers
+-- WIDTH, then STRAY
+unfoldable pub TakesBinary64 : ℕ → ℕ → Binary64 → Type 0
+TakesBinary64 n w a = Decided (widthTest n then strayTest n w) (λ q. a ≡ Binary64.Refused q) (IsTaken (takum n w) a)

@@ -1,0 +1,56 @@
+// Writing a binary64 number as a word.
+use word::answer::Answer;
+use word::width::Width;
+use write::value::Rule;
+use write::value::Value;
+use write::writing::write;
+ghost use mathlib.Core.Path.{_≡_};
+ghost use mathlib.Core.Bool.{cond};
+ghost use lib.Dec.{eqb};
+ghost use lib.Ieee.{binary64, ofBits, toBits};
+ghost use Rattle.binary64.specs.Writes.{WritesBinary64};
+
+// The word for a number: NaN and the infinities give NaR, everything else is written as its value.
+pub fn write_binary64(width: Width, rule: Rule, x: f64) -> Answer
+    ensures { λ r. ⌜ WritesBinary64 (width .bits) rule x r ⌝ }
+{
+    write_bits(width, rule, bits_of(x))
+}
+
+// The bit pattern. A NaN has many, and `to_bits` is not defined there; this one stands for all.
+fn bits_of(x: f64) -> u64
+    ensures { λ r. ⌜ r ≡ toBits binary64 x ⌝ }
+{
+    // Only a NaN differs from itself.
+    if x != x {
+        return 0x7ff8_0000_0000_0000;
+    }
+    f64::to_bits(x)
+}
+
+// The word for the number of a bit pattern: its sign, its exponent and the digits below the leading one.
+fn write_bits(width: Width, rule: Rule, bits: u64) -> Answer
+    ensures { λ r. ⌜ WritesBinary64 (width .bits) rule (ofBits binary64 bits) r ⌝ }
+{
+    let exponent = (bits >> 52) & 0x7ff;
+    if exponent == 0x7ff {
+        return width.nar();
+    }
+    let lead = leading_digit(exponent);
+    let value = Value {
+        negative: bits >> 63 != 0,
+        m: (bits & 0xf_ffff_ffff_ffff) + (lead << 52),
+        k: (exponent + (1 - lead)) as i32 - 1075,
+    };
+    write(width, rule, value)
+}
+
+// An exponent of 0 has no leading digit, and counts as an exponent of 1.
+fn leading_digit(exponent: u64) -> u64
+    ensures { λ r. ⌜ r ≡ cond (eqb exponent 0) 0 1 ⌝ }
+{
+    if exponent == 0 {
+        return 0;
+    }
+    1
+}

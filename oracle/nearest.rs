@@ -8,7 +8,10 @@
 
 use crate::exact::Whole;
 use crate::offers::fine;
-use crate::{count_of_words, largest_word, smallest_word, value, Value};
+use crate::refusals::count_of_words;
+use crate::search::last_not_above;
+use crate::widths::{largest_word, smallest_word};
+use crate::words::{value, Value};
 use std::cmp::Ordering;
 use std::sync::LazyLock;
 
@@ -58,25 +61,12 @@ fn last_word_not_above(width: u32, size: &Whole) -> u64 {
     }
     // "Going wider never changes a value": a word with zero bits appended on the right has the same value. So the words
     // on either side of the size at width 16 say between which two words of this width to search. Nothing hangs on it:
-    // that these two words do lie on either side is asserted.
+    // that these two words do lie on either side is asserted, of the first one in the search.
     let narrow = last_word_not_above(WIDEST_TABLE, size);
-    let mut not_above = narrow << (width - WIDEST_TABLE);
-    let mut above = (narrow + 1) << (width - WIDEST_TABLE);
-    match value_of(width, not_above).cmp(size) {
-        Ordering::Less => (),
-        Ordering::Equal => return not_above,
-        Ordering::Greater => panic!("the word does not lie below the size"),
-    }
-    assert!(above == largest_word(width).unwrap() + 1 || value_of(width, above) > *size);
-    while above - not_above > 1 {
-        let middle = not_above + (above - not_above) / 2;
-        if value_of(width, middle) <= *size {
-            not_above = middle;
-        } else {
-            above = middle;
-        }
-    }
-    not_above
+    let (first, end) = (narrow << (width - WIDEST_TABLE), (narrow + 1) << (width - WIDEST_TABLE));
+    let order = |word: i128| value_of(width, word as u64).cmp(size);
+    assert!(end == largest_word(width).unwrap() + 1 || order(i128::from(end)) == Ordering::Greater);
+    last_not_above(i128::from(first), i128::from(end), order) as u64
 }
 
 /// The value of a word that is not NaR.

@@ -26,16 +26,15 @@ impl Whole {
     }
 
     pub fn from_unsigned(number: u64) -> Whole {
-        Whole::from_parts(false, vec![number as u32, (number >> 32) as u32])
+        Whole::from_sign_and_size(false, number)
     }
 
     pub fn from_signed(number: i64) -> Whole {
-        let size = Whole::from_unsigned(number.unsigned_abs());
-        if number < 0 {
-            size.negated()
-        } else {
-            size
-        }
+        Whole::from_sign_and_size(number < 0, number.unsigned_abs())
+    }
+
+    fn from_sign_and_size(negative: bool, size: u64) -> Whole {
+        Whole::from_parts(negative, vec![size as u32, (size >> 32) as u32])
     }
 
     pub fn power_of_two(exponent: i64) -> Whole {

@@ -6,7 +6,12 @@ use std::cmp::Ordering;
 /// place whose value is not above the one sought. `order` says how the value at a place stands to the one sought; at
 /// `first` it must not be above. The range is halved until one place is left, or the very value is met.
 pub fn last_not_above(first: i128, end: i128, order: impl Fn(i128) -> Ordering) -> i128 {
-    assert!(first < end && order(first) != Ordering::Greater, "the search starts at a value that is not above");
+    assert!(first < end);
+    match order(first) {
+        Ordering::Less => (),
+        Ordering::Equal => return first,
+        Ordering::Greater => panic!("the search does not start below the value sought"),
+    }
     let (mut not_above, mut above) = (first, end);
     while above - not_above > 1 {
         let middle = not_above + (above - not_above) / 2;

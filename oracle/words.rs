@@ -95,10 +95,10 @@ pub fn value(width: u32, word: u64) -> Value {
     // Definition 2 has [(1 - 3S) + uint(F)/2^p] * 2^e.
     // Times 2^307 this is [(1 - 3S) * 2^p + uint(F)] * 2^(e - p + 307).
     let word_is = quantities(&bits);
-    let significand = Whole::from_signed(1 - 3 * word_is.sign)
-        .times_power_of_two(word_is.fraction_count)
-        .plus(&Whole::from_signed(word_is.fraction));
-    let number = significand.times_power_of_two(word_is.exponent - word_is.fraction_count + SCALE);
+    // The significand in the brackets is at most 2 * 2^p in size, and p is at most 59.
+    let significand = (1 - 3 * word_is.sign) * small_power_of_two(word_is.fraction_count) + word_is.fraction;
+    let scale = word_is.exponent - word_is.fraction_count + SCALE;
+    let number = Whole::from_signed(significand).times_power_of_two(scale);
     check_number(&word_is, &number);
     Value::Number(number)
 }

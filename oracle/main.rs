@@ -14,16 +14,22 @@
 //! moving.rs; then census.rs, which has what all lines need. A file named _lines prints its parts of docs/CENSUS.md,
 //! and a file named _checks holds what was made against the papers' statements and figures.
 
+mod binary64;
+mod binary64_lines;
 mod census;
 mod exact;
 mod moving;
 mod nearest;
 mod offers;
+mod out_lines;
 mod reading;
 mod reading_checks;
 mod reading_lines;
 mod refusals;
 mod search;
+mod ways;
+mod whole;
+mod whole_lines;
 mod widths;
 mod words;
 mod writing;
@@ -44,6 +50,10 @@ fn main() {
     let mut lines = Vec::new();
     reading_lines::push(&mut lines);
     writing_lines::push(&mut lines);
+    out_lines::push(&mut lines);
+    whole_lines::push(&mut lines);
+    binary64_lines::push(&mut lines);
+    ways::push_refusals(&mut lines);
 
     let text = lines.join("\n") + "\n";
     std::io::stdout().write_all(text.as_bytes()).expect("standard output takes the lines");

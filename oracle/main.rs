@@ -1,20 +1,26 @@
-//! The independent program: it reads, writes and moves linear takums and prints the census, and is written from the
-//! papers alone.
+//! The independent program: it reads, writes and moves linear takums, takes whole numbers and binary64 in and out, and
+//! prints the census. It is written from the papers alone.
 //!
 //! The papers are paper 01 (the requirements), document 004, Definition 2 (the linear takum), and docs/CENSUS.md (the
 //! lines to print). Nothing here was taken from the library. Every word is turned into its exact value. The sign, h and
 //! m of a reading and every comparison are found from exact values; a reading's p is the word's own fraction count, and
 //! negation is two's complement negation of the word, held against the exact value. Writing and moving find the nearest
-//! word by exact values too. All is meant to be obvious, not quick.
+//! word by exact values too, and so does binary64 out with the nearest number; no floating point is used. All is meant
+//! to be obvious, not quick.
 //!
 //! The assertions are statements of the papers, or follow from them. If one of them fails, the program stops.
 //!
-//! The files stand on one another in this order: exact.rs (whole numbers of any size) and search.rs (a search in rising
-//! values); refusals.rs, words.rs (the value of a word), widths.rs and reading.rs; offers.rs, nearest.rs, writing.rs and
-//! moving.rs; then census.rs, which has what all lines need. A file named _lines prints its parts of docs/CENSUS.md,
-//! and a file named _checks holds what was made against the papers' statements and figures.
+//! The files, each standing on those before it:
+//! - exact.rs, whole numbers of any size, and search.rs, the search in rising values;
+//! - refusals.rs, words.rs (the value of a word), widths.rs and reading.rs;
+//! - offers.rs, nearest.rs, writing.rs and moving.rs;
+//! - whole.rs and binary64.rs;
+//! - census.rs and ways.rs, what the lines are made with;
+//! - the files named _lines, which print the parts of docs/CENSUS.md;
+//! - the files named _checks, which hold all this against the papers' statements and figures.
 
 mod binary64;
+mod binary64_checks;
 mod binary64_lines;
 mod census;
 mod exact;
@@ -29,6 +35,7 @@ mod refusals;
 mod search;
 mod ways;
 mod whole;
+mod whole_checks;
 mod whole_lines;
 mod widths;
 mod words;
@@ -46,6 +53,8 @@ fn main() {
     exact::check();
     reading_checks::check();
     writing_checks::check();
+    whole_checks::check();
+    binary64_checks::check();
 
     let mut lines = Vec::new();
     reading_lines::push(&mut lines);

@@ -26,11 +26,11 @@ pub fn check() {
     check_refusals();
 }
 
-fn exactly(word: u64) -> Answers {
+pub fn exactly(word: u64) -> Answers {
     Answers { rounded: Ok(word), strict: Ok(word) }
 }
 
-fn only_rounded(word: u64) -> Answers {
+pub fn only_rounded(word: u64) -> Answers {
     Answers { rounded: Ok(word), strict: Err(Refusal::Inexact) }
 }
 

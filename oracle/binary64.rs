@@ -1,17 +1,16 @@
 //! Binary64 in and out (paper 01, "Whole numbers and binary64"); written from the papers alone.
 //!
-//! A binary64 number is known here by its 64-bit pattern only: the sign bit, an exponent field of 11 bits and a fraction
-//! field of 52. Nothing is done in the machine's own floating point. A pattern stands for an exact number, and the
+//! A binary64 number is known here by its 64-bit pattern only: the sign bit, an exponent field of 11 bits and a
+//! fraction field of 52. Nothing is done in the machine's own floating point. A pattern stands for an exact number, and the
 //! nearest pattern to a number is found by comparing exact numbers.
 
 use crate::exact::Whole;
 use crate::offers::{fine, Offer, FINE_SCALE};
 use crate::refusals::{accept_word, make_width, Refusal};
-use crate::search::last_not_above;
+use crate::search::{last_not_above, nearer_place};
 use crate::widths::nar_word;
 use crate::words::{value, Value};
 use crate::writing::{write, Answers};
-use std::cmp::Ordering;
 
 // ---------------------------------------------------------------------------------------------------------------------
 // What a pattern stands for
@@ -126,17 +125,8 @@ pub fn size_of_pattern(pattern: u64) -> Whole {
 /// even one, whose last fraction bit is 0, which is the pattern's lowest bit.
 pub fn nearest_pattern(size: &Whole) -> u64 {
     let below = last_pattern_not_above(size);
-    let above = below + 1;
-    assert!(above < INFINITY, "the sizes of words lie far below the greatest finite number");
-    let distance_below = size.minus(&size_of_pattern(below));
-    let distance_above = size_of_pattern(above).minus(size);
-    assert!(!distance_below.is_negative() && !distance_above.is_negative() && !distance_above.is_zero());
-    match distance_below.cmp(&distance_above) {
-        Ordering::Less => below,
-        Ordering::Greater => above,
-        Ordering::Equal if below % 2 == 0 => below,
-        Ordering::Equal => above,
-    }
+    assert!(below + 1 < INFINITY, "the sizes of words lie far below the greatest finite number");
+    nearer_place(below, size, size_of_pattern)
 }
 
 /// The last pattern whose number is not above the size.

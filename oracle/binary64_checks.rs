@@ -1,7 +1,7 @@
 //! Checks of the papers' statements on binary64 in and out; written from the papers alone.
 //!
-//! Each assertion is a statement of paper 01 or of docs/CENSUS.md, or follows from one. If one of them fails, the program
-//! stops.
+//! Each assertion is a statement of paper 01 or of docs/CENSUS.md, or follows from one. If one of them fails, the
+//! program stops.
 
 use crate::binary64::{binary64_in, binary64_out, finest, nearest_pattern, pattern_of, size_of_pattern, with_sign};
 use crate::binary64::{Binary64, INFINITY, NAN};
@@ -110,8 +110,8 @@ fn check_figures() {
     }
 }
 
-/// "NaN and both infinities give NaR, both zeros give zero." All else gives a word that is neither, and numbers past the
-/// ends the end words.
+/// "NaN and both infinities give NaR, both zeros give zero." All else gives a word that is neither, and numbers past
+/// the ends the end words.
 fn check_special_numbers() {
     for width in 2..=64 {
         let nar = nar_word(width).unwrap();

@@ -90,8 +90,8 @@ impl Whole {
         Whole::from_parts(self.negative, digits)
     }
 
-    /// The number divided by 2^exponent, what is left over being dropped: the answer is cut toward zero. The exponent is
-    /// not negative.
+    /// The number divided by 2^exponent, what is left over being dropped: the answer is cut toward zero. The exponent
+    /// is not negative.
     pub fn cut_by_power_of_two(&self, exponent: i64) -> Whole {
         assert!(exponent >= 0, "a whole number is divided by a whole power of two");
         let mut digits = Vec::new();

@@ -9,7 +9,7 @@
 use crate::exact::Whole;
 use crate::offers::fine;
 use crate::refusals::count_of_words;
-use crate::search::last_not_above;
+use crate::search::{last_not_above, nearer_place};
 use crate::widths::{largest_word, smallest_word};
 use crate::words::{value, Value};
 use std::cmp::Ordering;
@@ -40,16 +40,7 @@ fn nearest_positive_word(width: u32, size: &Whole) -> u64 {
         // No word lies above the size.
         return below;
     }
-    let above = below + 1;
-    let distance_below = size.minus(&value_of(width, below));
-    let distance_above = value_of(width, above).minus(size);
-    assert!(!distance_below.is_negative() && !distance_above.is_negative() && !distance_above.is_zero());
-    match distance_below.cmp(&distance_above) {
-        Ordering::Less => below,
-        Ordering::Greater => above,
-        Ordering::Equal if below % 2 == 0 => below,
-        Ordering::Equal => above,
-    }
+    nearer_place(below, size, |word| value_of(width, word))
 }
 
 /// The last word, from 0 up to the largest positive one, whose value is not above the size. As zero has the value 0,

@@ -1,8 +1,8 @@
 //! Binary64 in and out (paper 01, "Whole numbers and binary64"); written from the papers alone.
 //!
 //! A binary64 number is known here by its 64-bit pattern only: the sign bit, an exponent field of 11 bits and a
-//! fraction field of 52. Nothing is done in the machine's own floating point. A pattern stands for an exact number, and the
-//! nearest pattern to a number is found by comparing exact numbers.
+//! fraction field of 52. Nothing is done in the machine's own floating point. A pattern stands for an exact number,
+//! and the nearest pattern to a number is found by comparing exact numbers.
 
 use crate::exact::Whole;
 use crate::offers::{fine, Offer, FINE_SCALE};

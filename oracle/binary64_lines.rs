@@ -68,7 +68,8 @@ pub fn pattern_of_word(width: u32, word: u64) -> u64 {
 }
 
 /// The pattern of the midpoint between two neighbouring positive words, if a binary64 number is that midpoint; x
-/// chooses the words. The positive words are 1 to 2^(n-1) - 1, so the first of two neighbours is one of 1 to 2^(n-1) - 2.
+/// chooses the words. The positive words are 1 to 2^(n-1) - 1, so the first of two neighbours is one of 1 to
+/// 2^(n-1) - 2.
 fn chosen_midpoint(width: u32, x: u64) -> Option<u64> {
     if width == 2 {
         return None;

@@ -1,17 +1,19 @@
 -- Two outcomes that a public contract allows are equal, for each public call. Assumes nothing.
-use mathlib.Core.Path.{_≡_, refl, sym, ap, _∙_, subst}
+use mathlib.Core.Path.{_≡_, refl, sym, ap, ap₂, _∙_, subst}
 use mathlib.Core.List.{List, [], _∷_}
 use mathlib.Core.Logic.{inl, inr}
 use Prim.Native.Nat.{ℕ, _*_, _^_, _≤_}
 use native.Mathlib.Nat.{le-antisymm, zero-lt-suc}
-use lib.IntN.{pos, natAbs, _+ℤ_}
+use lib.IntN.{ℤ, pos, natAbs, _+ℤ_}
 use Rattle.word.specs.declared.answer.Answer.{Answer}
+use Rattle.word.specs.declared.fields.Fields.{Fields}
 use Rattle.word.specs.declared.order.Comparison.{Comparison}
 use Rattle.word.specs.declared.reading.Reading.{Reading}
 use Rattle.word.specs.declared.width.Limit.{Limit}
 use Rattle.word.specs.declared.width.Made.{Made}
 use Rattle.word.specs.Takum.{Takum, real, NaR, takum, fractionBits}
 use Rattle.word.specs.Refusals.{through, refused}
+use Rattle.word.specs.Cuts.{Cuts}
 use Rattle.word.specs.Widths.{Greatest, greatest, none, IsLimit, Makes, GivesWord, GivesLimit}
 use Rattle.word.specs.Reads.{num, den, IsReading, Reads}
 use Rattle.word.specs.Orders.{signed, order, negated, Compares, Negates}
@@ -22,6 +24,9 @@ use Rattle.write.specs.declared.value.Value.{Value}
 use Rattle.write.specs.Writes.{isNegative, IsMoved, Writes, Moves}
 use Rattle.write.proofs.Exponents.{unit-some}
 use Rattle.write.proofs.Rounding.{written-one}
+-- those of whole numbers and of binary64 stand beside their laws
+pub use Rattle.whole.proofs.OneOutcome.{writes-whole-one, takes-whole-one}
+pub use Rattle.binary64.proofs.OneOutcome.{writes-binary64-one, takes-binary64-one}
 use Rattle.promises.specs.Demands.{ComesBack}
 use Rattle.promises.specs.Writing.{Goes, ComesHome}
 
@@ -67,6 +72,10 @@ negates-one n w a b = decided-one Answer.Refused (λ z. z ≡ Answer.Word (negat
 pub comes-back-one : (n w : ℕ) (a b : Answer) → ComesBack n w a → ComesBack n w b → a ≡ b
 unfolding ComesBack
 comes-back-one n w a b = decided-one Answer.Refused (λ z. z ≡ Answer.Word w) (given (Answer.Word w)) a b
+
+-- the fields of a string
+pub cuts-one : (t : ℕ) (a b : Fields) → Cuts t a → Cuts t b → a ≡ b
+cuts-one t a b x y = ap₂ (λ (c : ℤ) (f : ℕ). record { c = c; f = f }) (x .characteristic ∙ sym (y .characteristic)) (x .fraction ∙ sym (y .fraction))
 
 -- ---- writing and moving
 pub writes-one : (n : ℕ) (rule : Rule) (v : Value) (a b : Answer) → Writes n rule v a → Writes n rule v b → a ≡ b

@@ -26,16 +26,15 @@ impl Whole {
     }
 
     pub fn from_unsigned(number: u64) -> Whole {
-        Whole::from_parts(false, vec![number as u32, (number >> 32) as u32])
+        Whole::from_sign_and_size(false, number)
     }
 
     pub fn from_signed(number: i64) -> Whole {
-        let size = Whole::from_unsigned(number.unsigned_abs());
-        if number < 0 {
-            size.negated()
-        } else {
-            size
-        }
+        Whole::from_sign_and_size(number < 0, number.unsigned_abs())
+    }
+
+    fn from_sign_and_size(negative: bool, size: u64) -> Whole {
+        Whole::from_parts(negative, vec![size as u32, (size >> 32) as u32])
     }
 
     pub fn power_of_two(exponent: i64) -> Whole {
@@ -91,8 +90,9 @@ impl Whole {
         Whole::from_parts(self.negative, digits)
     }
 
-    /// The number divided by 2^exponent; the exponent is not negative. Stops the program if there is a remainder.
-    pub fn divided_by_power_of_two(&self, exponent: i64) -> Whole {
+    /// The number divided by 2^exponent, what is left over being dropped: the answer is cut toward zero. The exponent
+    /// is not negative.
+    pub fn cut_by_power_of_two(&self, exponent: i64) -> Whole {
         assert!(exponent >= 0, "a whole number is divided by a whole power of two");
         let mut digits = Vec::new();
         for place in (exponent / 32) as usize..self.digits.len() {
@@ -100,7 +100,12 @@ impl Whole {
             let high = u64::from(*self.digits.get(place + 1).unwrap_or(&0));
             digits.push((((high << 32) + low) >> (exponent % 32)) as u32);
         }
-        let quotient = Whole::from_parts(self.negative, digits);
+        Whole::from_parts(self.negative, digits)
+    }
+
+    /// The number divided by 2^exponent; the exponent is not negative. Stops the program if there is a remainder.
+    pub fn divided_by_power_of_two(&self, exponent: i64) -> Whole {
+        let quotient = self.cut_by_power_of_two(exponent);
         assert!(quotient.times_power_of_two(exponent) == *self, "the division leaves a remainder");
         quotient
     }
@@ -121,6 +126,16 @@ impl Whole {
     pub fn to_unsigned(&self) -> u64 {
         assert!(!self.negative && self.digits.len() <= 2, "the number is outside unsigned 64 bits");
         self.digits.iter().rev().fold(0, |number, &digit| (number << 32) + u64::from(digit))
+    }
+
+    /// The same number as a 64-bit signed one, or none if it is not in their range.
+    pub fn to_signed(&self) -> Option<i64> {
+        let in_range = Whole::from_signed(i64::MIN) <= *self && *self <= Whole::from_signed(i64::MAX);
+        if !in_range {
+            return None;
+        }
+        let size = i128::from(self.size().to_unsigned());
+        Some(if self.negative { -size } else { size } as i64)
     }
 }
 
@@ -195,6 +210,10 @@ pub fn check() {
         let power: i64 = 1 << exponent;
         samples.extend([power - 1, power, power + 1, -power - 1, -power, 1 - power]);
     }
+    let (lowest, highest) = (i128::from(i64::MIN), i128::from(i64::MAX));
+    for outside in [lowest - 1, highest + 1, lowest - (1 << 64), highest + (1 << 64)] {
+        assert!(from_machine(outside).to_signed().is_none());
+    }
     for &a in &samples {
         check_one(a);
         for &b in &samples {
@@ -209,10 +228,13 @@ fn check_one(a: i64) {
     assert!(exact.is_negative() == (a < 0));
     assert!(exact.size().to_unsigned() == a.unsigned_abs());
     assert!(exact.negated() == from_machine(-i128::from(a)));
+    assert!(exact.to_signed() == Some(a));
     for exponent in [0, 1, 31, 32, 33, 63] {
         let product = exact.times_power_of_two(exponent);
         assert!(product == from_machine(i128::from(a) << exponent));
         assert!(product.divided_by_power_of_two(exponent) == exact);
+        // The machine's own division cuts toward zero too.
+        assert!(exact.cut_by_power_of_two(exponent) == from_machine(i128::from(a) / (1 << exponent)));
     }
     if a != 0 {
         check_bits(&exact);

@@ -1,8 +1,10 @@
 //! Moving a word to another width, rounded and strict, with the refusals; written from the papers alone.
 
 use crate::offers::fine;
+use crate::refusals::{accept_word, make_width, Refusal};
+use crate::widths::nar_word;
+use crate::words::{value, Value};
 use crate::writing::{write_number, Answers};
-use crate::{accept_word, make_width, nar_word, value, Refusal, Value};
 
 /// "A move from width a to width b reads at a and writes at b, rounded or strict. NaR gives NaR."
 pub fn move_word(from: u32, to: u32, word: u64) -> Answers {

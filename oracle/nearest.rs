@@ -8,7 +8,10 @@
 
 use crate::exact::Whole;
 use crate::offers::fine;
-use crate::{count_of_words, largest_word, smallest_word, value, Value};
+use crate::refusals::count_of_words;
+use crate::search::{last_not_above, nearer_place};
+use crate::widths::{largest_word, smallest_word};
+use crate::words::{value, Value};
 use std::cmp::Ordering;
 use std::sync::LazyLock;
 
@@ -37,16 +40,7 @@ fn nearest_positive_word(width: u32, size: &Whole) -> u64 {
         // No word lies above the size.
         return below;
     }
-    let above = below + 1;
-    let distance_below = size.minus(&value_of(width, below));
-    let distance_above = value_of(width, above).minus(size);
-    assert!(!distance_below.is_negative() && !distance_above.is_negative() && !distance_above.is_zero());
-    match distance_below.cmp(&distance_above) {
-        Ordering::Less => below,
-        Ordering::Greater => above,
-        Ordering::Equal if below % 2 == 0 => below,
-        Ordering::Equal => above,
-    }
+    nearer_place(below, size, |word| value_of(width, word))
 }
 
 /// The last word, from 0 up to the largest positive one, whose value is not above the size. As zero has the value 0,
@@ -58,25 +52,12 @@ fn last_word_not_above(width: u32, size: &Whole) -> u64 {
     }
     // "Going wider never changes a value": a word with zero bits appended on the right has the same value. So the words
     // on either side of the size at width 16 say between which two words of this width to search. Nothing hangs on it:
-    // that these two words do lie on either side is asserted.
+    // that these two words do lie on either side is asserted, of the first one in the search.
     let narrow = last_word_not_above(WIDEST_TABLE, size);
-    let mut not_above = narrow << (width - WIDEST_TABLE);
-    let mut above = (narrow + 1) << (width - WIDEST_TABLE);
-    match value_of(width, not_above).cmp(size) {
-        Ordering::Less => (),
-        Ordering::Equal => return not_above,
-        Ordering::Greater => panic!("the word does not lie below the size"),
-    }
-    assert!(above == largest_word(width).unwrap() + 1 || value_of(width, above) > *size);
-    while above - not_above > 1 {
-        let middle = not_above + (above - not_above) / 2;
-        if value_of(width, middle) <= *size {
-            not_above = middle;
-        } else {
-            above = middle;
-        }
-    }
-    not_above
+    let (first, end) = (narrow << (width - WIDEST_TABLE), (narrow + 1) << (width - WIDEST_TABLE));
+    let order = |word: i128| value_of(width, word as u64).cmp(size);
+    assert!(end == largest_word(width).unwrap() + 1 || order(i128::from(end)) == Ordering::Greater);
+    last_not_above(i128::from(first), i128::from(end), order) as u64
 }
 
 /// The value of a word that is not NaR.

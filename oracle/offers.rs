@@ -4,7 +4,10 @@
 //! exponent k: plus or minus M * 2^k." The second half of this file has the offers that docs/CENSUS.md makes of a size.
 
 use crate::exact::Whole;
-use crate::{largest_word, smallest_word, value, Value, SCALE};
+use crate::search::last_not_above;
+use crate::widths::{largest_word, smallest_word};
+use crate::words::{value, Value, SCALE};
+use std::cmp::Ordering;
 
 /// Writing compares offers with values of words, and an offer can be finer than every word. So in writing both are held
 /// as the whole number "value times 2^400". The values of words, which are whole already times 2^307, are so all the
@@ -81,55 +84,40 @@ pub fn itself(x: &Whole) -> Option<Pair> {
     Some((m, k as i32))
 }
 
-const LEAST_M: u64 = 1 << 63;
-const GREATEST_M: u64 = u64::MAX;
+/// How many M there are from 2^63 up to 2^64, 2^64 left out.
+const COUNT_OF_M: i128 = 1 << 63;
 
-/// "Just below x": the greatest M * 2^k below x with 2^63 <= M < 2^64. With a greater k all of these sizes are greater.
-/// So k is the greatest one for which any of them is below x, and then M the greatest one for which it is.
+/// The offers M * 2^k with 2^63 <= M < 2^64 in rising order. With a greater k all of them are greater, and with the
+/// same k those with a greater M. So the places k * 2^63 to k * 2^63 + 2^63 - 1 belong to k, and each of them to one M.
+fn pair_at(place: i128) -> Pair {
+    let m = COUNT_OF_M + place.rem_euclid(COUNT_OF_M);
+    (m as u64, place.div_euclid(COUNT_OF_M) as i32)
+}
+
+/// The place of the last such offer that is not above x, and whether it is x. The search starts with a k that is too
+/// small and ends with one that is too great: 2^63 * 2^near is the highest power of two that is not above x.
+fn last_place_not_above(x: &Whole) -> (i128, bool) {
+    let order = |place: i128| {
+        let (m, k) = pair_at(place);
+        size_of(m, i64::from(k)).cmp(x)
+    };
+    let near = i128::from(x.count_of_bits() - 1 - 63 - FINE_SCALE);
+    let end = (near + 2) * COUNT_OF_M;
+    assert!(order(end) == Ordering::Greater);
+    let place = last_not_above((near - 1) * COUNT_OF_M, end, order);
+    (place, order(place) == Ordering::Equal)
+}
+
+/// "Just below x": the greatest M * 2^k below x with 2^63 <= M < 2^64.
 pub fn just_below(x: &Whole) -> Pair {
-    let is_below = |m: u64, k: i64| size_of(m, k) < *x;
-    let mut k = near_exponent(x) - 2;
-    assert!(is_below(LEAST_M, k));
-    while is_below(LEAST_M, k + 1) {
-        k += 1;
-    }
-    let (mut below, mut not_below) = (u128::from(LEAST_M), u128::from(GREATEST_M) + 1);
-    while not_below - below > 1 {
-        let middle = (below + not_below) / 2;
-        if is_below(middle as u64, k) {
-            below = middle;
-        } else {
-            not_below = middle;
-        }
-    }
-    (below as u64, k as i32)
+    let (place, is_x) = last_place_not_above(x);
+    pair_at(if is_x { place - 1 } else { place })
 }
 
-/// "Just above x": the least M * 2^k above x with 2^63 <= M < 2^64. So k is the least one for which any of them is
-/// above x, and then M the least one for which it is.
+/// "Just above x": the least M * 2^k above x with 2^63 <= M < 2^64.
 pub fn just_above(x: &Whole) -> Pair {
-    let is_above = |m: u64, k: i64| size_of(m, k) > *x;
-    let mut k = near_exponent(x) + 2;
-    assert!(is_above(GREATEST_M, k));
-    while is_above(GREATEST_M, k - 1) {
-        k -= 1;
-    }
-    let (mut not_above, mut above) = (u128::from(LEAST_M) - 1, u128::from(GREATEST_M));
-    while above - not_above > 1 {
-        let middle = (not_above + above) / 2;
-        if is_above(middle as u64, k) {
-            above = middle;
-        } else {
-            not_above = middle;
-        }
-    }
-    (above as u64, k as i32)
-}
-
-/// The k for which 2^63 * 2^k is the highest power of two that is not above x: where the search for k starts. The two
-/// functions above see for themselves that they start on the right side.
-fn near_exponent(x: &Whole) -> i64 {
-    x.count_of_bits() - 1 - 63 - FINE_SCALE
+    let (place, _) = last_place_not_above(x);
+    pair_at(place + 1)
 }
 
 // ---------------------------------------------------------------------------------------------------------------------

@@ -3,7 +3,7 @@
 use crate::exact::Whole;
 use crate::nearest::{nearest_word, value_of};
 use crate::offers::Offer;
-use crate::{make_width, Refusal};
+use crate::refusals::{make_width, Refusal};
 
 /// The two answers to one question: that of rounded writing or moving, and that of strict.
 #[derive(Clone, Copy, Debug, PartialEq, Eq)]

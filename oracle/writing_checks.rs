@@ -2,14 +2,17 @@
 //!
 //! Each assertion is a statement of paper 01, or follows from one. If one of them fails, the program stops.
 
+use crate::census::Sequence;
 use crate::exact::Whole;
 use crate::moving::move_word;
 use crate::nearest::value_of;
 use crate::offers::{self, fine, itself, just_above, just_below, Offer, Pair};
+use crate::reading::{negate, read, Reading};
+use crate::refusals::{count_of_words, Refusal};
+use crate::widths::{largest_word, nar_word, smallest_word};
+use crate::words::{value, Value};
 use crate::writing::{write, Answers};
 use crate::writing_lines::Draw;
-use crate::{count_of_words, largest_word, nar_word, negate, read, smallest_word, value};
-use crate::{Reading, Refusal, Sequence, Value};
 use std::cmp::Ordering;
 
 pub fn check() {
@@ -23,11 +26,11 @@ pub fn check() {
     check_refusals();
 }
 
-fn exactly(word: u64) -> Answers {
+pub fn exactly(word: u64) -> Answers {
     Answers { rounded: Ok(word), strict: Ok(word) }
 }
 
-fn only_rounded(word: u64) -> Answers {
+pub fn only_rounded(word: u64) -> Answers {
     Answers { rounded: Ok(word), strict: Err(Refusal::Inexact) }
 }
 

@@ -1,10 +1,12 @@
 //! The lines on writing and moving (docs/CENSUS.md, parts 7 to 12); written from the papers alone.
 
+use crate::census::{low_bits, run_line, runs, single_line, Digest, Sequence, BAD_WIDTHS, RUN};
 use crate::moving::move_word;
 use crate::nearest::value_of;
 use crate::offers::{itself, just_above, just_below, Offer, Pair};
-use crate::writing::{write, Answers};
-use crate::{count_of_words, largest_word, Digest, Sequence, RUN};
+use crate::refusals::count_of_words;
+use crate::widths::largest_word;
+use crate::writing::write;
 
 pub fn push(lines: &mut Vec<String>) {
     write_lines(lines);
@@ -15,38 +17,16 @@ pub fn push(lines: &mut Vec<String>) {
     strayed_lines(lines);
 }
 
-/// First the rounded answer, then the strict one.
-fn take_answers(digest: &mut Digest, answers: Answers) {
-    digest.take_number(answers.rounded);
-    digest.take_number(answers.strict);
-}
-
 /// "The four writings of M, k": plus rounded, plus strict, minus rounded, minus strict.
 fn take_four_writings(digest: &mut Digest, width: u32, (m, k): Pair) {
-    take_answers(digest, write(width, &Offer::plus(m, k)));
-    take_answers(digest, write(width, &Offer::minus(m, k)));
-}
-
-/// The runs of at most 256 into which the numbers from `first` to `last` are cut: the first of each and its count.
-fn runs(first: u64, last: u64) -> Vec<(u64, u64)> {
-    let mut runs = Vec::new();
-    let mut next = first;
-    while next <= last {
-        let count = RUN.min(last - next + 1);
-        runs.push((next, count));
-        next += count;
-    }
-    runs
-}
-
-fn run_line(name: &str, width: u32, first: u64, count: u64, digest: &Digest) -> String {
-    format!("{name} {width} {first} {count} {:016x}", digest.0)
+    digest.take_answers(write(width, &Offer::plus(m, k)));
+    digest.take_answers(write(width, &Offer::minus(m, k)));
 }
 
 /// Part 7: the values of all positive words of the widths 2 to 16, and the midpoints between them.
 fn write_lines(lines: &mut Vec<String>) {
     for width in 2..=16 {
-        for (first, count) in runs(1, largest_word(width).unwrap()) {
+        for (first, count) in runs(1, largest_word(width).unwrap(), RUN) {
             let mut digest = Digest::new();
             for a in first..first + count {
                 take_writings_around(&mut digest, width, a);
@@ -83,7 +63,7 @@ fn past_lines(lines: &mut Vec<String>) {
                 take_four_writings(&mut digest, width, (m, k));
             }
         }
-        lines.push(format!("past {width} {:016x}", digest.0));
+        lines.push(single_line("past", width, &digest));
     }
 }
 
@@ -91,11 +71,11 @@ fn past_lines(lines: &mut Vec<String>) {
 fn move_lines(lines: &mut Vec<String>) {
     for from in 2..=16 {
         let targets = target_widths(from);
-        for (first, count) in runs(0, count_of_words(from) as u64 - 1) {
+        for (first, count) in runs(0, count_of_words(from) as u64 - 1, RUN) {
             let mut digest = Digest::new();
             for word in first..first + count {
                 for &to in &targets {
-                    take_answers(&mut digest, move_word(from, to, word));
+                    digest.take_answers(move_word(from, to, word));
                 }
             }
             lines.push(run_line("move", from, first, count, &digest));
@@ -115,12 +95,12 @@ fn target_widths(from: u32) -> Vec<u32> {
 fn draw_lines(lines: &mut Vec<String>) {
     for width in 2..=64 {
         let mut sequence = Sequence::new(1000 + width);
-        for (first, count) in runs(0, 4095) {
+        for (first, count) in runs(0, 4095, RUN) {
             let mut digest = Digest::new();
             for _place in first..first + count {
                 let draw = Draw::next(&mut sequence, width);
                 take_four_writings(&mut digest, width, draw.offer);
-                take_answers(&mut digest, move_word(width, draw.target, draw.word));
+                digest.take_answers(move_word(width, draw.target, draw.word));
             }
             lines.push(run_line("draw", width, first, count, &digest));
         }
@@ -139,7 +119,7 @@ impl Draw {
         let [x1, x2, x3, x4, x5] = [(); 5].map(|()| sequence.next_number());
         let m = x1 >> (x2 % 64);
         let k = (x3 % 640) as i32 - 352;
-        let word = (u128::from(x4) % count_of_words(width)) as u64;
+        let word = low_bits(x4, width);
         let target = 2 + (x5 % 63) as u32;
         Draw { offer: (m, k), word, target }
     }
@@ -147,15 +127,15 @@ impl Draw {
 
 /// Part 11: writing at widths that are refused, and moves from them and to them.
 fn unmoved_lines(lines: &mut Vec<String>) {
-    for width in [0, 1, 65, 2147483648, 4294967295] {
+    for width in BAD_WIDTHS {
         let mut digest = Digest::new();
         take_four_writings(&mut digest, width, (1, 0));
         for word in [1, 1 << 63] {
             for (from, to) in [(width, 16), (16, width), (width, width)] {
-                take_answers(&mut digest, move_word(from, to, word));
+                digest.take_answers(move_word(from, to, word));
             }
         }
-        lines.push(format!("unmoved {width} {:016x}", digest.0));
+        lines.push(single_line("unmoved", width, &digest));
     }
 }
 
@@ -166,9 +146,9 @@ fn strayed_lines(lines: &mut Vec<String>) {
         let lowest_stray: u64 = 1 << width;
         for word in [lowest_stray, lowest_stray + 1, 1 << 63, u64::MAX] {
             for to in [64, 65, width] {
-                take_answers(&mut digest, move_word(width, to, word));
+                digest.take_answers(move_word(width, to, word));
             }
         }
-        lines.push(format!("strayed {width} {:016x}", digest.0));
+        lines.push(single_line("strayed", width, &digest));
     }
 }

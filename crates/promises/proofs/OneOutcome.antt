@@ -8,16 +8,14 @@ use lib.IntN.{pos, natAbs, _+ℤ_}
 use Rattle.word.specs.declared.answer.Answer.{Answer}
 use Rattle.word.specs.declared.order.Comparison.{Comparison}
 use Rattle.word.specs.declared.reading.Reading.{Reading}
-use Rattle.word.specs.declared.refusal.Refusal.{Refusal}
-use Rattle.word.specs.declared.refusal.Verdict.{Verdict}
 use Rattle.word.specs.declared.width.Limit.{Limit}
 use Rattle.word.specs.declared.width.Made.{Made}
 use Rattle.word.specs.Takum.{Takum, real, NaR, takum, fractionBits}
-use Rattle.word.specs.Refusals.{Decided, through, refused}
+use Rattle.word.specs.Refusals.{through, refused}
 use Rattle.word.specs.Widths.{Greatest, greatest, none, IsLimit, Makes, GivesWord, GivesLimit}
 use Rattle.word.specs.Reads.{num, den, IsReading, Reads}
 use Rattle.word.specs.Orders.{signed, order, negated, Compares, Negates}
-use Rattle.word.proofs.Verdicts.{width-through, move-through, answered, refused-as}
+use Rattle.word.proofs.Verdicts.{width-through, move-through, answered, refused-as, decided-one}
 use Rattle.word.proofs.Binades.{reading-one}
 use Rattle.write.specs.declared.value.Rule.{Rule}
 use Rattle.write.specs.declared.value.Value.{Value}
@@ -26,12 +24,6 @@ use Rattle.write.proofs.Exponents.{unit-some}
 use Rattle.write.proofs.Rounding.{written-one}
 use Rattle.promises.specs.Demands.{ComesBack}
 use Rattle.promises.specs.Writing.{Goes, ComesHome}
-
--- a contract that decides by a verdict allows one outcome, where it does for input that is let through
-module _ {A : Type 0} (R : Refusal → A) (Q : A → Type 0) (one : (a b : A) → Q a → Q b → a ≡ b) where
-  pub decided-one : {v : Verdict} (a b : A) → Decided v (λ q. a ≡ R q) (Q a) → Decided v (λ q. b ≡ R q) (Q b) → a ≡ b
-  decided-one a b (through h x) y = one a b x (answered h y)
-  decided-one a b (refused h x) y = x ∙ sym (refused-as _ h y)
 
 -- an answer that is given outright
 given : {A : Type 0} (x : A) (a b : A) → a ≡ x → b ≡ x → a ≡ b

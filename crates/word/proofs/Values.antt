@@ -192,7 +192,7 @@ signed-inj n x y ix iy h = by (decLt x (2 ^ (n - 1))) (decLt y (2 ^ (n - 1)))
     by (no p) (yes q) = absurd (pos-ne-negsuc y (2 ^ n - 1 - x) (sym (signed-low n y q) ∙ sym h ∙ signed-high n x (not-more p) (ix .fits)))
     by (no p) (no q) = omega (arith, ap mag (sym (signed-high n x (not-more p) (ix .fits)) ∙ h ∙ signed-high n y (not-more q) (iy .fits)), ix .fits, iy .fits)
 
-absolute : (s : Bool) (v : ℕ) → natAbs (signedSize s v) ≡ v
+pub absolute : (s : Bool) (v : ℕ) → natAbs (signedSize s v) ≡ v
 unfolding signedSize
 absolute false v = refl
 absolute true zero = refl

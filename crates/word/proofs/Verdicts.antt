@@ -33,7 +33,7 @@ refuses : Verdict → Type 0
 refuses Verdict.Through = ⊥
 refuses (Verdict.Refused q) = Unit {0}
 
-open-when : (b : Bool) (q : Refusal) → cond b Verdict.Through (Verdict.Refused q) ≡ Verdict.Through → b ≡ true
+pub open-when : (b : Bool) (q : Refusal) → cond b Verdict.Through (Verdict.Refused q) ≡ Verdict.Through → b ≡ true
 unfolding refuses
 open-when true q h = refl
 open-when false q h = absurd (subst refuses h tt)
@@ -60,7 +60,7 @@ told-word n w ha hb hv hu = sym (hv ∙ ap₂ (λ (x y : Verdict). x then y) ha 
 pub told-three : {a a' b b' c c' v v' u : Verdict} → a ≡ a' → b ≡ b' → v ≡ (a then b) → c ≡ c' → v' ≡ (v then c) → v' ≡ u → a' then b' then c' ≡ u
 told-three ha hb hv hc hv' hu = sym (hv' ∙ ap₂ (λ (p q : Verdict). p then q) (hv ∙ ap₂ (λ (p q : Verdict). p then q) ha hb) hc) ∙ hu
 
-then-through : (a b : Verdict) → a then b ≡ Verdict.Through → (a ≡ Verdict.Through) × (b ≡ Verdict.Through)
+pub then-through : (a b : Verdict) → a then b ≡ Verdict.Through → (a ≡ Verdict.Through) × (b ≡ Verdict.Through)
 unfolding refuses
 then-through Verdict.Through b h = (refl, h)
 then-through (Verdict.Refused q) b h = absurd (subst refuses h tt)
@@ -109,3 +109,9 @@ pub refused-as : {v : Verdict} {P : Refusal → Type 0} {Q : Type 0} (q : Refusa
 unfolding refuses
 refused-as q h (through e x) = absurd (subst refuses (sym h ∙ e) tt)
 refused-as {P = P} q h (refused e x) = subst P (cc) x
+
+-- a contract that decides by a verdict allows one outcome, where it does for input that is let through
+module _ {A : Type 0} (R : Refusal → A) (Q : A → Type 0) (one : (a b : A) → Q a → Q b → a ≡ b) where
+  pub decided-one : {v : Verdict} (a b : A) → Decided v (λ q. a ≡ R q) (Q a) → Decided v (λ q. b ≡ R q) (Q b) → a ≡ b
+  decided-one a b (through h x) y = one a b x (answered h y)
+  decided-one a b (refused h x) y = x ∙ sym (refused-as _ h y)

@@ -29,10 +29,10 @@ greater x y = by (ltZ x y) (ltZ y x)
     by false true q = refl
     by false false q = absurd (omega (arith, ap natAbs q))
 
-both-positive : (v v' : ℕ) → v ≤ v' → order (pos v) (pos v') ≡ pos 1 → ⊥
+pub both-positive : (v v' : ℕ) → v ≤ v' → order (pos v) (pos v') ≡ pos 1 → ⊥
 both-positive v v' h q = omega (arith, h, ltb-true v' v (greater (pos v) (pos v') q))
 
-both-negative : (v v' : ℕ) → v' ≤ v → order (signedSize true v) (signedSize true v') ≡ pos 1 → ⊥
+pub both-negative : (v v' : ℕ) → v' ≤ v → order (signedSize true v) (signedSize true v') ≡ pos 1 → ⊥
 unfolding signedSize
 both-negative zero v' h q = omega (arith, ltb-true-at v' h q)
   where
@@ -42,7 +42,7 @@ both-negative zero v' h q = omega (arith, ltb-true-at v' h q)
 both-negative (suc i) zero h q = absurd (true≢false (sym (greater (negsuc i) (pos 0) q)))
 both-negative (suc i) (suc j) h q = omega (arith, h, ltb-true i j (greater (negsuc i) (negsuc j) q))
 
-apart : (v v' : ℕ) → order (signedSize true v) (pos v') ≡ pos 1 → ⊥
+pub apart : (v v' : ℕ) → order (signedSize true v) (pos v') ≡ pos 1 → ⊥
 unfolding signedSize
 apart zero v' q = omega (arith, ltb-true v' 0 (greater (pos 0) (pos v') q))
 apart (suc i) v' q = absurd (true≢false (sym (greater (negsuc i) (pos v') q)))

@@ -1,0 +1,55 @@
+-- How much a number that was read counts in 2^-307: its significand with its top bit at 2^63 times a power of two, or less than one. Assumes nothing.
+use mathlib.Core.Path.{_≡_, refl, sym, ap, _∙_, subst}
+use mathlib.Core.Bool.{Bool, true, false, cond}
+use Prim.Native.Nat.{ℕ, zero, suc, _+_, _-_, _*_, _^_, _≤_, _<_}
+use native.Mathlib.Nat.{add-zero, add-suc, mul-one, mul-assoc, zero-mul, mul-pos, lt-of-lt-of-le, lt-of-mul-lt-mul-right, mul-lt-mul-of-pos-right, mul-comm}
+use native.Mathlib.Omega.{arith}
+use borrow.Author.Tests.{ltb-true, ltb-false}
+use lib.Dec.{ltb}
+use lib.IntN.{ℤ, pos, negsuc, _+ℤ_, _-ℤ_, +ℤ-idr}
+use lib.Pow.{pow-pos, pow-mono}
+use Rattle.word.specs.Reads.{num, den, IsSize}
+use Rattle.word.proofs.Integers.{sub-add}
+use Rattle.word.proofs.Powers.{pow-sum}
+use Rattle.word.proofs.Signed.{difference}
+
+-- from one up
+pub amount : (i m p v : ℕ) → p ≤ 63 → IsSize m (pos i -ℤ pos p) v → v ≡ m * 2 ^ (63 - p) * 2 ^ (i + 244)
+unfolding IsSize num den
+amount i m p v short h =
+    sym (subst (λ (z : ℤ). m * num z ≡ v * den z) (sub-add (pos i) (pos p) (pos 307) ∙ difference (i + 307) p (omega (arith, short))) h ∙ mul-one v)
+    ∙ ap (λ (x : ℕ). m * x) (sym (pow-sum (63 - p) (i + 244) (i + 307 - p) (omega (arith, short))))
+    ∙ sym (mul-assoc m (2 ^ (63 - p)) (2 ^ (i + 244)))
+
+-- -(i + 1) less p
+less : (i p : ℕ) → negsuc i -ℤ pos p ≡ negsuc (i + p)
+less i zero = +ℤ-idr (negsuc i) ∙ ap negsuc (sym (add-zero i))
+less i (suc p) = ap negsuc (sym (add-suc i p))
+
+-- 2^-(k + 1), counted in 2^-t
+small : (m k t v : ℕ) → m * num (negsuc k +ℤ pos t) ≡ v * den (negsuc k +ℤ pos t) → v * 2 ^ suc k ≡ m * 2 ^ t
+unfolding num den
+small m k t v = by (ltb t (suc k)) refl
+  where
+    by : (b : Bool) → ltb t (suc k) ≡ b → m * num (cond b (negsuc (suc k - suc t)) (pos (t - suc k))) ≡ v * den (cond b (negsuc (suc k - suc t)) (pos (t - suc k))) → v * 2 ^ suc k ≡ m * 2 ^ t
+    by true q h =
+        ap (λ (x : ℕ). v * x) (sym (pow-sum (suc (suc k - suc t)) t (suc k) (omega (arith, ltb-true t (suc k) q)))) ∙ sym (mul-assoc v (2 ^ suc (suc k - suc t)) (2 ^ t))
+        ∙ ap (λ (x : ℕ). x * 2 ^ t) (sym h ∙ mul-one m)
+    by false q h =
+        ap (λ (x : ℕ). x * 2 ^ suc k) (sym (h ∙ mul-one v)) ∙ mul-assoc m (2 ^ (t - suc k)) (2 ^ suc k)
+        ∙ ap (λ (x : ℕ). m * x) (pow-sum (t - suc k) (suc k) t (omega (arith, ltb-false t (suc k) q)))
+
+-- below one
+pub under-one : (i m p v : ℕ) → 2 ^ p ≤ m → m < 2 ^ (p + 1) → IsSize m (negsuc i -ℤ pos p) v → (0 < v) × (v < 2 ^ 307)
+unfolding IsSize
+under-one i m p v low high h = by (2 ^ 307) (pow-pos 307) (small m (i + p) 307 v (subst (λ (z : ℤ). m * num (z +ℤ pos 307) ≡ v * den (z +ℤ pos 307)) (less i p) h))
+  where
+    room : m < 2 ^ suc (i + p)
+    room = lt-of-lt-of-le high (pow-mono {i = p + 1} {j = suc (i + p)} (omega arith))
+
+    by : (u : ℕ) → 0 < u → v * 2 ^ suc (i + p) ≡ m * u → (0 < v) × (v < u)
+    by u some q = (positive v q, lt-of-mul-lt-mul-right (2 ^ suc (i + p)) (subst (λ (x : ℕ). x < u * 2 ^ suc (i + p)) (sym q) (subst (λ (x : ℕ). m * u < x) (mul-comm (2 ^ suc (i + p)) u) (mul-lt-mul-of-pos-right room some))))
+      where
+        positive : (v : ℕ) → v * 2 ^ suc (i + p) ≡ m * u → 0 < v
+        positive zero q = absurd (omega (arith, q, zero-mul (2 ^ suc (i + p)), mul-pos (lt-of-lt-of-le (pow-pos p) low) some))
+        positive (suc v) q = omega arith

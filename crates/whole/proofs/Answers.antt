@@ -1,0 +1,41 @@
+-- What is answered for a value, once its whole part is known: the range, and then the rule. Assumes nothing.
+use mathlib.Core.Path.{_≡_, refl, ap}
+use mathlib.Core.Bool.{Bool, true, false}
+use Prim.Native.Nat.{ℕ, zero, suc, _*_, _^_, _≤_, _<_}
+use native.Mathlib.Omega.{arith}
+use borrow.Author.Tests.{lt-ltb, le-ltb, le-leb, lt-leb}
+use lib.Dec.{eqb}
+use lib.IntN.{ℤ, natAbs}
+use Rattle.word.specs.declared.refusal.Refusal.{Refusal}
+use Rattle.word.specs.declared.refusal.Verdict.{Verdict}
+use Rattle.word.specs.Refusals.{_then_, through, refused}
+use Rattle.word.specs.Takum.{real}
+use Rattle.word.specs.Reads.{signedSize}
+use Rattle.whole.specs.declared.taking.Taking.{Taking}
+use Rattle.whole.specs.declared.taking.Whole.{Whole}
+use Rattle.whole.specs.Wholes.{IsWholePart, overTest, inexactTest, IsTaken}
+use Rattle.whole.specs.Parts.{greatestSize, byRule}
+
+-- ---- the range
+pub inside : (s : Bool) (i : ℕ) → i ≤ greatestSize s → overTest (signedSize s i) ≡ Verdict.Through
+unfolding overTest signedSize greatestSize
+inside false i h = rw (lt-ltb i (2 ^ 63) (omega (arith, h)))
+inside true zero h = refl
+inside true (suc i) h = rw (le-leb (suc i) (2 ^ 63) h)
+
+pub outside : (s : Bool) (i : ℕ) → greatestSize s < i → overTest (signedSize s i) ≡ Verdict.Refused Refusal.Over
+unfolding overTest signedSize greatestSize
+outside false i h = rw (le-ltb i (2 ^ 63) (omega (arith, h)))
+outside true zero h = absurd (omega (arith, h))
+outside true (suc i) h = rw (lt-leb (suc i) (2 ^ 63) h)
+
+-- ---- the rule
+pub taken-inside : (rule : Taking) (z x : ℤ) (b : Bool) → IsWholePart z x → overTest x ≡ Verdict.Through → b ≡ eqb (natAbs x * 2 ^ 307) (natAbs z) → IsTaken rule (real z) (byRule rule b x)
+unfolding IsTaken byRule inexactTest
+taken-inside Taking.Cut z x b part h q = (x, part, through (ap (λ (v : Verdict). v then Verdict.Through) h) refl)
+taken-inside Taking.Strict z x true part h q = (x, part, through (rw (h, ← q)) refl)
+taken-inside Taking.Strict z x false part h q = (x, part, refused {q = Refusal.Inexact} (rw (h, ← q)) refl)
+
+pub taken-over : (rule : Taking) (z x : ℤ) → IsWholePart z x → overTest x ≡ Verdict.Refused Refusal.Over → IsTaken rule (real z) (Whole.Refused Refusal.Over)
+unfolding IsTaken
+taken-over rule z x part h = (x, part, refused (ap (λ (v : Verdict). v then inexactTest rule z x) h) refl)

@@ -1,0 +1,120 @@
+-- Every whole number up to the exact-count limit has a word, and the limit plus one has none. Assumes nothing.
+use mathlib.Core.Path.{_≡_, sym, ap, _∙_, subst, subst₂}
+use mathlib.Core.Bool.{Bool}
+use Prim.Native.Nat.{ℕ, zero, suc, _+_, _-_, _*_, _^_, _≤_, _<_}
+use native.Mathlib.Nat.{zero-lt-suc, lt-of-mul-lt-mul-right, mul-pos, mul-assoc}
+use native.Mathlib.Numerals.{add-one}
+use native.Mathlib.Omega.{arith}
+use lib.Count.{leadingZeros}
+use lib.Dec.{lit<, lit≤}
+use lib.Pow.{pow-pos}
+use Rattle.word.specs.Widths.{Within, Greatest, greatest, none}
+use Rattle.word.proofs.Powers.{Log, leading-log, pow-sum, shl-below}
+use Rattle.word.proofs.Limits.{below-power, exponent-lt, within, exponent-small}
+use Rattle.word.proofs.Sizes.{size}
+use Rattle.word.proofs.Values.{grown-suc}
+use Rattle.write.specs.Writes.{HasValue}
+use Rattle.write.proofs.Places.{wordOf, Place, has-value, place-of}
+use Rattle.write.proofs.Rules.{zero-value}
+use Rattle.whole.specs.Limits as promise
+use Rattle.whole.proofs.LimitBinades.{beginning, WholeBinade, whole-binade}
+use Rattle.whole.proofs.LimitStrings.{wholeBits, whole-some, whole-below, whole-size}
+use Rattle.whole.proofs.LimitBeyond.{bits-needed}
+
+-- every number but 0 has its logarithm
+log-of : (a : ℕ) → zero < a → (L : ℕ) × Log L a
+log-of a some = (a - 1 - leadingZeros a a, leading-log a a some (below-power a) .1)
+
+-- ---- the rule of the limit's exponent
+at-most : (n : ℕ) {v : ℕ} → Greatest n v → (u : ℕ) → Within n u → u ≤ v
+at-most n (greatest x f) u y = f u y
+at-most n (none f) u y = absurd (f u y)
+
+-- below the greatest every number but 0 is one of the rule
+downward : (n : ℕ) {v : ℕ} → Greatest n v → (u : ℕ) → zero < u → u ≤ v → Within n u
+downward n (greatest x f) u some le = within n u (x .L) some (subst (λ (k : ℕ). u < 2 ^ k) (add-one (x .L)) (omega (arith, le, x .log-high))) (omega (arith, le, x .bound))
+downward n (none f) u some le = absurd (omega (arith, some, le))
+
+module _ (n : ℕ) (lo : 2 ≤ n) (hi : n ≤ 64) where
+  -- ---- up to the limit
+  -- a string that ends in 64 - n zeros is a word's
+  word-of-string : (s : Bool) (w u z : ℕ) → w * 2 ^ (64 - n) ≡ u → zero < w → u < 2 ^ 63 → size u ≡ z → HasValue n s z (wordOf n s w)
+  word-of-string s w u z cut some below is = subst (λ (x : ℕ). HasValue n s x (wordOf n s w)) (grown-suc n w some ∙ ap size cut ∙ is) (has-value n lo hi s w some short)
+    where
+      whole : 2 ^ (n - 1) * 2 ^ (64 - n) ≡ 2 ^ 63
+      whole = pow-sum (n - 1) (64 - n) 63 (omega (arith, lo, hi))
+
+      short : w < 2 ^ (n - 1)
+      short = lt-of-mul-lt-mul-right (2 ^ (64 - n)) (subst₂ (λ (x y : ℕ). x < y) (sym cut) (sym whole) below)
+
+  -- 1 has a word at every width, also where no number is one of the rule
+  one-has-a-word : (s : Bool) → HasValue n s (1 * 2 ^ 307) (wordOf n s (2 ^ (n - 2)))
+  unfolding wholeBits beginning
+  one-has-a-word s =
+      let t = whole-binade 0 0 (record { low = lit≤ tt; high = lit< tt }) (lit< tt) in
+      word-of-string s (2 ^ (n - 2)) (2 ^ 62) (2 ^ 307) (pow-sum (n - 2) (64 - n) 62 (omega (arith, lo, hi))) (pow-pos (n - 2)) (lit< tt) (whole-size 0 0 (t .0) (t .1) 1 (lit≤ tt) (lit≤ tt) (lit≤ tt))
+
+  -- from 2^h to 2^(h + 1), where h + 1 is a number of the rule
+  module _ (h : ℕ) (x : Within n (suc h)) (i : ℕ) (low : 2 ^ h ≤ i) (high : i ≤ 2 ^ suc h) where
+    ρ : ℕ
+    ρ = x .L
+
+    log : Log ρ (suc h)
+    unfolding ρ
+    log = record { low = x .log-low; high = subst (λ (k : ℕ). suc h < 2 ^ k) (add-one (x .L)) (x .log-high) }
+
+    bound : h + ρ + 5 ≤ n
+    unfolding ρ
+    bound = omega (arith, x .bound)
+
+    cut : wholeBits ρ h i * 2 ^ (n - 5 - ρ - h) * 2 ^ (64 - n) ≡ wholeBits ρ h i * 2 ^ (59 - ρ - h)
+    cut = mul-assoc (wholeBits ρ h i) (2 ^ (n - 5 - ρ - h)) (2 ^ (64 - n)) ∙ ap (λ (y : ℕ). wholeBits ρ h i * y) (pow-sum (n - 5 - ρ - h) (64 - n) (59 - ρ - h) (omega (arith, bound, hi)))
+
+    fine : h + ρ ≤ 59
+    fine = omega (arith, bound, hi)
+
+    binade : (K : ℕ) × WholeBinade ρ h K
+    binade = whole-binade ρ h log (omega (arith, bound, hi))
+
+    has-a-word : (s : Bool) → (w : ℕ) × HasValue n s (i * 2 ^ 307) w
+    has-a-word s = (
+      wordOf n s (wholeBits ρ h i * 2 ^ (n - 5 - ρ - h)),
+      word-of-string s (wholeBits ρ h i * 2 ^ (n - 5 - ρ - h)) (wholeBits ρ h i * 2 ^ (59 - ρ - h)) (i * 2 ^ 307) cut (mul-pos (whole-some ρ h (binade .0) (binade .1) i low high fine) (pow-pos (n - 5 - ρ - h)))
+          (whole-below ρ h (binade .0) (binade .1) i low high fine) (whole-size ρ h (binade .0) (binade .1) i low high fine),
+    )
+
+  module _ (v : ℕ) (g : Greatest n v) where
+    -- h is the logarithm of i - 1, so that the limit itself is the end of a binade
+    up-to : (i : ℕ) → i ≤ 2 ^ v → (s : Bool) → (w : ℕ) × HasValue n s (i * 2 ^ 307) w
+    up-to zero le s = (0, zero-value n lo hi s)
+    up-to (suc zero) le s = (wordOf n s (2 ^ (n - 2)), one-has-a-word s)
+    up-to (suc (suc j)) le s =
+        let t = log-of (suc j) (zero-lt-suc j) in
+        has-a-word (t .0) (downward n g (suc (t .0)) (zero-lt-suc (t .0)) (exponent-lt (t .0) v (omega (arith, t .1 .low, le)))) (suc (suc j)) (omega (arith, t .1 .low)) (t .1 .high) s
+
+    -- ---- and one beyond it: v + 1 would be one of the rule
+    beyond : (s : Bool) (w : ℕ) → HasValue n s ((2 ^ v + 1) * 2 ^ 307) w → ⊥
+    beyond s w x = omega (arith, at-most n g (suc v) (within n (suc v) ρ (zero-lt-suc v) (log .high) (omega (arith, needed, hi))))
+      where
+        place : Place n lo hi s ((2 ^ v + 1) * 2 ^ 307) w
+        place = place-of n lo hi s ((2 ^ v + 1) * 2 ^ 307) w (mul-pos {m = 2 ^ v + 1} {n = 2 ^ 307} (omega arith) (pow-pos 307)) x
+
+        ρ : ℕ
+        ρ = log-of (suc v) (zero-lt-suc v) .0
+
+        log : Log ρ (suc v)
+        log = log-of (suc v) (zero-lt-suc v) .1
+
+        binade : (K : ℕ) × WholeBinade ρ v K
+        binade = whole-binade ρ v log (exponent-small n hi g)
+
+        needed : 64 - n + v + ρ ≤ 59
+        needed = bits-needed ρ v (binade .0) log (binade .1) (place .v) (64 - n) (shl-below (n - 1) (64 - n) 63 (place .last) (omega (arith, lo, hi))) (sym (place .size-is ∙ grown-suc n (place .v) (place .first)))
+
+pub every-whole-number-up-to-the-limit-has-a-word : promise.EveryWholeNumberUpToTheLimitHasAWord
+unfolding promise.EveryWholeNumberUpToTheLimitHasAWord
+every-whole-number-up-to-the-limit-has-a-word n l lo hi x i le = up-to n lo hi (x .v) (x .is) i (subst (λ (k : ℕ). i ≤ k) (x .limit) le)
+
+pub the-limit-plus-one-has-no-word : promise.TheLimitPlusOneHasNoWord
+unfolding promise.TheLimitPlusOneHasNoWord
+the-limit-plus-one-has-no-word n l lo hi x s w y = beyond n lo hi (x .v) (x .is) s w (subst (λ (k : ℕ). HasValue n s ((k + 1) * 2 ^ 307) w) (x .limit) y)

@@ -1,0 +1,34 @@
+-- Two outcomes that the contract of a call allows are equal. Assumes nothing.
+use mathlib.Core.Path.{_≡_, sym, _∙_, subst}
+use Prim.Native.Nat.{ℕ, _*_, _^_}
+use native.Mathlib.Nat.{zero-lt-suc}
+use lib.IntN.{ℤ, natAbs}
+use Rattle.word.specs.declared.answer.Answer.{Answer}
+use Rattle.word.specs.Refusals.{_then_, Decided, through, refused}
+use Rattle.word.specs.Takum.{Takum, real, NaR, takum}
+use Rattle.word.proofs.Verdicts.{width-through, answered, refused-as, decided-one}
+use Rattle.write.specs.declared.value.Rule.{Rule}
+use Rattle.write.specs.Writes.{isNegative}
+use Rattle.write.proofs.Rounding.{written-one}
+use Rattle.whole.specs.declared.taking.Taking.{Taking}
+use Rattle.whole.specs.declared.taking.Whole.{Whole}
+use Rattle.whole.specs.Wholes.{overTest, inexactTest, IsTaken, WritesWhole, TakesWhole}
+use Rattle.whole.proofs.WholeParts.{one-whole-part}
+
+pub writes-whole-one : (n : ℕ) (rule : Rule) (x : ℤ) (a b : Answer) → WritesWhole n rule x a → WritesWhole n rule x b → a ≡ b
+unfolding WritesWhole
+writes-whole-one n rule x a b (through h y) z =
+    let t = width-through n h in
+    written-one n (t .0) (t .1) rule (isNegative x) (natAbs x * 2 ^ 307) 1 a b (zero-lt-suc 0) y (answered h z)
+writes-whole-one n rule x a b (refused h y) z = y ∙ sym (refused-as _ h z)
+
+pub taken-one : (rule : Taking) (t : Takum) (a b : Whole) → IsTaken rule t a → IsTaken rule t b → a ≡ b
+unfolding IsTaken
+taken-one rule NaR a b p q = p ∙ sym q
+taken-one rule (real z) a b (x, part, p) (y, other, q) =
+    decided-one Whole.Refused (λ w. w ≡ Whole.Is x) (λ v w r s. r ∙ sym s) a b p
+    (subst (λ (x : ℤ). Decided (overTest x then inexactTest rule z x) (λ r. b ≡ Whole.Refused r) (b ≡ Whole.Is x)) (one-whole-part z y x other part) q)
+
+pub takes-whole-one : (n : ℕ) (rule : Taking) (w : ℕ) (a b : Whole) → TakesWhole n rule w a → TakesWhole n rule w b → a ≡ b
+unfolding TakesWhole
+takes-whole-one n rule w = decided-one Whole.Refused (IsTaken rule (takum n w)) (taken-one rule (takum n w))

@@ -1,0 +1,45 @@
+-- What is known where a whole number was taken out of a word: it is the whole part of the word's value, and no test refused it. Assumes nothing.
+use mathlib.Core.Path.{_≡_, refl, sym, ap, subst}
+use Prim.Native.Nat.{ℕ}
+use lib.IntN.{ℤ}
+use Rattle.word.specs.declared.refusal.Verdict.{Verdict}
+use Rattle.word.specs.Refusals.{_then_, IsWord, through, refused}
+use Rattle.word.specs.Takum.{Takum, real, NaR, takum}
+use Rattle.word.proofs.Verdicts.{word-through}
+use Rattle.whole.specs.declared.taking.Taking.{Taking}
+use Rattle.whole.specs.declared.taking.Whole.{Whole}
+use Rattle.whole.specs.Wholes.{IsWholePart, overTest, inexactTest, IsTaken, TakesWhole}
+
+pub record TakenOut (n : ℕ) (rule : Taking) (w : ℕ) (x : ℤ) : Type 0 where
+  pub word : IsWord n w
+  pub z : ℤ
+  pub means : takum n w ≡ real z
+  pub part : IsWholePart z x
+  pub allowed : overTest x then inexactTest rule z x ≡ Verdict.Through
+
+-- an answer that gives a whole number isn't a refusal
+gives-whole : Whole → Type 0
+gives-whole (Whole.Is x) = Unit {0}
+gives-whole (Whole.Refused q) = ⊥
+
+whole-of : Whole → ℤ → ℤ
+whole-of (Whole.Is x) other = x
+whole-of (Whole.Refused q) other = other
+
+pub taken-out : (n : ℕ) (rule : Taking) (w : ℕ) (x : ℤ) → TakesWhole n rule w (Whole.Is x) → TakenOut n rule w x
+unfolding TakesWhole IsTaken gives-whole whole-of
+taken-out n rule w x (refused h q) = absurd (subst gives-whole q tt)
+taken-out n rule w x (through h y) = by (takum n w) refl y
+  where
+    by : (t : Takum) → takum n w ≡ t → IsTaken rule t (Whole.Is x) → TakenOut n rule w x
+    by NaR e q = absurd (subst gives-whole q tt)
+    by (real z) e (y, part, refused v q) = absurd (subst gives-whole q tt)
+    by (real z) e (y, part, through v q) =
+        let same : y ≡ x = sym (ap (λ (a : Whole). whole-of a x) q) in
+        record {
+          word = word-through n w h;
+          z = z;
+          means = e;
+          part = subst (IsWholePart z) same part;
+          allowed = subst (λ (x : ℤ). overTest x then inexactTest rule z x ≡ Verdict.Through) same v;
+        }

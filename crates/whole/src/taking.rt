@@ -1,0 +1,91 @@
+// A whole number out: the whole part of what a word means, cut or strict.
+use word::reading::Reading;
+use word::reading::read;
+use word::refusal::Refusal;
+use word::width::Width;
+ghost use mathlib.Core.Path.{_≡_};
+ghost use Prim.Native.Nat.{_+_, _^_, _≤_, _<_};
+ghost use Rattle.word.specs.Reads.{signedSize};
+ghost use Rattle.whole.specs.Wholes.{TakesWhole};
+ghost use Rattle.whole.specs.Parts.{greatestSize, byRule, TakesNumber};
+
+// Cut drops the fraction toward zero, strict refuses a value that has one.
+pub enum Taking {
+    Cut,
+    Strict,
+}
+
+pub enum Whole {
+    Is(i64),
+    Refused(Refusal),
+}
+
+// The whole part of the word's value, where it falls inside signed 64 bits.
+pub fn take_whole(width: Width, rule: Taking, word: u64) -> Whole
+    ensures { λ a. ⌜ TakesWhole (width .bits) rule word a ⌝ }
+{
+    match read(width, word) {
+        Reading::Zero => Whole::Is(0),
+        Reading::NotReal => Whole::Refused(Refusal::NotReal),
+        Reading::Number { negative, h, m, p } => take_number(rule, negative, h, m, p),
+        Reading::Refused(q) => Whole::Refused(q),
+    }
+}
+
+// The whole part of the size m * 2^(h - p) with its sign, 2^p <= m < 2^(p + 1).
+fn take_number(rule: Taking, negative: bool, h: i32, m: u64, p: u32) -> Whole
+    requires { ⌜ (p ≤ 63) × (2 ^ p ≤ m) × (m < 2 ^ (p + 1)) ⌝ }
+    ensures { λ a. ⌜ TakesNumber rule negative h m p a ⌝ }
+{
+    // Below one the whole part is zero.
+    if h < 0 {
+        return by_rule(rule, false, 0);
+    }
+    if 63 < h {
+        return Whole::Refused(Refusal::Over);
+    }
+    // The size is full * 2^(h - 63), so the lowest 63 - h bits are the fraction.
+    let full = m << (63 - p);
+    let fraction = 63 - h as u32;
+    let size = full >> fraction;
+    if greatest_size(negative) < size {
+        return Whole::Refused(Refusal::Over);
+    }
+    by_rule(rule, size << fraction == full, with_sign(negative, size))
+}
+
+// The greatest size of a signed 64-bit number.
+fn greatest_size(negative: bool) -> u64
+    ensures { λ r. ⌜ r ≡ greatestSize negative ⌝ }
+{
+    if negative {
+        return 1 << 63;
+    }
+    (1 << 63) - 1
+}
+
+// A whole number of its sign and size; 2^63 itself is no i64, so one is taken off before the sign is set.
+fn with_sign(negative: bool, size: u64) -> i64
+    requires { ⌜ (0 < size) × (size ≤ greatestSize negative) ⌝ }
+    ensures { λ x. ⌜ x ≡ signedSize negative size ⌝ }
+{
+    if negative {
+        return -1 - (size - 1) as i64;
+    }
+    size as i64
+}
+
+// What the rule answers where the whole part is x, and the value is exactly x or has a fraction beside it.
+fn by_rule(rule: Taking, exactly: bool, x: i64) -> Whole
+    ensures { λ a. ⌜ a ≡ byRule rule exactly x ⌝ }
+{
+    match rule {
+        Taking::Cut => Whole::Is(x),
+        Taking::Strict => {
+            if exactly {
+                return Whole::Is(x);
+            }
+            Whole::Refused(Refusal::Inexact)
+        }
+    }
+}

@@ -1,0 +1,32 @@
+// A whole number in: written as a word, rounded or strict.
+use word::answer::Answer;
+use word::width::Width;
+use write::value::Rule;
+use write::value::Value;
+use write::writing::write;
+ghost use mathlib.Core.Path.{_≡_};
+ghost use lib.IntN.{natAbs};
+ghost use Rattle.whole.specs.Wholes.{WritesWhole};
+
+// The word for a whole number: the nearest, or exactly that number or INEXACT.
+pub fn write_whole(width: Width, rule: Rule, x: i64) -> Answer
+    ensures { λ r. ⌜ WritesWhole (width .bits) rule x r ⌝ }
+{
+    let value = Value {
+        negative: x < 0,
+        m: size(x),
+        k: 0,
+    };
+    write(width, rule, value)
+}
+
+// How large a whole number is without its sign; -2^63 has no opposite in 64 bits, so -1 - x is taken first.
+fn size(x: i64) -> u64
+    ensures { λ r. ⌜ r ≡ natAbs x ⌝ }
+{
+    if x < 0 {
+        let less = -1 - x;
+        return less as u64 + 1;
+    }
+    x as u64
+}

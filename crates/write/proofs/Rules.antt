@@ -59,7 +59,7 @@ module _ (n : ℕ) (lo : 2 ≤ n) (hi : n ≤ 64) (h : ℤ) (m w : ℕ) (near : 
   strict-refusal s inexact = λ a b nonzero some offered. (refl, none-exact n lo hi a b nonzero some w (near a b some offered) (inexact a b some offered) s)
 
 -- a size that isn't nothing, in any unit
-size-some : (m v : ℕ) (e : ℤ) → 0 < m → m * num e ≡ v * den e → 0 < v
+pub size-some : (m v : ℕ) (e : ℤ) → 0 < m → m * num e ≡ v * den e → 0 < v
 size-some m zero e h q = absurd (omega (arith, q, zero-mul (den e), mul-pos h (unit-some e .0)))
 size-some m (suc i) e h q = omega arith
 

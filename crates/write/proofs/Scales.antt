@@ -81,7 +81,7 @@ module _ (m : ℕ) (k : ℤ) (a b : ℕ) (some : zero < b) (offered : IsOffered 
       (sym both ∙ ap (λ (y : ℕ). y * den (k +ℤ pos 307)) (sym q) ∙ mul-right-comm z b (den (k +ℤ pos 307)))
 
 -- ---- both parts of a fraction times d
-pub distance-times : (a x d : ℕ) → distance (a * d) (x * d) ≡ distance a x * d
+distance-times : (a x d : ℕ) → distance (a * d) (x * d) ≡ distance a x * d
 distance-times a x d = ⊎-elim low high (either-side a x)
   where
     less : (i j : ℕ) → i * d - j * d ≡ (i - j) * d

@@ -17,6 +17,7 @@ use Rattle.word.specs.Cuts.{Cuts}
 use Rattle.word.specs.Widths.{Greatest, greatest, none, IsLimit, Makes, GivesWord, GivesLimit}
 use Rattle.word.specs.Reads.{num, den, IsReading, Reads}
 use Rattle.word.specs.Orders.{signed, order, negated, Compares, Negates}
+use Rattle.word.proofs.Answers.{wordOf, GivesAWord}
 use Rattle.word.proofs.Verdicts.{width-through, move-through, answered, refused-as, decided-one}
 use Rattle.word.proofs.Binades.{reading-one}
 use Rattle.write.specs.declared.value.Rule.{Rule}
@@ -98,22 +99,14 @@ moves-one n n' rule w a b (through h x) y =
 moves-one n n' rule w a b (refused h x) y = x ∙ sym (refused-as _ h y)
 
 -- ---- a chain of strict moves
-word-of : Answer → ℕ
-word-of (Answer.Word w) = w
-word-of (Answer.Refused q) = 0
-
-is-word : Answer → Type 0
-is-word (Answer.Word w) = Unit {0}
-is-word (Answer.Refused q) = ⊥
-
 goes-one : (home : ℕ) (ns : List ℕ) (n w : ℕ) (a b : Answer) → Goes home n w ns a → Goes home n w ns b → a ≡ b
-unfolding Goes word-of is-word
+unfolding Goes wordOf GivesAWord
 goes-one home [] n w a b x y = moves-one n home Rule.Strict w a b x y
 goes-one home (n' ∷ ns) n w a b (inl x) (inl y) =
-    let same = ap word-of (moves-one n n' Rule.Strict w (Answer.Word (x .0)) (Answer.Word (y .0)) (x .1) (y .1)) in
+    let same = ap wordOf (moves-one n n' Rule.Strict w (Answer.Word (x .0)) (Answer.Word (y .0)) (x .1) (y .1)) in
     goes-one home ns n' (y .0) a b (subst (λ (v : ℕ). Goes home n' v ns a) same (x .2)) (y .2)
-goes-one home (n' ∷ ns) n w a b (inl x) (inr y) = absurd (subst is-word (moves-one n n' Rule.Strict w (Answer.Word (x .0)) (Answer.Refused (y .0)) (x .1) (y .1)) tt)
-goes-one home (n' ∷ ns) n w a b (inr x) (inl y) = absurd (subst is-word (moves-one n n' Rule.Strict w (Answer.Word (y .0)) (Answer.Refused (x .0)) (y .1) (x .1)) tt)
+goes-one home (n' ∷ ns) n w a b (inl x) (inr y) = absurd (subst GivesAWord (moves-one n n' Rule.Strict w (Answer.Word (x .0)) (Answer.Refused (y .0)) (x .1) (y .1)) tt)
+goes-one home (n' ∷ ns) n w a b (inr x) (inl y) = absurd (subst GivesAWord (moves-one n n' Rule.Strict w (Answer.Word (y .0)) (Answer.Refused (x .0)) (y .1) (x .1)) tt)
 goes-one home (n' ∷ ns) n w a b (inr x) (inr y) = x .2 ∙ moves-one n n' Rule.Strict w (Answer.Refused (x .0)) (Answer.Refused (y .0)) (x .1) (y .1) ∙ sym (y .2)
 
 pub comes-home-one : (n w : ℕ) (ns : List ℕ) (a b : Answer) → ComesHome n w ns a → ComesHome n w ns b → a ≡ b

@@ -17,6 +17,7 @@ use Rattle.word.specs.Refusals.{widthTest, strayTest, _then_, IsWord, through, 
 use Rattle.word.specs.Widths.{narWord, largest, smallest}
 use Rattle.word.specs.Reads.{num, den, IsSize, IsReading, Reads}
 use Rattle.word.specs.Orders.{negated}
+use Rattle.word.proofs.Answers.{GivesAWord}
 use Rattle.word.proofs.Verdicts.{width-fits, width-through, stray-fits, word-passes, move-passes, move-through, answered}
 use Rattle.word.proofs.Values.{grown, words-differ}
 use Rattle.word.proofs.Words.{zeros-appended}
@@ -107,15 +108,10 @@ pub a-words-value-is-written-as-the-word : promise.AWordsValueIsWrittenAsTheWord
 unfolding promise.AWordsValueIsWrittenAsTheWord
 a-words-value-is-written-as-the-word n rule v w r lo hi x y = exact-written n lo hi rule (v .negative) (numerator v) (denominator v) w r (some-denominator v) x (written n rule v r lo hi y)
 
--- an answer that gives a word isn't a refusal
-given : Answer → Type 0
-given (Answer.Word w) = Unit {0}
-given (Answer.Refused q) = ⊥
-
 pub strict-writing-keeps-the-value : promise.StrictWritingKeepsTheValue
-unfolding promise.StrictWritingKeepsTheValue Writes IsWritten IsSize given
+unfolding promise.StrictWritingKeepsTheValue Writes IsWritten IsSize GivesAWord
 strict-writing-keeps-the-value n v w (through h x) = (x .is .word, x .z, x .is .means, sym (x .same))
-strict-writing-keeps-the-value n v w (refused h q) = absurd (subst given q tt)
+strict-writing-keeps-the-value n v w (refused h q) = absurd (subst GivesAWord q tt)
 
 pub strict-refuses-only-where-there-is-no-word : promise.StrictRefusesOnlyWhereThereIsNoWord
 unfolding promise.StrictRefusesOnlyWhereThereIsNoWord IsWritten
@@ -163,13 +159,13 @@ unfolding promise.AWordWithTheValueIsGiven
 a-word-with-the-value-is-given n n' w w' rule r i i' same x = moved-to-the-same n n' w w' rule r i i' same x
 
 pub strict-moves-refuse-only-where-there-is-no-word : promise.StrictMovesRefuseOnlyWhereThereIsNoWord
-unfolding promise.StrictMovesRefuseOnlyWhereThereIsNoWord Moves IsMoved IsWritten given
+unfolding promise.StrictMovesRefuseOnlyWhereThereIsNoWord Moves IsMoved IsWritten GivesAWord
 strict-moves-refuse-only-where-there-is-no-word n n' w q i lo hi x =
-    (by (takum n w) (answered (move-passes n n' w i lo hi) x), λ w' i' same. subst given (sym (moved-to-the-same n n' w w' Rule.Strict (Answer.Refused q) i i' same x)) tt)
+    (by (takum n w) (answered (move-passes n n' w i lo hi) x), λ w' i' same. subst GivesAWord (sym (moved-to-the-same n n' w w' Rule.Strict (Answer.Refused q) i i' same x)) tt)
   where
     by : (t : Takum) → IsMoved n' Rule.Strict t (Answer.Refused q) → q ≡ Refusal.Inexact
     by (real z) y = y .0
-    by NaR y = absurd (subst given (sym y) tt)
+    by NaR y = absurd (subst GivesAWord (sym y) tt)
 
 pub NaR-moves-to-NaR : promise.NaRMovesToNaR
 unfolding promise.NaRMovesToNaR Moves IsMoved
@@ -200,13 +196,13 @@ chains-come-home n w ns m v r i x y =
 
 -- ---- the chain as a function goes through it
 goes-keeps : (home : ℕ) (ns : List ℕ) (n w v : ℕ) → Goes home n w ns (Answer.Word v) → Kept n home w v
-unfolding Goes given
+unfolding Goes GivesAWord
 goes-keeps home [] n w v x = strict-keeps n home w v x
 goes-keeps home (n' ∷ ns) n w v (inl x) =
     let k = strict-keeps n n' w (x .0) (x .1) in
     let l = goes-keeps home ns n' (x .0) v (x .2) in
     record { from = k .from; to = l .to; same = l .same ∙ k .same }
-goes-keeps home (n' ∷ ns) n w v (inr x) = absurd (subst given (x .2) tt)
+goes-keeps home (n' ∷ ns) n w v (inr x) = absurd (subst GivesAWord (x .2) tt)
 
 pub goes-home : (n w : ℕ) (ns : List ℕ) (r : Answer) → Goes n n w ns r → ComesHome n w ns r
 goes-home n w ns r x =

@@ -21,14 +21,15 @@ use Rattle.write.proofs.Exponents.{unit-some}
 use Rattle.write.proofs.Scales.{plain-offer, written-times}
 use Rattle.write.proofs.Signs.{signed-nearest, nearest-positive, signed-exact, none-exact}
 
+-- zero has no sign
+pub no-sign : (s : Bool) → signedSize s 0 ≡ pos 0
+unfolding signedSize
+no-sign false = refl
+no-sign true = refl
+
 -- zero is the zero word by either rule, whichever its sign
 pub zero-value : (n : ℕ) → 2 ≤ n → n ≤ 64 → (s : Bool) → HasValue n s 0 0
-unfolding signedSize
 zero-value n lo hi s = record { word = record { least = lo; most = hi; fits = pow-pos n }; means = takum-zero n ∙ ap real (sym (no-sign s)) }
-  where
-    no-sign : (s : Bool) → signedSize s 0 ≡ pos 0
-    no-sign false = refl
-    no-sign true = refl
 
 pub zero-written : (n : ℕ) → 2 ≤ n → n ≤ 64 → (rule : Rule) (s : Bool) (a b : ℕ) → a ≡ 0 → IsWritten n rule s a b (Answer.Word 0)
 unfolding IsWritten

@@ -1,12 +1,10 @@
 -- The promises that specs/Numbers.antt states, from the laws of whole numbers and of binary64. Assumes nothing.
-use mathlib.Core.Path.{_≡_, sym, ap, _∙_, subst}
-use Prim.Native.Nat.{ℕ, _+_, _*_, _^_, _≤_}
+use mathlib.Core.Path.{sym, ap, subst}
+use Prim.Native.Nat.{ℕ, _*_, _^_, _≤_}
 use native.Mathlib.Nat.{zero-lt-suc}
-use lib.IntN.{ℤ, natAbs}
+use lib.IntN.{natAbs}
 use lib.Ieee.{neg}
 use Rattle.word.specs.Orders.{negated}
-use Rattle.word.specs.declared.answer.Answer.{Answer}
-use Rattle.word.specs.declared.refusal.Refusal.{Refusal}
 use Rattle.word.specs.declared.width.Limit.{Limit}
 use Rattle.word.specs.Refusals.{through, refused}
 use Rattle.word.specs.Widths.{IsLimit, GivesLimit}
@@ -14,7 +12,7 @@ use Rattle.word.proofs.Verdicts.{width-fits, width-through, answered}
 use Rattle.write.specs.declared.value.Rule.{Rule}
 use Rattle.write.specs.Writes.{HasValue, isNegative, IsWritten}
 use Rattle.whole.specs.Wholes.{WritesWhole}
-use Rattle.whole.specs.Limits.{EveryWholeNumberUpToTheLimitHasAWord, TheLimitPlusOneHasNoWord, StrictWritingUpToTheLimitIsNeverRefused, StrictWritingOfTheLimitPlusOneIsInexact}
+use Rattle.whole.specs.Limits.{TheLimitPlusOneHasNoWord, StrictWritingUpToTheLimitIsNeverRefused, StrictWritingOfTheLimitPlusOneIsInexact}
 use Rattle.whole.proofs.LimitWords.{the-limit-plus-one-has-no-word}
 use Rattle.whole.proofs.LimitWriting.{strict-writing-up-to-the-limit-is-never-refused, strict-writing-of-the-limit-plus-one-is-inexact}
 use Rattle.whole.proofs.WholeValues.{valueOf}

@@ -1,29 +1,28 @@
 -- The demands that specs/Writing.antt states, from the laws of writing. Assumes nothing.
 use mathlib.Core.Path.{_≡_, refl, sym, ap, ap₂, _∙_, subst}
-use mathlib.Core.Bool.{Bool, false, not}
+use mathlib.Core.Bool.{false, not}
 use mathlib.Core.List.{List, [], _∷_}
 use mathlib.Core.Logic.{inl, inr}
-use Prim.Native.Nat.{ℕ, zero, suc, _-_, _*_, _^_, _≤_, _<_}
-use native.Mathlib.Nat.{mul-pos, zero-mul}
+use Prim.Native.Nat.{ℕ, zero, _-_, _^_, _≤_, _<_}
+use native.Mathlib.Nat.{mul-pos}
 use native.Mathlib.Omega.{arith}
 use lib.IntN.{ℤ, pos, _+ℤ_, _-ℤ_}
 use lib.Pow.{pow-mono}
 use Rattle.word.specs.declared.answer.Answer.{Answer}
-use Rattle.word.specs.declared.reading.Reading.{Reading}
 use Rattle.word.specs.declared.refusal.Refusal.{Refusal}
 use Rattle.word.specs.Takum.{Takum, real, NaR, takum}
 use Rattle.word.specs.declared.refusal.Verdict.{Verdict}
 use Rattle.word.specs.Refusals.{widthTest, strayTest, _then_, IsWord, through, refused}
 use Rattle.word.specs.Widths.{narWord, largest, smallest}
-use Rattle.word.specs.Reads.{num, den, IsSize, IsReading, Reads}
+use Rattle.word.specs.Reads.{IsSize, IsReading, Reads}
 use Rattle.word.specs.Orders.{negated}
 use Rattle.word.proofs.Answers.{GivesAWord}
-use Rattle.word.proofs.Verdicts.{width-fits, width-through, stray-fits, word-passes, move-passes, move-through, answered}
+use Rattle.word.proofs.Verdicts.{width-fits, stray-fits, word-passes, move-passes, move-through, answered}
 use Rattle.word.proofs.Values.{grown, words-differ}
 use Rattle.word.proofs.Words.{zeros-appended}
 use Rattle.write.specs.declared.value.Rule.{Rule}
 use Rattle.write.specs.declared.value.Value.{Value}
-use Rattle.write.specs.Writes.{Nearest, IsRounded, zero, other, IsExact, IsWritten, IsMoved, Writes, Moves}
+use Rattle.write.specs.Writes.{Nearest, IsRounded, zero, other, IsWritten, IsMoved, Writes, Moves}
 use Rattle.write.specs.Offers.{withSign}
 use Rattle.write.proofs.Exponents.{unit-some}
 use Rattle.write.proofs.Places.{wordOf, has-value}

@@ -2,17 +2,16 @@
 use mathlib.Core.Path.{_≡_, refl, sym, ap, _∙_, subst}
 use mathlib.Core.Bool.{false}
 use Prim.Native.Nat.{ℕ, zero, suc, _+_, _-_, _*_, _/_, _%_, _^_, _≤_, _<_}
-use native.Mathlib.Nat.{mul-one, add-mul, mul-le-mul-right, mul-le-mul-left, mul-le-mul, le-trans, le-of-eq, le-of-lt, lt-of-lt-of-le, lt-of-le-of-lt, lt-of-mul-lt-mul-right, zero-lt-suc, mul-assoc, mul-right-comm, mul-pos, one-mul, le-add-right}
+use native.Mathlib.Nat.{mul-one, add-mul, mul-le-mul-right, mul-le-mul, le-trans, le-of-eq, le-of-lt, lt-of-lt-of-le, lt-of-le-of-lt, lt-of-mul-lt-mul-right, zero-lt-suc, mul-assoc, mul-right-comm, mul-pos, one-mul, le-add-right}
 use native.Mathlib.Numerals.{add-one}
 use native.Mathlib.Omega.{arith}
-use lib.Dec.{lit<, lit≤}
-use lib.IntN.{ℤ, pos, negsuc, _+ℤ_, _-ℤ_}
+use lib.IntN.{ℤ, pos, negsuc, _-ℤ_}
 use lib.Pow.{pow-pos, pow-mono, shr-lt}
 use Rattle.word.specs.Takum.{S}
 use Rattle.word.specs.Reads.{num, den}
 use Rattle.word.proofs.Powers.{pow-sum, shl-below, shr-none}
 use Rattle.word.proofs.Sizes.{size, size-above, size-below}
-use Rattle.word.proofs.Values.{grown, grown-suc, grown-lt}
+use Rattle.word.proofs.Values.{grown, grown-suc}
 use Rattle.write.specs.declared.size.Rest.{Rest}
 use Rattle.write.specs.declared.size.Side.{Side}
 use Rattle.write.specs.declared.size.Start.{Start}

@@ -1,18 +1,15 @@
 -- The laws of moves: a word is moved to the word with its value where there is one, and a strict move gives no other. Assumes nothing.
 use mathlib.Core.Path.{_≡_, refl, sym, ap, _∙_, subst}
-use mathlib.Core.Bool.{Bool, true, false}
-use Prim.Native.Nat.{ℕ, suc, _+_, _-_, _*_, _^_, _≤_, _<_}
+use Prim.Native.Nat.{ℕ, _+_, _-_, _*_, _^_, _≤_, _<_}
 use native.Mathlib.Nat.{mul-one}
 use native.Mathlib.Omega.{arith}
 use lib.IntN.{ℤ, pos, negsuc, natAbs}
 use lib.Pow.{pow-pos}
 use Rattle.word.specs.Takum.{Takum, real, NaR, takum}
 use Rattle.word.specs.Reads.{signedSize}
-use Rattle.word.specs.Refusals.{widthTest, strayTest, _then_, IsWord, Decided, through, refused}
+use Rattle.word.specs.Refusals.{IsWord, through, refused}
 use Rattle.word.specs.Widths.{narWord}
 use Rattle.word.specs.declared.answer.Answer.{Answer}
-use Rattle.word.specs.declared.refusal.Refusal.{Refusal}
-use Rattle.word.specs.declared.refusal.Verdict.{Verdict}
 use Rattle.word.proofs.Answers as Answers
 use Rattle.word.proofs.Answers.{GivesAWord}
 use Rattle.word.proofs.Verdicts.{move-passes, move-through, width-through, answered}
@@ -20,7 +17,7 @@ use Rattle.word.proofs.Values.{NaR-word}
 use Rattle.word.proofs.Words.{takum-NaR, zeros-appended}
 use Rattle.word.proofs.Powers.{pow-sum, shl-below}
 use Rattle.write.specs.declared.value.Rule.{Rule}
-use Rattle.write.specs.Writes.{HasValue, IsExact, IsWritten, isNegative, IsMoved, Moves}
+use Rattle.write.specs.Writes.{IsExact, IsWritten, isNegative, IsMoved, Moves}
 use Rattle.write.proofs.Rounding.{exact-written}
 
 -- a whole number is its sign and its size

@@ -1,21 +1,19 @@
 -- Rounding keeps the order of values: a value that is not greater has a word that is not greater. Assumes nothing.
-use mathlib.Core.Path.{_≡_, refl, sym, ap, ap₂, _∙_, subst, subst₂}
+use mathlib.Core.Path.{_≡_, refl, sym, ap, ap₂, _∙_}
 use mathlib.Core.Bool.{Bool, true, false, true≢false, cond}
 use Prim.Native.Nat.{ℕ, zero, suc, _-_, _*_, _^_, _≤_, _<_, zero-le}
 use native.Mathlib.Nat.{zero-mul, mul-pos, lt-of-not-le, le-of-eq, le-trans}
 use native.Mathlib.Decide.{decLe}
 use native.Mathlib.Omega.{arith}
 use borrow.Author.Tests.{ltb-true}
-use lib.Dec.{ltb}
 use lib.IntN.{ℤ, pos, negsuc, natAbs, pos-ne-negsuc}
 use lib.Pow.{pow-pos}
 use lib.Signed.{ltZ}
 use Rattle.word.specs.Orders.{signed, order}
 use Rattle.word.specs.Reads.{signedSize}
-use Rattle.word.proofs.Powers.{pow-sum}
 use Rattle.word.proofs.Signed.{signed-low, signed-high}
 use Rattle.word.proofs.Values.{grown, grown-lt}
-use Rattle.write.specs.Writes.{Nearest, IsRounded, zero, other, AtMost}
+use Rattle.write.specs.Writes.{IsRounded, zero, other, AtMost}
 use Rattle.write.proofs.Nearest.{NearestPlace, place-order}
 use Rattle.write.proofs.Rules.{no-sign}
 use Rattle.write.proofs.Places.{twice, wordOf, from-word}

@@ -3,15 +3,13 @@
 use mathlib.Core.Path.{_≡_, refl, sym, ap, _∙_, subst}
 use mathlib.Core.Bool.{Bool, true, false}
 use mathlib.Core.Logic.{_⊎_, inl, inr, ⊎-elim}
-use Prim.Native.Nat.{ℕ, zero, suc, _-_, _*_, _%_, _^_, _≤_, _<_, zero-le}
-use native.Mathlib.Nat.{lt-irrefl, lt-of-le-of-lt, lt-of-lt-of-le}
+use Prim.Native.Nat.{ℕ, zero, _-_, _*_, _%_, _^_, _≤_, _<_, zero-le}
+use native.Mathlib.Nat.{lt-irrefl, lt-of-le-of-lt}
 use native.Mathlib.Omega.{arith}
-use lib.IntN.{ℤ, pos, negℤ, natAbs}
-use lib.Dec.{lit<}
+use lib.IntN.{pos, negℤ, natAbs}
 use lib.Pow.{pow-pos, pow-mono}
 use Rattle.word.specs.Takum.{takum, real}
 use Rattle.word.specs.Reads.{signedSize}
-use Rattle.word.specs.Refusals.{IsWord}
 use Rattle.word.proofs.Powers.{pow-sum}
 use Rattle.word.proofs.Sizes.{size}
 use Rattle.word.proofs.Words.{Lies, at-zero, above, at-NaR, under, lies, takum-zero, takum-positive, takum-NaR, takum-negative}

@@ -6,20 +6,15 @@ use Prim.Native.Nat.{ℕ, zero, suc, _+_, _-_, _*_, _%_, _^_, _≤_, _<_}
 use native.Mathlib.Nat.{zero-mul, lt-of-not-le, eq-of-mul-eq-mul-right, add-mul, mul-le-mul-right, le-of-lt, le-of-eq, le-trans, eq-or-lt-of-le}
 use native.Mathlib.Decide.{decLe}
 use native.Mathlib.Omega.{arith}
-use lib.Pow.{pow-mono}
 use Rattle.word.specs.Orders.{negated}
 use Rattle.word.specs.declared.answer.Answer.{Answer}
-use Rattle.word.proofs.Powers.{pow-sum}
 use Rattle.word.proofs.Signed.{negated-zero, negated-other}
-use Rattle.word.proofs.Values.{grown, grown-lt, words-differ}
-use Rattle.word.proofs.Words.{takum-zero}
-use Rattle.word.specs.Takum.{takum, real}
+use Rattle.word.proofs.Values.{grown, words-differ}
+use Rattle.word.specs.Takum.{real}
 use Rattle.word.specs.Reads.{signedSize}
-use Rattle.word.specs.Refusals.{IsWord}
 use Rattle.write.specs.declared.value.Rule.{Rule}
 use Rattle.write.specs.Writes.{HasValue, Nearest, IsRounded, zero, other, IsExact, IsWritten}
-use Rattle.write.specs.Offers.{withSign}
-use Rattle.write.proofs.Nearest.{NearestPlace, at-first, at-last, midway}
+use Rattle.write.proofs.Nearest.{at-first, at-last, midway}
 use Rattle.write.proofs.Places.{increasing, two, twice, wordOf, Place, place-of, value-is, to-word, from-word, nearest-exists, nearest-one}
 use Rattle.write.proofs.Rules.{zero-value}
 use Rattle.write.proofs.Signs.{exact-nearest}

@@ -15,7 +15,7 @@ use Rattle.word.specs.declared.refusal.Refusal.{Refusal}
 use Rattle.word.proofs.Words.{takum-zero}
 use Rattle.write.specs.declared.value.Rule.{Rule}
 use Rattle.write.specs.declared.size.Rest.{Rest}
-use Rattle.write.specs.Writes.{HasValue, Nearest, IsRounded, zero, other, IsExact, IsWritten, isNegative, IsMoved}
+use Rattle.write.specs.Writes.{HasValue, Nearest, zero, other, IsWritten, isNegative, IsMoved}
 use Rattle.write.specs.Offers.{Amounts, IsOffered, IsNearest, TellsExact, withSign, WritesSize}
 use Rattle.write.proofs.Exponents.{unit-some}
 use Rattle.write.proofs.Scales.{plain-offer, written-times}

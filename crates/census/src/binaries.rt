@@ -9,7 +9,7 @@ use crate::digest::scramble;
 use crate::line::print_of_width;
 use crate::numbers::INFINITY;
 use crate::numbers::NAN;
-use crate::patterns::drawn_near;
+use crate::patterns::drawn_of_words;
 use crate::patterns::drawn_pattern;
 use crate::patterns::pattern_out;
 use crate::runs::Run;
@@ -18,30 +18,33 @@ use crate::ways::word_or;
 use word::width::Width;
 ghost use Prim.Native.Nat.{_≤_};
 
-// Part 23. A draw takes three numbers from the sequence: the first chooses, the others make the number.
+// Part 23. A draw takes three numbers from the sequence: the first chooses the kind and the sign, the others make the number.
 pub(crate) fn take_binary64_draw(run: Run, n: u32) -> Run
     requires { ⌜ (2 ≤ n) × (n ≤ 64) ⌝ }
 {
-    let choice = scramble(run.state);
-    let fraction = scramble(choice);
-    let exponent = scramble(fraction);
+    let x1 = scramble(run.state);
+    let x2 = scramble(x1);
+    let x3 = scramble(x2);
     Run {
-        state: exponent,
-        digest: take_chosen(run.digest, n, choice, fraction, exponent),
+        state: x3,
+        digest: take_chosen(run.digest, n, x1, x2, x3),
     }
 }
 
-fn take_chosen(digest: u64, n: u32, choice: u64, fraction: u64, exponent: u64) -> u64
+fn take_chosen(digest: u64, n: u32, x1: u64, x2: u64, x3: u64) -> u64
     requires { ⌜ (2 ≤ n) × (n ≤ 64) ⌝ }
 {
-    let sign = (choice << 58) & TOP_BIT;
-    let kind = choice % 32;
+    let kind = x1 % 32;
+    let sign = (x1 << 58) & TOP_BIT;
     if kind < 20 {
-        let pattern = drawn_pattern(kind, fraction, exponent);
-        return take_binary64_in(digest, n, pattern | sign);
+        return take_binary64_in(digest, n, drawn_pattern(kind, x2, x3) | sign);
     }
-    let pattern = drawn_near(kind, n, fraction);
-    take_three(Ways::Binary64In, digest, n, pattern | sign)
+    take_three(
+        Ways::Binary64In,
+        digest,
+        n,
+        drawn_of_words(kind, n, x2) | sign,
+    )
 }
 
 // Part 24: around 2^c, from c = -257 on.

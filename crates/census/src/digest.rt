@@ -23,15 +23,15 @@ pub(crate) fn take(digest: u64, x: u64) -> u64 {
     scramble(std::num::wrapping_add_u64(digest, x))
 }
 
-fn take_whole(digest: u64, z: i64) -> u64 {
+fn take_signed(digest: u64, z: i64) -> u64 {
     if z < 0 {
         return take(take(digest, 1), (-1 - z) as u64);
     }
     take(take(digest, 0), z as u64)
 }
 
-fn take_signed(digest: u64, z: i32) -> u64 {
-    take_whole(digest, z as i64)
+fn take_signed_32(digest: u64, z: i32) -> u64 {
+    take_signed(digest, z as i64)
 }
 
 fn take_refusal(digest: u64, refusal: Refusal) -> u64 {
@@ -61,7 +61,7 @@ pub(crate) fn take_answer(digest: u64, answer: Answer) -> u64 {
 
 pub(crate) fn take_comparison(digest: u64, comparison: Comparison) -> u64 {
     match comparison {
-        Comparison::Is(order) => take_signed(take(digest, 0), order),
+        Comparison::Is(order) => take_signed_32(take(digest, 0), order),
         Comparison::Refused(refusal) => take_refusal(digest, refusal),
     }
 }
@@ -72,7 +72,7 @@ pub(crate) fn take_reading(digest: u64, reading: Reading) -> u64 {
         Reading::NotReal => take(digest, 1),
         Reading::Number { negative, h, m, p } => {
             let signed = take(take(digest, 2), negative as u64);
-            take(take(take_signed(signed, h), m), p as u64)
+            take(take(take_signed_32(signed, h), m), p as u64)
         }
         Reading::Refused(refusal) => take_refusal(digest, refusal),
     }
@@ -80,7 +80,7 @@ pub(crate) fn take_reading(digest: u64, reading: Reading) -> u64 {
 
 pub(crate) fn take_whole_out(digest: u64, out: Whole) -> u64 {
     match out {
-        Whole::Is(z) => take_whole(take(digest, 0), z),
+        Whole::Is(z) => take_signed(take(digest, 0), z),
         Whole::Refused(refusal) => take_refusal(digest, refusal),
     }
 }

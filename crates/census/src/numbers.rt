@@ -16,7 +16,7 @@ pub(crate) fn whole_of(bits: u64) -> i64 {
     -1 - (ALL_BITS - bits) as i64
 }
 
-// The binary64 number of a pattern.
+// The binary64 number of a pattern. A NaN isn't made from its pattern, but by dividing.
 pub(crate) fn number_of(pattern: u64) -> f64 {
     if INFINITY < pattern % TOP_BIT {
         return 0.0 / 0.0;

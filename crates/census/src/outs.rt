@@ -37,7 +37,7 @@ pub(crate) fn take_word_out(run: Run, n: u32, place: u64) -> Run
     }
 }
 
-// Every second word, by the sequence, ends in zeros.
+// About every second word has zeros at its end, so that more words are whole numbers.
 fn drawn_word(n: u32, bits: u64, cut: u64) -> u64
     requires { ⌜ (2 ≤ n) × (n ≤ 64) ⌝ }
 {

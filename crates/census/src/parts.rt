@@ -3,8 +3,8 @@ use crate::binaries::print_extreme;
 use crate::past::print_past;
 use crate::refused::Asked;
 use crate::refused::print_strays;
+use crate::runs::print_one_line;
 use crate::runs::print_runs;
-use crate::runs::print_whole_line;
 use crate::subjects::Subject;
 use crate::wholes::print_brink;
 use crate::wholes::print_limit_line;
@@ -45,7 +45,7 @@ fn print_at(part: Part, n: u32)
     match part {
         Part::Widths => print_width(n),
         Part::Runs(subject) => print_runs(subject, n),
-        Part::Line(subject) => print_whole_line(subject, n),
+        Part::Line(subject) => print_one_line(subject, n),
         Part::Strays(asked) => print_strays(asked, n),
         Part::Past => print_past(n),
         Part::Limit => print_limit_line(n),

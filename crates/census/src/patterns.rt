@@ -12,9 +12,9 @@ ghost use Prim.Native.Nat.{_≤_};
 // The exponent field 1.
 const FIELD: u64 = 0x10_0000_0000_0000;
 
-// The kinds 0 to 19, each a number by itself.
-pub(crate) fn drawn_pattern(kind: u64, x: u64, y: u64) -> u64 {
-    let fraction = x % FIELD;
+// The kinds 0 to 19, each one number.
+pub(crate) fn drawn_pattern(kind: u64, x2: u64, x3: u64) -> u64 {
+    let fraction = x2 % FIELD;
     if kind == 0 {
         return NAN;
     }
@@ -25,36 +25,36 @@ pub(crate) fn drawn_pattern(kind: u64, x: u64, y: u64) -> u64 {
         return 0;
     }
     if kind == 3 {
-        return fraction >> (y % 52);
+        return fraction >> (x3 % 52);
     }
     if kind < 8 {
-        return ((y % 2047) << 52) | fraction;
+        return ((x3 % 2047) << 52) | fraction;
     }
-    drawn_near_words(kind, fraction, y)
+    drawn_in_reach(kind, fraction, x3)
 }
 
-// Numbers of the sizes that words have, in the kinds 16 to 19 with fewer digits.
-fn drawn_near_words(kind: u64, fraction: u64, y: u64) -> u64 {
-    let power = (766 + y % 514) << 52;
+// Numbers of about the sizes that words have, in the kinds 16 to 19 with fewer digits.
+fn drawn_in_reach(kind: u64, fraction: u64, x3: u64) -> u64 {
+    let power = (766 + x3 % 514) << 52;
     if kind < 16 {
         return power | fraction;
     }
-    power | without_lowest(fraction, (y >> 32) % 53)
+    power | without_lowest(fraction, (x3 >> 32) % 53)
 }
 
-// The kinds 20 to 31: a number that words lie beside, or that a word has itself.
-pub(crate) fn drawn_near(kind: u64, n: u32, x: u64) -> u64
+// The kinds 20 to 31: q, the number of a drawn word or the midpoint between two. At width 2 there is one positive word alone.
+pub(crate) fn drawn_of_words(kind: u64, n: u32, x2: u64) -> u64
     requires { ⌜ (2 ≤ n) × (n ≤ 64) ⌝ }
 {
     let half = power_of_two(n - 1);
-    let itself = pattern_out(n, drawn_up_to(half - 1, x));
+    let itself = pattern_out(n, drawn_up_to(half - 1, x2));
     if kind < 24 {
         return itself;
     }
     if n <= Width::LEAST {
         return itself;
     }
-    let word = drawn_up_to(half - 2, x);
+    let word = drawn_up_to(half - 2, x2);
     midpoint_or(pattern_out(n, word), pattern_out(n, word + 1), itself)
 }
 
@@ -75,10 +75,11 @@ fn midpoint_or(low: u64, high: u64, other: u64) -> u64 {
     if gap <= FIELD {
         return std::num::wrapping_add_u64(low, gap >> 1);
     }
-    let fields = gap >> 52;
-    if fields <= 52 {
-        let power = std::num::wrapping_sub_u64(high, FIELD);
-        return std::num::wrapping_add_u64(power, FIELD >> fields);
+    // Two powers of two, so far apart: the midpoint is half of the higher one, and half of the lower one as its fraction.
+    let apart = gap >> 52;
+    if apart <= 52 {
+        let half = std::num::wrapping_sub_u64(high, FIELD);
+        return std::num::wrapping_add_u64(half, FIELD >> apart);
     }
     other
 }

@@ -31,7 +31,7 @@ pub(crate) fn print_runs(subject: Subject, n: u32)
 }
 
 // All places in one line.
-pub(crate) fn print_whole_line(subject: Subject, n: u32)
+pub(crate) fn print_one_line(subject: Subject, n: u32)
     requires { ⌜ (2 ≤ n) × (n ≤ 64) ⌝ }
 {
     let run = take_run(subject, n, first_place(subject), end_of(subject, n), EMPTY);

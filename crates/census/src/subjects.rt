@@ -47,7 +47,7 @@ pub(crate) fn print_subject(subject: Subject) {
     }
 }
 
-// Writings begin at the smallest positive word, whole powers at 2.
+// Writings begin at the smallest positive word, the powers of part 21 at 2^1.
 pub(crate) fn first_place(subject: Subject) -> u64 {
     match subject {
         Subject::Write => 1,

@@ -39,23 +39,27 @@ fn limit_of(n: u32) -> u64 {
     }
 }
 
-// Part 20. Below width 4 no word has the value 2^63.
+// Part 20.
 pub(crate) fn print_brink(n: u32)
     requires { ⌜ (2 ≤ n) × (n ≤ 64) ⌝ }
 {
-    let after_ends = take_ends(n);
+    print_of_width(b"brink", n, take_past_ends(take_ends(n), n));
+}
+
+// The words around that of value 2^63. Below width 4 there is none.
+fn take_past_ends(digest: u64, n: u32) -> u64
+    requires { ⌜ (2 ≤ n) × (n ≤ 64) ⌝ }
+{
     if n < 4 {
-        print_of_width(b"brink", n, after_ends);
-        return;
+        return digest;
     }
-    let digest = take_both_of_five(Ways::Out, after_ends, n, 7 << (n - 4));
-    print_of_width(b"brink", n, digest);
+    take_both_of_five(Ways::Out, digest, n, 7 << (n - 4))
 }
 
 fn take_ends(n: u32) -> u64 {
-    let after_last = take_near_ends(EMPTY, n, TOP_BIT);
-    let after_second = take_near_ends(after_last, n, TOP_BIT + 1);
-    let after_third = take_near_ends(after_second, n, TOP_BIT + 2);
+    let after_ends = take_near_ends(EMPTY, n, TOP_BIT);
+    let after_next = take_near_ends(after_ends, n, TOP_BIT + 1);
+    let after_third = take_near_ends(after_next, n, TOP_BIT + 2);
     take_near_ends(after_third, n, TOP_BIT + 3)
 }
 
@@ -85,6 +89,7 @@ pub(crate) fn take_tally(run: Run, n: u32) -> Run
     }
 }
 
+// The 64 bits of a whole number below 2^63 in size, of either sign.
 fn drawn_whole(bits: u64, cut: u64) -> u64 {
     let shift = 1 + cut % 63;
     let size = without_lowest(bits >> shift, (cut >> 16) % (64 - shift));

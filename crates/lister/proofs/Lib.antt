@@ -1,0 +1,3 @@
+-- The laws of the lister's text, one idea a file.
+pub mod Digits
+pub mod Placed

@@ -1,0 +1,3 @@
+-- What the lister prints, and what the contracts of its parts cite.
+pub mod Puts
+pub mod Text

@@ -1,0 +1,4 @@
+// The lister: sheets come in on standard input, and their words go out as lines of text.
+mod text;
+
+fn main() {}

@@ -1,3 +1,4 @@
 -- The laws of the lister's text, one idea a file.
 pub mod Digits
+pub mod Refusals
 pub mod Placed

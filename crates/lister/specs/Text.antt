@@ -1,9 +1,12 @@
 -- The text of a line (paper 01, "The lister"), as a list of bytes.
 use mathlib.Core.Path.{_≡_}
+use mathlib.Core.Bool.{cond}
 use mathlib.Core.List.{List, [], _∷_, _++_}
 use Prim.Native.Nat.{ℕ, suc, _/_}
+use lib.Dec.{eqb}
 use lib.IntN.{ℤ, pos, negsuc}
 use Rattle.io.specs.Digits.{digits, Fewest}
+use Rattle.word.specs.Refusals.{numberOf}
 use Rattle.word.specs.declared.refusal.Refusal.{Refusal}
 use Rattle.whole.specs.declared.taking.Taking.{Taking}
 use Rattle.whole.specs.declared.taking.Whole.{Whole}
@@ -32,21 +35,30 @@ IsSigned (negsuc n) t = (d : List ℕ) × IsDecimal (suc n) d × (t ≡ minus �
 unfoldable pub hexOf : ℕ → ℕ → List ℕ
 hexOf n w = digits 16 (n / 4) w
 
--- what stands for a refusal: `over` for OVER, `nar` for NAR; a word of a block is refused for nothing else
+-- `nar`, and `over` for refusal 5
+unfoldable pub nar : List ℕ
+nar = 0x6e ∷ 0x61 ∷ 0x72 ∷ []
+
+unfoldable pub over : List ℕ
+over = 0x6f ∷ 0x76 ∷ 0x65 ∷ 0x72 ∷ []
+
+-- what stands for a refusal; a word of a block is refused only as NAR or OVER (`refused-only-nar-or-over` in proofs/Refusals.antt)
 unfoldable pub refusalText : Refusal → List ℕ
-refusalText Refusal.Width = 0x6e ∷ 0x61 ∷ 0x72 ∷ []
-refusalText Refusal.Stray = 0x6e ∷ 0x61 ∷ 0x72 ∷ []
-refusalText Refusal.NotReal = 0x6e ∷ 0x61 ∷ 0x72 ∷ []
-refusalText Refusal.Inexact = 0x6e ∷ 0x61 ∷ 0x72 ∷ []
-refusalText Refusal.Over = 0x6f ∷ 0x76 ∷ 0x65 ∷ 0x72 ∷ []
-refusalText Refusal.Room = 0x6e ∷ 0x61 ∷ 0x72 ∷ []
-refusalText Refusal.Size = 0x6e ∷ 0x61 ∷ 0x72 ∷ []
-refusalText Refusal.Mark = 0x6e ∷ 0x61 ∷ 0x72 ∷ []
-refusalText Refusal.Check = 0x6e ∷ 0x61 ∷ 0x72 ∷ []
-refusalText Refusal.Count = 0x6e ∷ 0x61 ∷ 0x72 ∷ []
-refusalText Refusal.Fill = 0x6e ∷ 0x61 ∷ 0x72 ∷ []
+refusalText q = cond (eqb (numberOf q) 5) over nar
 
 -- the cut whole number, or the word that stands for its refusal
 unfoldable pub IsShown : Whole → List ℕ → Type 0
 IsShown (Whole.Is x) t = IsSigned x t
 IsShown (Whole.Refused q) t = t ≡ refusalText q
+
+-- a number and the space after it
+unfoldable pub IsField : ℕ → List ℕ → Type 0
+IsField n t = (d : List ℕ) × IsDecimal n d × (t ≡ d ++ (space ∷ []))
+
+-- a word of n bits, a space, its whole number and the end of the line
+unfoldable pub IsWordText : ℕ → ℕ → List ℕ → Type 0
+IsWordText n w t = (a : Whole) × (d : List ℕ) × TakesWhole n Taking.Cut w a × IsShown a d × (t ≡ hexOf n w ++ (space ∷ []) ++ d ++ (newline ∷ []))
+
+-- a line: block number, position, word and whole number, one space between
+unfoldable pub IsLine : ℕ → ℕ → ℕ → ℕ → List ℕ → Type 0
+IsLine number position n w t = (b p x : List ℕ) × IsField number b × IsField position p × IsWordText n w x × (t ≡ b ++ p ++ x)

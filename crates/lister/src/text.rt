@@ -58,7 +58,7 @@ fn places(n: u64) -> usize
 // A number in decimal digits.
 pub(crate) fn put_decimal(out: &mut [u8], at: usize, n: u64) -> usize
     requires { ⌜ at + 20 ≤ length (now out) ⌝ }
-    ensures { λ r. ⌜ PutsSome (IsDecimal n) (now (out .entry)) at (now (out .exit)) r ⌝ }
+    ensures { λ r. ⌜ PutsSome (IsDecimal n) (now (out .entry)) at (now (out .exit)) r × (r ≤ at + 20) ⌝ }
 {
     put_digits(out, at, n, 10, places(n))
 }
@@ -66,7 +66,7 @@ pub(crate) fn put_decimal(out: &mut [u8], at: usize, n: u64) -> usize
 // A number with its sign; the size of the least one is no i64, so one is added after the cast.
 pub(crate) fn put_signed(out: &mut [u8], at: usize, x: i64) -> usize
     requires { ⌜ at + 21 ≤ length (now out) ⌝ }
-    ensures { λ r. ⌜ PutsSome (IsSigned x) (now (out .entry)) at (now (out .exit)) r ⌝ }
+    ensures { λ r. ⌜ PutsSome (IsSigned x) (now (out .entry)) at (now (out .exit)) r × (r ≤ at + 21) ⌝ }
 {
     if x < 0 {
         let next = put_byte(out, at, 0x2d);

@@ -1,3 +1,9 @@
+-- `put_decimal` meets its contract. Assumes nothing.
+use mathlib.Core.Path.{refl}
+use native.Mathlib.Omega.{arith}
+use Rattle.lister.proofs.Digits.{as-many}
+use Rattle.lister.specs.Puts.{PutsSome}
+use Rattle.lister.specs.Text.{IsDecimal}
 use borrow.Author.Needs.{needs}
 use Rattle.lister.proofs.text.put_decimal.Statement.{statement}
 use Rattle.lister.proofs.text.put_decimal.Tie as tie
@@ -12,7 +18,11 @@ same-length : tie.Need-same-length
 same-length c = search needs
 
 returns : tie.Need-returns
-returns c = ?
+unfolding PutsSome IsDecimal
+returns c =
+    let k = c .before .before .before .places in
+    let p = c .before .before .put-digits .ensures in
+    ((_, (_, k .ensures .0, refl), p), omega (arith, p .place, as-many 10 (k .result) (c .before .before .before .before .before .before .args .n), k .ensures .1))
 
 pub put-decimal-spec : {M : Type 1} → statement M
 put-decimal-spec = tie.close (tie.spec places-requires put-digits-requires same-length returns)

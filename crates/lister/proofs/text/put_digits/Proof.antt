@@ -55,8 +55,7 @@ loop-again c =
     let s = c .before .before .before .before in
     let i = c .before .before .loop .inv in
     let left = c .before .before .loop .left in
-    let some = c .before .loop-test .taken in
-    (
+    let some = c .before .loop-test .taken in (
       omega (arith, i .0),
       ap₂ (λ (t : List ℕ) (b : ℕ). set t (s .args .at + (left - 1)) b) (i .1) (c .glyph .ensures ∙ ap (λ (x : ℕ). Digits.glyph (x % s .args .base)) (i .2)) ∙ one-in-front (s .args .out .now) (s .args .at) (s .args .count) (s .args .n) (s .args .base) (s .pre .2) left some (i .0),
       ap (λ (x : ℕ). x / s .args .base) (i .2) ∙ less-left (s .args .out .now) (s .args .at) (s .args .count) (s .args .n) (s .args .base) (s .pre .2) left some (i .0),

@@ -34,6 +34,7 @@ put-shown-requires c κs =
     omega (arith, p .place, Placed.same-length _ _ _ _ _ p, q .place, Placed.same-length _ _ _ _ _ q, as-many 16 (s .args .width / 4) (s .args .word), s .pre .0, s .pre .1)
 
 put-byte-requires-2 : tie.Need-put-byte-requires-2
+unfolding PutsSome
 put-byte-requires-2 c κs =
     let s = c .before .before .before .before .before .before .before .before .before .before .before .before .before .before .before in
     let p = c .before .before .before .before .before .before .before .before .before .before .before .put-digits .ensures in

@@ -1,4 +1,5 @@
 -- The laws of the lister's text, one idea a file.
 pub mod Digits
+pub mod Listed
 pub mod Refusals
 pub mod Placed

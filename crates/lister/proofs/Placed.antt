@@ -1,12 +1,12 @@
 -- Text at a place of a buffer: one byte, one text after another, and one digit in front of the digits that stand. Assumes nothing.
 use mathlib.Core.Path.{_≡_, refl, sym, ap, ap₂, _∙_, subst}
-use mathlib.Core.List.{List, [], _∷_, _++_, append-assoc}
+use mathlib.Core.List.{List, [], _∷_, _++_, append-assoc, append-nil}
 use Prim.Native.Nat.{ℕ, suc, _+_, _-_, _≤_, _<_}
-use native.Mathlib.Nat.{le-trans, le-of-lt, le-add-right, add-assoc}
+use native.Mathlib.Nat.{le-trans, le-of-lt, le-add-right, add-assoc, add-zero}
 use native.Mathlib.Numerals.{add-one}
 use native.Mathlib.Omega.{arith}
-use lib.ListN.{length, take, drop, set, getD, length-append, length-drop}
-use lib.Seq.{length-take-le, take-suc, append-snoc, set-split, set-at, take-at, drop-append-add, drop-drop}
+use lib.ListN.{length, take, drop, set, getD, length-append, length-drop, take-append-drop}
+use lib.Seq.{length-take-le, take-suc, append-snoc, set-split, set-at, take-at, drop-append-add, drop-drop, take-length, paste}
 use Rattle.lister.specs.Puts.{Puts}
 
 -- how long the buffer is before the place and the text, and afterwards
@@ -53,3 +53,16 @@ pub in-front : (e t r : List ℕ) (i b : ℕ) → i < length e → set (take (su
 in-front e t r i b h =
     ap (λ (x : List ℕ). set (x ++ t ++ r) i b) (take-suc e i 0 h) ∙ ap (λ (x : List ℕ). set x i b) (append-assoc (take i e ++ (getD e i 0 ∷ [])) t r ∙ append-snoc (take i e) (getD e i 0) (t ++ r))
     ∙ set-at (take i e) (getD e i 0) (t ++ r) b i (length-take-le i e (le-of-lt h)) ∙ sym (append-assoc (take i e) (b ∷ t) r)
+
+-- nothing at all
+pub nothing-put : (e : List ℕ) (at : ℕ) → at ≤ length e → Puts e at [] e at
+nothing-put e at h =
+    record {
+      room = subst (λ (k : ℕ). k ≤ length e) (sym (add-zero at)) h;
+      content = sym (ap₂ (λ (x : List ℕ) (k : ℕ). x ++ drop k e) (append-nil (take at e)) (add-zero at) ∙ take-append-drop at e);
+      place = sym (add-zero at);
+    }
+
+-- a copy of a whole text
+pub copied : (e : List ℕ) (at : ℕ) (t f : List ℕ) → at + length t ≤ length e → f ≡ paste e at t (length t) → Puts e at t f (at + length t)
+copied e at t f h q = record { room = h; content = q ∙ ap (λ (x : List ℕ). take at e ++ x ++ drop (at + length t) e) (take-length t); place = refl }

@@ -62,3 +62,18 @@ IsWordText n w t = (a : Whole) × (d : List ℕ) × TakesWhole n Taking.Cut w a 
 -- a line: block number, position, word and whole number, one space between
 unfoldable pub IsLine : ℕ → ℕ → ℕ → ℕ → List ℕ → Type 0
 IsLine number position n w t = (b p x : List ℕ) × IsField number b × IsField position p × IsWordText n w x × (t ≡ b ++ p ++ x)
+
+-- the lines of words, the first of them at a position
+unfoldable pub AreLines : ℕ → ℕ → ℕ → List ℕ → List ℕ → Type 0
+AreLines number n position [] t = t ≡ []
+AreLines number n position (w ∷ ws) t = (l u : List ℕ) × IsLine number position n w l × AreLines number n (suc position) ws u × (t ≡ l ++ u)
+
+-- `block I refused N`
+unfoldable pub blockText : List ℕ
+blockText = 0x62 ∷ 0x6c ∷ 0x6f ∷ 0x63 ∷ 0x6b ∷ space ∷ []
+
+unfoldable pub refusedText : List ℕ
+refusedText = space ∷ 0x72 ∷ 0x65 ∷ 0x66 ∷ 0x75 ∷ 0x73 ∷ 0x65 ∷ 0x64 ∷ space ∷ []
+
+unfoldable pub IsRefusedLine : ℕ → Refusal → List ℕ → Type 0
+IsRefusedLine i q t = (d e : List ℕ) × IsDecimal i d × IsDecimal (numberOf q) e × (t ≡ blockText ++ d ++ refusedText ++ e ++ (newline ∷ []))

@@ -1,4 +1,5 @@
 // The lister: sheets come in on standard input, and their words go out as lines of text.
+mod blocks;
 mod lines;
 mod text;
 

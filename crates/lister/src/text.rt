@@ -17,6 +17,19 @@ pub(crate) fn put_byte(out: &mut [u8], at: usize, b: u8) -> usize
     at + 1
 }
 
+// A text.
+pub(crate) fn put_text(out: &mut [u8], at: usize, text: &[u8]) -> usize
+    requires { ⌜ at + length (now text) ≤ length (now out) ⌝ }
+    ensures { λ r. ⌜ Puts (now (out .entry)) at (now (text .entry)) (now (out .exit)) r ⌝ }
+{
+    let mut i = 0;
+    while i < text.len() {
+        out[at + i] = text[i];
+        i += 1;
+    }
+    at + text.len()
+}
+
 // The last `count` digits of a number, from the last one to the first.
 pub(crate) fn put_digits(out: &mut [u8], at: usize, n: u64, base: u64, count: usize) -> usize
     requires { ⌜ (1 < base) × (base ≤ 16) × (at + count ≤ length (now out)) ⌝ }

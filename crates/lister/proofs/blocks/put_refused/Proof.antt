@@ -48,8 +48,7 @@ returns c =
     let r = c .before .before .before .before .before .before .before .before .before .before .before .put-text2 .ensures in
     let d = c .before .before .before .before .before .before .before .before .before .before .before .before .before .before .before .before .put-decimal .ensures in
     let b = c .before .before .before .before .before .before .before .before .before .before .before .before .before .before .before .before .before .before .before .before .put-text .ensures in
-    let q = c .before .before .before .before .before .before .before .number .ensures in
-    (
+    let q = c .before .before .before .before .before .before .before .number .ensures in (
       (_, (_, _, d .0 .1, subst (λ (k : ℕ). IsDecimal k (e .0 .0)) q (e .0 .1), refl), joined _ _ _ _ _ _ _ _ (joined _ _ _ _ _ _ _ _ (joined _ _ _ _ _ _ _ _ (joined _ _ _ _ _ _ _ _ b (d .0 .2)) r) (e .0 .2)) n),
       omega (arith, b .place, d .1, r .place, e .1, n .place),
     )

@@ -1,0 +1,6 @@
+-- The laws of blocks, one idea a file.
+pub mod LittleEndian
+pub mod Packing
+pub mod Checks
+pub mod Unused
+pub mod Passing

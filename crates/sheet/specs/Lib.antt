@@ -1,0 +1,4 @@
+-- What the contracts of this crate cite.
+pub mod Layout
+pub mod Sums
+pub mod Reads

@@ -4,3 +4,7 @@ pub mod Packing
 pub mod Checks
 pub mod Unused
 pub mod Passing
+pub mod OneOutcome
+pub mod Totals
+pub mod Changes
+pub mod Results

@@ -10,12 +10,12 @@ use lib.Dec.{eqb, leb}
 use lib.ListN.{length, drop}
 use Rattle.word.specs.declared.refusal.Refusal.{Refusal}
 use Rattle.word.specs.declared.refusal.Verdict.{Verdict}
-use Rattle.word.specs.Refusals.{_then_}
+use Rattle.word.specs.Refusals.{_then_, through, refused}
 use Rattle.word.proofs.Verdicts.{open-when, both, then-through}
 use Rattle.sheet.specs.declared.block.Block.{Block}
 use Rattle.sheet.specs.Layout.{IsSize, one, two, four, eight, width, count, blockNumber, size, end, A, B, mark, numbers, packed, words}
 use Rattle.sheet.specs.Sums.{sumA, sumB}
-use Rattle.sheet.specs.Reads.{unless, isBlockWidth, sizeTest, markTest, checkTest, widthTest, countTest, fillTest, roomTest, blockTest}
+use Rattle.sheet.specs.Reads.{unless, isBlockWidth, sizeTest, markTest, checkTest, widthTest, countTest, fillTest, roomTest, blockTest, ReadsBlock}
 
 pub holds : (q : Refusal) {b : Bool} → b ≡ true → Verdict.Through ≡ unless q b
 unfolding unless
@@ -143,6 +143,12 @@ module _ (block : List ℕ) {s n : ℕ} (hs : s ≡ size block) (hn : n ≡ coun
 -- its answer
 pub read-as : (block : List ℕ) {w i n : ℕ} → w ≡ width block → i ≡ blockNumber block → n ≡ count block → Block.Read w i n ≡ Block.Read (width block) (blockNumber block) (count block)
 read-as block {n = n} p q r = ap₂ (λ (x y : ℕ). Block.Read x y n) p q ∙ ap (λ (z : ℕ). Block.Read (width block) (blockNumber block) z) r
+
+-- and what such an answer tells
+pub was-read : (block : List ℕ) (places w i n : ℕ) → ReadsBlock block places (Block.Read w i n) → (blockTest block places ≡ Verdict.Through) × (w ≡ width block) × (n ≡ count block)
+unfolding ReadsBlock
+was-read block places w i n (through h x) = (h, cc, cc)
+was-read block places w i n (refused h x) = let z : _≡_ {A = ℕ} 0 1 = cc in absurd (omega arith)
 
 -- where three sizes are shut out, the fourth is left
 pub eight-left : (n : ℕ) → IsSize n → (n ≡ 1 → ⊥) → (n ≡ 2 → ⊥) → (n ≡ 4 → ⊥) → n ≡ 8

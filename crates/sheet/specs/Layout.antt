@@ -1,8 +1,12 @@
 -- A sheet block: 512 bytes, numbers little-endian (paper 01).
 use mathlib.Core.List.{List, [], _∷_}
-use Prim.Native.Nat.{ℕ, zero, suc, _+_, _*_, _/_}
+use Prim.Native.Nat.{ℕ, zero, suc, _+_, _*_, _/_, _<_}
 use lib.ListN.{take, drop, getD}
 use lib.Seq.{slice}
+
+-- what every list of bytes has
+unfoldable pub AreBytes : List ℕ → Type 0
+AreBytes bytes = (j : ℕ) → getD bytes j 0 < 256
 
 -- the number that bytes are, little-endian
 unfoldable pub number : List ℕ → ℕ

@@ -3,11 +3,39 @@ use crate::lines::put_line;
 use crate::text::put_byte;
 use crate::text::put_decimal;
 use crate::text::put_text;
+use sheet::block::Block;
+use sheet::block::read_block;
 use word::refusal::Refusal;
+ghost use mathlib.Core.Path.{_≡_};
 ghost use Prim.Native.Nat.{_+_, _*_, _≤_};
 ghost use lib.ListN.{length, take};
+ghost use Rattle.lister.specs.Listing.{most, ListsBlock};
 ghost use Rattle.lister.specs.Puts.{PutsSome};
 ghost use Rattle.lister.specs.Text.{AreLines, IsRefusedLine};
+
+// The most bytes that a block's text has: 496 lines, none above 96 bytes.
+pub(crate) const MOST: usize = 47616;
+
+// The text of a block at its place in the input; the lent words are for its words.
+pub(crate) fn put_block(
+    out: &mut [u8],
+    at: usize,
+    words: &mut [u64],
+    block: &[u8],
+    place: u64,
+) -> usize
+    requires { ⌜ (length (now words) ≡ most) × (at + 47616 ≤ length (now out)) ⌝ }
+    ensures { λ r. ⌜ PutsSome (ListsBlock (now (block .entry)) place) (now (out .entry)) at (now (out .exit)) r × (r ≤ at + 47616) ⌝ }
+{
+    match read_block(block, words) {
+        Block::Read {
+            width,
+            number,
+            count,
+        } => put_lines(out, at, number, width, words, count),
+        Block::Refused(q) => put_refused(out, at, place, q),
+    }
+}
 
 // A line for each of the first `count` words.
 fn put_lines(out: &mut [u8], at: usize, number: u32, width: u32, words: &[u64], count: u32) -> usize

@@ -145,9 +145,9 @@ pub read-as : (block : List ℕ) {w i n : ℕ} → w ≡ width block → i ≡ b
 read-as block {n = n} p q r = ap₂ (λ (x y : ℕ). Block.Read x y n) p q ∙ ap (λ (z : ℕ). Block.Read (width block) (blockNumber block) z) r
 
 -- and what such an answer tells
-pub was-read : (block : List ℕ) (places w i n : ℕ) → ReadsBlock block places (Block.Read w i n) → (blockTest block places ≡ Verdict.Through) × (w ≡ width block) × (n ≡ count block)
+pub was-read : (block : List ℕ) (places w i n : ℕ) → ReadsBlock block places (Block.Read w i n) → (blockTest block places ≡ Verdict.Through) × (w ≡ width block) × (n ≡ count block) × (i ≡ blockNumber block)
 unfolding ReadsBlock
-was-read block places w i n (through h x) = (h, cc, cc)
+was-read block places w i n (through h x) = (h, cc, cc, cc)
 was-read block places w i n (refused h x) = let z : _≡_ {A = ℕ} 0 1 = cc in absurd (omega arith)
 
 -- where three sizes are shut out, the fourth is left

@@ -12,13 +12,13 @@ use Rattle.word.specs.declared.refusal.Verdict.{Verdict}
 use Rattle.word.specs.Refusals.{IsWord}
 use Rattle.word.proofs.Verdicts.{answered}
 use Rattle.sheet.specs.declared.block.Block.{Block}
-use Rattle.sheet.specs.Layout.{AreBytes, numberAt, width, count, size, words}
+use Rattle.sheet.specs.Layout.{AreBytes, numberAt, width, count, blockNumber, size, words}
 use Rattle.sheet.specs.Reads.{blockTest, ReadsBlock, FillsResults}
 use Rattle.sheet.proofs.LittleEndian.{numberAt-below}
 use Rattle.sheet.proofs.Packing.{packed-length, words-at}
 use Rattle.sheet.proofs.Passing.{OneOfFour, passes, was-read}
 
-words-length : (block : List ℕ) → length (words block) ≡ count block
+pub words-length : (block : List ℕ) → length (words block) ≡ count block
 unfolding words
 words-length block = packed-length (size block) (count block) (drop 8 block)
 
@@ -29,7 +29,7 @@ whole-bytes n (inr (inl e)) = subst (λ (k : ℕ). 8 * (k / 8) ≡ k) (sym e) re
 whole-bytes n (inr (inr (inl e))) = subst (λ (k : ℕ). 8 * (k / 8) ≡ k) (sym e) refl
 whole-bytes n (inr (inr (inr e))) = subst (λ (k : ℕ). 8 * (k / 8) ≡ k) (sym e) refl
 
-wide-enough : (n : ℕ) → OneOfFour n → (2 ≤ n) × (n ≤ 64)
+pub wide-enough : (n : ℕ) → OneOfFour n → (2 ≤ n) × (n ≤ 64)
 wide-enough n (inl e) = (omega arith, omega arith)
 wide-enough n (inr (inl e)) = (omega arith, omega arith)
 wide-enough n (inr (inr (inl e))) = (omega arith, omega arith)
@@ -37,10 +37,10 @@ wide-enough n (inr (inr (inr e))) = (omega arith, omega arith)
 
 -- a block was read
 module _ (block before after : List ℕ) (w i n : ℕ) (r : ReadsBlock block (length before) (Block.Read w i n)) (f : FillsResults block before after) where
-  read : (blockTest block (length before) ≡ Verdict.Through) × (w ≡ width block) × (n ≡ count block)
+  read : (blockTest block (length before) ≡ Verdict.Through) × (w ≡ width block) × (n ≡ count block) × (i ≡ blockNumber block)
   read = was-read block (length before) w i n r
 
-  holds : after ≡ words block ++ drop n before
+  pub holds : after ≡ words block ++ drop n before
   unfolding FillsResults
   holds = answered (read .0) f ∙ ap (λ (k : ℕ). words block ++ drop k before) (sym (read .2))
 

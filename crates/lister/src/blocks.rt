@@ -13,10 +13,7 @@ ghost use Rattle.lister.specs.Listing.{most, ListsBlock};
 ghost use Rattle.lister.specs.Puts.{PutsSome};
 ghost use Rattle.lister.specs.Text.{AreLines, IsRefusedLine};
 
-// The most bytes that a block's text has: 496 lines, none above 96 bytes.
-pub(crate) const MOST: usize = 47616;
-
-// The text of a block at its place in the input; the lent words are for its words.
+// The text of a block at its place in the input, 496 lines of up to 96 bytes at the most; the lent words are for its words.
 pub(crate) fn put_block(
     out: &mut [u8],
     at: usize,

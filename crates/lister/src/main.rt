@@ -1,7 +1,12 @@
-// The lister: sheets come in on standard input, and their words go out as lines of text.
+// The lister: sheet blocks come in on standard input, and a line for each of their words goes out.
 mod blocks;
 mod lines;
+mod pieces;
 mod reading;
 mod text;
 
-fn main() {}
+use crate::pieces::list_all;
+
+fn main() {
+    list_all();
+}

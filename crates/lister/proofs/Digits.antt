@@ -1,7 +1,7 @@
 -- Digits of a number: one more of them stands in front, there are as many as asked for, and a decimal number needs at most 20. Assumes nothing.
 use mathlib.Core.Path.{_≡_, refl, sym, ap, ap₂, _∙_, subst}
 use mathlib.Core.List.{List, [], _∷_, _++_, append-nil}
-use Prim.Native.Nat.{ℕ, zero, suc, _+_, _-_, _*_, _/_, _%_, _^_, _≤_, _<_, zero-le}
+use Prim.Native.Nat.{ℕ, zero, suc, _+_, _-_, _/_, _%_, _^_, _≤_, _<_, zero-le}
 use native.Mathlib.Nat.{div-one, div-div-eq-div-mul, div-lt-iff-lt-mul, le-div-iff-mul-le, pow-zero, pow-suc, pow-le-pow-right, mul-comm, add-zero, sub-zero, sub-self, le-trans, lt-of-lt-of-le, one-mul, le-of-eq}
 use native.Mathlib.Decide.{decLt}
 use native.Mathlib.Omega.{arith}

@@ -1,7 +1,7 @@
 -- What is printed for a block that was read, or refused, is what the listing has for it. Assumes nothing.
 use mathlib.Core.Path.{_≡_, sym, ap, _∙_, subst, subst₃}
 use mathlib.Core.List.{List}
-use Prim.Native.Nat.{ℕ, _+_, _*_, _≤_}
+use Prim.Native.Nat.{ℕ, _≤_}
 use native.Mathlib.Nat.{le-trans, le-of-eq}
 use native.Mathlib.Omega.{arith}
 use lib.ListN.{length, take, drop}
@@ -10,7 +10,7 @@ use Rattle.word.specs.declared.refusal.Refusal.{Refusal}
 use Rattle.word.specs.declared.refusal.Verdict.{Verdict}
 use Rattle.word.specs.Refusals.{through, refused}
 use Rattle.sheet.specs.declared.block.Block.{Block}
-use Rattle.sheet.specs.Layout.{width, blockNumber, words}
+use Rattle.sheet.specs.Layout.{width, words}
 use Rattle.sheet.specs.Reads.{blockTest, ReadsBlock, FillsResults}
 use Rattle.sheet.proofs.Passing.{passes, was-read}
 use Rattle.sheet.proofs.Results.{words-length, wide-enough, holds}

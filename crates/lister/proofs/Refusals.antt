@@ -1,6 +1,6 @@
 -- What stands for a refusal is short, and a word of a block is refused only as NAR or OVER. Assumes nothing.
 use mathlib.Core.Bool.{Bool, true, false, cond}
-use Prim.Native.Nat.{ℕ, _≤_}
+use Prim.Native.Nat.{_≤_}
 use lib.Dec.{eqb, lit≤}
 use lib.ListN.{length}
 use Rattle.word.specs.Refusals.{numberOf}

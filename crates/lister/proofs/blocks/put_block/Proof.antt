@@ -1,11 +1,11 @@
 -- `put_block` meets its contract. Assumes nothing.
-use mathlib.Core.Path.{_≡_, sym, subst}
+use mathlib.Core.Path.{subst}
 use Prim.Native.Nat.{ℕ}
 use native.Mathlib.Omega.{arith}
 use lib.ListN.{length}
 use Rattle.sheet.specs.declared.block.Block.{Block}
 use Rattle.sheet.specs.Reads.{ReadsBlock, FillsResults}
-use Rattle.lister.specs.Listing.{most, ListsBlock}
+use Rattle.lister.specs.Listing.{most}
 use Rattle.lister.specs.Puts.{PutsSome}
 use Rattle.lister.proofs.ReadOut.{narrow, few, lines-listed, refused-listed}
 use borrow.Author.Needs.{needs}

@@ -1,13 +1,12 @@
 -- `put_lines` meets its contract. The invariant of its loop: the lines of the words before i stand. Assumes nothing.
-use mathlib.Core.Path.{_≡_, sym, ap, _∙_, subst}
+use mathlib.Core.Path.{sym, subst}
 use mathlib.Core.List.{List, [], _++_}
-use Prim.Native.Nat.{ℕ, _+_, _-_, _*_, _≤_, _<_, zero-le}
-use native.Mathlib.Nat.{le-of-eq}
+use Prim.Native.Nat.{ℕ, _+_, _-_, _*_, _≤_, zero-le}
 use native.Mathlib.Numerals.{add-one-le}
 use native.Mathlib.Omega.{arith}
 use borrow.Author.Count.{falls}
 use borrow.Author.Needs.{needs}
-use lib.ListN.{length, take, getD}
+use lib.ListN.{take}
 use lib.Seq.{length-take-le, getD-take}
 use Rattle.lister.specs.Puts.{Puts, PutsSome}
 use Rattle.lister.specs.Text.{IsLine}

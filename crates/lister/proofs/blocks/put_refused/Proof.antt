@@ -1,6 +1,5 @@
 -- `put_refused` meets its contract. Assumes nothing.
 use mathlib.Core.Path.{refl, subst}
-use mathlib.Core.List.{List}
 use Prim.Native.Nat.{ℕ}
 use native.Mathlib.Omega.{arith}
 use Rattle.lister.specs.Puts.{PutsSome}

@@ -1,5 +1,5 @@
 -- `put_shown` meets its contract. Assumes nothing.
-use mathlib.Core.Path.{_≡_, refl, sym, subst}
+use mathlib.Core.Path.{refl, sym, subst}
 use lib.IntN.{ℤ}
 use mir.Facts.{toZ-ofZ}
 use native.Mathlib.Omega.{arith}

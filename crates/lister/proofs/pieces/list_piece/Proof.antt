@@ -1,3 +1,7 @@
+-- `list_piece` is safe: the bytes that were read are those that are listed. Assumes nothing.
+use mathlib.Core.Path.{refl, sym}
+use native.Mathlib.Omega.{arith}
+use lib.Seq.{length-take-le}
 use borrow.Author.Needs.{needs}
 use Rattle.lister.proofs.pieces.list_piece.Statement.{statement}
 use Rattle.lister.proofs.pieces.list_piece.Tie as tie
@@ -18,7 +22,7 @@ array-share-prefix-piece : tie.Need-array-share-prefix-piece
 array-share-prefix-piece c = search needs
 
 slice-aggregate-list-blocks : tie.Need-slice-aggregate-list-blocks
-slice-aggregate-list-blocks c = ?
+slice-aggregate-list-blocks c = sym (length-take-le _ _ (c .before .before .fill .ensures))
 
 slice-aggregate-list-blocks-2 : tie.Need-slice-aggregate-list-blocks-2
 slice-aggregate-list-blocks-2 c = search needs
@@ -27,7 +31,11 @@ slice-aggregate-list-blocks-3 : tie.Need-slice-aggregate-list-blocks-3
 slice-aggregate-list-blocks-3 c = search needs
 
 list-blocks-requires : tie.Need-list-blocks-requires
-list-blocks-requires c κs = ?
+list-blocks-requires c κs =
+    let f = c .before .before .before .before .fill in
+    let s = c .before .before .before .before .before .before .before .before in
+    let read = length-take-le (f .result .count) (f .last .0) (f .ensures) in
+    (omega (arith, read, f .ensures, f .kept .0, c .before .before .before .before .before .before .before .large-buffer .ensures), sym (c .before .before .before .before .before .before .large-buffer2 .ensures), refl, s .pre)
 
 returns : tie.Need-returns
 returns c = search needs

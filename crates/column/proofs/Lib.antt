@@ -1,0 +1,4 @@
+-- The laws of columns, one idea a file.
+pub mod Rooms
+pub mod Trials
+pub mod Walks

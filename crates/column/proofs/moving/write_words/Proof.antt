@@ -1,0 +1,76 @@
+-- `write_words` meets its contract. The invariant of its loop: the first i results are the moved words, the others are as they were. The measure
+-- is the number of words that are left. Assumes nothing.
+use mathlib.Core.Path.{subst}
+use Prim.Native.Nat.{ℕ, _-_, _≤_, zero-le}
+use native.Mathlib.Nat.{le-antisymm}
+use native.Mathlib.Numerals.{add-one-le}
+use native.Mathlib.Omega.{arith}
+use borrow.Author.Count.{falls}
+use borrow.Author.Needs.{needs}
+use lib.ListN.{length}
+use Rattle.column.specs.Columns.{MovableUpTo, AreMoved}
+use Rattle.column.proofs.Walks.{none-written, one-more-written}
+use Rattle.column.proofs.moving.write_words.Statement.{statement}
+use Rattle.column.proofs.moving.write_words.Tie as tie
+use Rattle.column.proofs.moving.write_words.Reads as reads
+use Rattle.column.proofs.moving.write_words.Lts as lts
+use Rattle.column.proofs.moving.moved.Reads as moved-reads
+
+abbrev Inv-loop : tie.InvT-loop
+Inv-loop from to rule words results₀ i₀ results i = (i ≤ length words) × AreMoved (from .bits) (to .bits) rule words i results₀ results
+
+abbrev μ-loop : tie.MeasureT-loop
+μ-loop from to rule words results₀ i₀ results i = length words - i
+
+loop-holds : tie.Need-loop-holds Inv-loop μ-loop
+loop-holds c = (zero-le, none-written _ _ _ _ _)
+
+mul-moved : tie.Need-mul-moved Inv-loop μ-loop
+mul-moved c = search needs
+
+shared-slice-read-moved : tie.Need-shared-slice-read-moved Inv-loop μ-loop
+shared-slice-read-moved c = search needs
+
+moved-requires : tie.Need-moved-requires Inv-loop μ-loop
+moved-requires c κs = c .before .before .before .before .before .pre .1 _ (c .before .loop-test .taken)
+
+mul-results : tie.Need-mul-results Inv-loop μ-loop
+mul-results c = search needs
+
+slice-write-results : tie.Need-slice-write-results Inv-loop μ-loop
+slice-write-results c = search needs
+
+add-i : tie.Need-add-i Inv-loop μ-loop
+add-i c = search needs
+
+loop-less : tie.Need-loop-less Inv-loop μ-loop
+loop-less c = let t = c .before .before in
+    falls (length (t .before .before .before .before .args .words .now)) (t .before .loop .i) (t .loop-test .taken)
+
+loop-again : tie.Need-loop-again Inv-loop μ-loop
+loop-again c = let t = c .before .before in
+    (add-one-le (t .loop-test .taken), one-more-written _ _ _ _ _ _ _ _ (omega (arith, t .loop-test .taken, t .before .before .before .before .pre .0)) (t .before .loop .inv .1) (c .moved .ensures))
+
+same-length : tie.Need-same-length Inv-loop μ-loop
+same-length c = c .before .loop .inv .1 .room
+
+returns : tie.Need-returns Inv-loop μ-loop
+returns c = subst (λ (count : ℕ). AreMoved _ _ _ _ count _ _) (le-antisymm (c .before .loop .inv .0) (c .loop-test .left)) (c .before .loop .inv .1)
+
+pub write-words-spec : {M : Type 1} → statement M
+write-words-spec =
+    tie.close
+    (tie.spec
+    Inv-loop
+    μ-loop
+    loop-holds
+    mul-moved
+    shared-slice-read-moved
+    moved-requires
+    mul-results
+    slice-write-results
+    add-i
+    loop-less
+    loop-again
+    same-length
+    returns)

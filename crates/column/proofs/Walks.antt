@@ -49,3 +49,6 @@ module _ (n n' : ℕ) (rule : Rule) (words : List ℕ) where
             (subst (λ (v : ℕ). Moves n n' rule (getD words i 0) (Answer.Word v)) (sym (getD-set-same after i w' 0 (omega (arith, inside, x .room)))) m);
         others = λ k h. getD-set-other after i k w' 0 (λ q. omega (arith, h, q)) ∙ x .others k (omega (arith, h));
       }
+
+  pub all-written : (i : ℕ) (before after : List ℕ) → i ≤ length words → length words ≤ i → AreMoved n n' rule words i before after → AreMoved n n' rule words (length words) before after
+  all-written i before after lo hi = subst (λ (k : ℕ). AreMoved n n' rule words k before after) (le-antisymm lo hi)

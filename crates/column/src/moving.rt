@@ -22,18 +22,11 @@ pub enum Column {
 }
 
 // The words go to the first results in order; the other results stay, and all of them where the column is refused.
-pub fn move_column(
-    from: Width,
-    to: Width,
-    rule: Rule,
-    words: &[u64],
-    results: &mut [u64],
-) -> Column
+pub fn move_column(from: Width, to: Width, rule: Rule, words: &[u64], results: &mut [u64]) -> Column
     ensures { λ a. ⌜ MovesColumn (from .bits) (to .bits) rule (now (words .entry)) (length (now (results .entry))) a ⌝ }
     ensures { λ a. ⌜ Holds (from .bits) (to .bits) rule (now (words .entry)) (now (results .entry)) a (now (results .exit)) ⌝ }
 {
-    let verdict = from
-        .test()
+    let verdict = from.test()
         .then(to.test())
         .then(test_room(words.len(), results.len()));
     if let Verdict::Refused(q) = verdict {
@@ -91,13 +84,7 @@ fn try_word(from: Width, to: Width, rule: Rule, word: u64) -> Verdict
 }
 
 // The words that were tried, moved to the first results.
-fn write_words(
-    from: Width,
-    to: Width,
-    rule: Rule,
-    words: &[u64],
-    results: &mut [u64],
-)
+fn write_words(from: Width, to: Width, rule: Rule, words: &[u64], results: &mut [u64])
     requires { ⌜ length (now words) ≤ length (now results) ⌝ }
     requires { ⌜ MovableUpTo (from .bits) (to .bits) rule (now words) (length (now words)) ⌝ }
     ensures { λ _. ⌜ AreMoved (from .bits) (to .bits) rule (now (words .entry)) (length (now (words .entry))) (now (results .entry)) (now (results .exit)) ⌝ }

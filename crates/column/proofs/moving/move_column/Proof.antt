@@ -1,67 +1,80 @@
+-- `move_column` meets its contract: the tests are made in their order, then every word is tried, and only then is anything written. Assumes nothing.
+use mathlib.Core.Path.{_≡_, refl}
+use Prim.Native.Nat.{_≤_}
 use borrow.Author.Needs.{needs}
+use lib.ListN.{length}
+use Rattle.word.specs.declared.refusal.Verdict.{Verdict}
+use Rattle.word.specs.Refusals.{widthTest, _then_, through, refused}
+use Rattle.word.proofs.Verdicts.{told-three, then-through}
+use Rattle.column.specs.Columns.{roomTest, MovesColumn, Holds}
+use Rattle.column.proofs.Rooms.{room-through}
+use Rattle.column.proofs.Outcomes.{every-word-movable, results-held, nothing-written}
 use Rattle.column.proofs.moving.move_column.Statement.{statement}
 use Rattle.column.proofs.moving.move_column.Tie as tie
-use Rattle.column.proofs.moving.move_column.Reads as reads
-use Rattle.column.proofs.moving.move_column.Lts as lts
-use Rattle.column.proofs.moving.test_room.Reads as test-room-reads
-use Rattle.column.proofs.moving.try_words.Reads as try-words-reads
-use Rattle.column.proofs.moving.write_words.Reads as write-words-reads
-use Rattle.word.proofs.refusal.Verdict.then.Reads as then-reads
-use Rattle.word.proofs.width.Width.test.Reads as test-reads
 
--- src/moving.rt:35:19
+-- the verdict as the tests in their order
+module _ (c : tie.After-then2) where
+  abbrev start : tie.Start
+  start = c .before .before .before .before .before .before .before
+
+  told : {u : Verdict} → c .then2 .result ≡ u → widthTest (start .args .from .bits) then widthTest (start .args .to .bits) then roomTest (length (start .args .words .now)) (length (start .args .results .now)) ≡ u
+  told h = told-three (c .before .before .before .before .test .ensures) (c .before .before .before .test2 .ensures) (c .before .before .then .ensures) (c .before .test-room .ensures) (c .then2 .ensures) h
+
+  -- what is known once it has let the widths and the room through
+  let-through : c .then2 .result ≡ Verdict.Through → (widthTest (start .args .from .bits) ≡ Verdict.Through) × (widthTest (start .args .to .bits) ≡ Verdict.Through) × (length (start .args .words .now) ≤ length (start .args .results .now))
+  let-through h =
+      let t = then-through _ _ (told h) in
+      let w = then-through _ _ (t .0) in
+      (w .0, w .1, room-through _ _ (t .1))
+
 test-requires : tie.Need-test-requires
 test-requires c κs = search needs
 
--- src/moving.rt:37:15
 test-requires-2 : tie.Need-test-requires-2
 test-requires-2 c κs = search needs
 
--- src/moving.rt:35:19
 then-requires : tie.Need-then-requires
 then-requires c κs = search needs
 
--- src/moving.rt:38:15
 test-room-requires : tie.Need-test-room-requires
 test-room-requires c κs = search needs
 
--- src/moving.rt:35:9
 then-requires-2 : tie.Need-then-requires-2
 then-requires-2 c κs = search needs
 
--- src/moving.rt:39:29
 enum-known-verdict : tie.Need-enum-known-verdict
 enum-known-verdict c = search needs
 
--- src/moving.rt:40:9
 returns : tie.Need-returns
-returns c = ?
+unfolding MovesColumn Holds
+returns c = (refused (told (c .before .before .before) (c .before .verdict .given .1)) refl, refl)
 
 enum-told : tie.Need-enum-told
 enum-told c = search needs
 
--- src/moving.rt:42:9
 try-words-requires : tie.Need-try-words-requires
-try-words-requires c κs = ?
+try-words-requires c κs = let t = let-through (c .before .before) (c .enum-told .given .1) in
+    (t .0, t .1)
 
 enum-told-2 : tie.Need-enum-told-2
 enum-told-2 c = search needs
 
--- src/moving.rt:44:9
 returns-2 : tie.Need-returns-2
-returns-2 c = ?
+unfolding MovesColumn
+returns-2 c = let t = c .before .before in
+    (through (told (t .before .before) (t .enum-told .given .1)) (c .before .try-words .ensures), nothing-written _ _ _ _ _ _ (c .match2 .keys2))
 
--- src/moving.rt:46:5
 write-words-requires : tie.Need-write-words-requires
-write-words-requires c κs = ?
+write-words-requires c κs = let t = c .before .before .before in
+    (let-through (t .before .before .before) (t .before .enum-told .given .1) .2, every-word-movable _ _ _ _ _ (t .try-words .ensures) _ (c .before .enum-told2 .given .1))
 
--- src/moving.rt:25:1
 same-length : tie.Need-same-length
 same-length c = search needs
 
--- src/moving.rt:25:1
 returns-3 : tie.Need-returns-3
-returns-3 c = ?
+unfolding MovesColumn
+returns-3 c = let t = c .before .before .before .before .before .before in
+    (through (told (t .before .before .before) (t .before .enum-told .given .1)) (t .try-words .ensures), results-held _ _ _ _ _ (t .try-words .ensures) _ _ _ (c .before .before .before .before .enum-told2 .given .1) (c .before .before .write-words .ensures))
 
 pub move-column-spec : {M : Type 1} → statement M
 move-column-spec =

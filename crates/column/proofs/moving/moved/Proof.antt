@@ -5,9 +5,6 @@ use Rattle.write.specs.Writes.{Moves}
 use Rattle.column.proofs.Trials.{not-refused}
 use Rattle.column.proofs.moving.moved.Statement.{statement}
 use Rattle.column.proofs.moving.moved.Tie as tie
-use Rattle.column.proofs.moving.moved.Reads as reads
-use Rattle.column.proofs.moving.moved.Lts as lts
-use Rattle.write.proofs.moving.move_word.Reads as move-word-reads
 
 move-word-requires : tie.Need-move-word-requires
 move-word-requires c κs = search needs

@@ -6,10 +6,6 @@ use Rattle.column.proofs.Trials.{rounded-tried, word-given, refusal-giv
 use borrow.Author.Needs.{needs}
 use Rattle.column.proofs.moving.try_word.Statement.{statement}
 use Rattle.column.proofs.moving.try_word.Tie as tie
-use Rattle.column.proofs.moving.try_word.Reads as reads
-use Rattle.column.proofs.moving.try_word.Lts as lts
-use Rattle.word.proofs.width.Width.test_word.Reads as test-word-reads
-use Rattle.write.proofs.moving.move_word.Reads as move-word-reads
 
 enum-told : tie.Need-enum-told
 enum-told c = search needs

@@ -9,9 +9,6 @@ use Rattle.column.specs.Columns.{MovableUpTo}
 use Rattle.column.proofs.Walks.{none-tried, one-more-tried, first-refused, all-tried}
 use Rattle.column.proofs.moving.try_words.Statement.{statement}
 use Rattle.column.proofs.moving.try_words.Tie as tie
-use Rattle.column.proofs.moving.try_words.Reads as reads
-use Rattle.column.proofs.moving.try_words.Lts as lts
-use Rattle.column.proofs.moving.try_word.Reads as try-word-reads
 
 abbrev Inv-loop : tie.InvT-loop
 Inv-loop from to rule words i₀ i = (i ≤ length words) × MovableUpTo (from .bits) (to .bits) rule words i

@@ -1,20 +1,15 @@
 -- `write_words` meets its contract. The invariant of its loop: the first i results are the moved words, the others are as they were. The measure
 -- is the number of words that are left. Assumes nothing.
-use mathlib.Core.Path.{subst}
-use Prim.Native.Nat.{ℕ, _-_, _≤_, zero-le}
-use native.Mathlib.Nat.{le-antisymm}
+use Prim.Native.Nat.{_-_, _≤_, zero-le}
 use native.Mathlib.Numerals.{add-one-le}
 use native.Mathlib.Omega.{arith}
 use borrow.Author.Count.{falls}
 use borrow.Author.Needs.{needs}
 use lib.ListN.{length}
 use Rattle.column.specs.Columns.{MovableUpTo, AreMoved}
-use Rattle.column.proofs.Walks.{none-written, one-more-written}
+use Rattle.column.proofs.Walks.{none-written, one-more-written, all-written}
 use Rattle.column.proofs.moving.write_words.Statement.{statement}
 use Rattle.column.proofs.moving.write_words.Tie as tie
-use Rattle.column.proofs.moving.write_words.Reads as reads
-use Rattle.column.proofs.moving.write_words.Lts as lts
-use Rattle.column.proofs.moving.moved.Reads as moved-reads
 
 abbrev Inv-loop : tie.InvT-loop
 Inv-loop from to rule words results₀ i₀ results i = (i ≤ length words) × AreMoved (from .bits) (to .bits) rule words i results₀ results
@@ -32,6 +27,7 @@ shared-slice-read-moved : tie.Need-shared-slice-read-moved Inv-loop μ-loop
 shared-slice-read-moved c = search needs
 
 moved-requires : tie.Need-moved-requires Inv-loop μ-loop
+unfolding MovableUpTo
 moved-requires c κs = c .before .before .before .before .before .pre .1 _ (c .before .loop-test .taken)
 
 mul-results : tie.Need-mul-results Inv-loop μ-loop
@@ -55,7 +51,7 @@ same-length : tie.Need-same-length Inv-loop μ-loop
 same-length c = c .before .loop .inv .1 .room
 
 returns : tie.Need-returns Inv-loop μ-loop
-returns c = subst (λ (count : ℕ). AreMoved _ _ _ _ count _ _) (le-antisymm (c .before .loop .inv .0) (c .loop-test .left)) (c .before .loop .inv .1)
+returns c = all-written _ _ _ _ _ _ _ (c .before .loop .inv .0) (c .loop-test .left) (c .before .loop .inv .1)
 
 pub write-words-spec : {M : Type 1} → statement M
 write-words-spec =

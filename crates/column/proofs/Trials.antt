@@ -4,7 +4,7 @@ use Prim.Native.Nat.{ℕ}
 use Rattle.word.specs.declared.answer.Answer.{Answer}
 use Rattle.word.specs.declared.refusal.Refusal.{Refusal}
 use Rattle.word.specs.declared.refusal.Verdict.{Verdict}
-use Rattle.word.specs.Refusals.{widthTest, strayTest, _then_, refused}
+use Rattle.word.specs.Refusals.{widthTest, strayTest, refused}
 use Rattle.word.proofs.Answers.{GivesAWord}
 use Rattle.word.proofs.Verdicts.{width-through, word-through}
 use Rattle.write.specs.declared.value.Rule.{Rule}

@@ -1,5 +1,5 @@
 -- `try_word` meets its contract. Assumes nothing.
-use mathlib.Core.Path.{_≡_, sym, subst}
+use mathlib.Core.Path.{sym, subst}
 use Rattle.write.specs.declared.value.Rule.{Rule}
 use Rattle.column.specs.Columns.{Tries}
 use Rattle.column.proofs.Trials.{rounded-tried, word-given, refusal-given}

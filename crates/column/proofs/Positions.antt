@@ -1,5 +1,5 @@
 -- What the contract of a column says at each position, where the column was moved and where it was refused. Assumes nothing.
-use mathlib.Core.Path.{_≡_, refl, sym, ap, _∙_, subst}
+use mathlib.Core.Path.{_≡_, refl, ap, subst}
 use mathlib.Core.List.{List, []}
 use Prim.Native.Nat.{ℕ, _≤_, _<_, zero-le}
 use native.Mathlib.Omega.{arith}
@@ -13,7 +13,7 @@ use Rattle.write.specs.declared.value.Rule.{Rule}
 use Rattle.write.specs.Writes.{Moves}
 use Rattle.write.proofs.OneOutcome.{moves-one}
 use Rattle.column.specs.declared.moving.Column.{Column}
-use Rattle.column.specs.Columns.{roomTest, Movable, MovableUpTo, FirstRefusal, IsColumn, MovesColumn, Holds}
+use Rattle.column.specs.Columns.{roomTest, MovableUpTo, FirstRefusal, IsColumn, MovesColumn, Holds}
 use Rattle.column.proofs.Rooms.{room-fits, room-short, room-through}
 use Rattle.column.proofs.Trials.{not-refused}
 

@@ -37,7 +37,7 @@ pub fn move_column(from: Width, to: Width, rule: Rule, words: &[u64], results: &
         return tried;
     };
     write_words(from, to, rule, words, results);
-    tried
+    Column::Moved(words.len())
 }
 
 // Refuses a result slice that is too short.
@@ -55,18 +55,15 @@ fn try_words(from: Width, to: Width, rule: Rule, words: &[u64]) -> Column
     requires { ⌜ (widthTest (from .bits) ≡ Verdict.Through) × (widthTest (to .bits) ≡ Verdict.Through) ⌝ }
     ensures { λ a. ⌜ IsColumn (from .bits) (to .bits) rule (now (words .entry)) a ⌝ }
 {
-    let mut i = 0;
-    while i < words.len() {
-        let verdict = try_word(from, to, rule, words[i]);
+    let mut position = 0;
+    while position < words.len() {
+        let verdict = try_word(from, to, rule, words[position]);
         if let Verdict::Refused(refusal) = verdict {
-            return Column::RefusedAt {
-                position: i,
-                refusal,
-            };
+            return Column::RefusedAt { position, refusal };
         }
-        i += 1;
+        position += 1;
     }
-    Column::Moved(i)
+    Column::Moved(words.len())
 }
 
 // Whether the word can be moved. Rounding gives every word of the width a word, so only a stray bit is refused there.

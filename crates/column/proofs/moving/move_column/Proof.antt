@@ -1,6 +1,7 @@
 -- `move_column` meets its contract: the tests are made in their order, then every word is tried, and only then is anything written. Assumes nothing.
 use mathlib.Core.Path.{_≡_, refl}
 use Prim.Native.Nat.{_≤_}
+use native.Mathlib.Nat.{le-refl}
 use borrow.Author.Needs.{needs}
 use lib.ListN.{length}
 use Rattle.word.specs.declared.refusal.Verdict.{Verdict}
@@ -8,7 +9,8 @@ use Rattle.word.specs.Refusals.{widthTest, _then_, through, refused}
 use Rattle.word.proofs.Verdicts.{told-three, then-through}
 use Rattle.column.specs.Columns.{roomTest, MovesColumn, Holds}
 use Rattle.column.proofs.Rooms.{room-through}
-use Rattle.column.proofs.Outcomes.{every-word-movable, results-held, nothing-written}
+use Rattle.column.proofs.Outcomes.{every-word-movable, nothing-written}
+use Rattle.column.proofs.Walks.{all-tried}
 use Rattle.column.proofs.moving.move_column.Statement.{statement}
 use Rattle.column.proofs.moving.move_column.Tie as tie
 
@@ -66,15 +68,16 @@ returns-2 c = let t = c .before .before in
 
 write-words-requires : tie.Need-write-words-requires
 write-words-requires c κs = let t = c .before .before .before in
-    (let-through (t .before .before .before) (t .before .enum-told .given .1) .2, every-word-movable _ _ _ _ _ (t .try-words .ensures) _ (c .before .enum-told2 .given .1))
+    (let-through (t .before .before .before) (t .before .enum-told .given .1) .2, every-word-movable _ _ _ _ _ _ (t .try-words .ensures) (c .before .enum-told2 .given .1))
 
 same-length : tie.Need-same-length
 same-length c = search needs
 
 returns-3 : tie.Need-returns-3
-unfolding MovesColumn
+unfolding MovesColumn Holds
 returns-3 c = let t = c .before .before .before .before .before .before in
-    (through (told (t .before .before .before) (t .before .enum-told .given .1)) (t .try-words .ensures), results-held _ _ _ _ _ (t .try-words .ensures) _ _ _ (c .before .before .before .before .enum-told2 .given .1) (c .before .before .write-words .ensures))
+    let movable = every-word-movable _ _ _ _ _ _ (t .try-words .ensures) (c .before .before .before .before .enum-told2 .given .1) in
+    (through (told (t .before .before .before) (t .before .enum-told .given .1)) (all-tried _ _ _ _ _ (le-refl _) movable), c .before .before .write-words .ensures)
 
 pub move-column-spec : {M : Type 1} → statement M
 move-column-spec =

@@ -1,8 +1,7 @@
--- `try_words` meets its contract. The invariant of its loop: every word before i is moved to some word. The measure is the number of words that
+-- `try_words` meets its contract. The invariant of its loop: every word before the position is moved to some word. The measure is the number of words that
 -- are left. Assumes nothing.
 use Prim.Native.Nat.{_-_, _≤_, zero-le}
 use native.Mathlib.Numerals.{add-one-le}
-use borrow.Author.Count.{falls}
 use borrow.Author.Needs.{needs}
 use lib.ListN.{length}
 use Rattle.column.specs.Columns.{MovableUpTo}
@@ -11,10 +10,10 @@ use Rattle.column.proofs.moving.try_words.Statement.{statement}
 use Rattle.column.proofs.moving.try_words.Tie as tie
 
 abbrev Inv-loop : tie.InvT-loop
-Inv-loop from to rule words i₀ i = (i ≤ length words) × MovableUpTo (from .bits) (to .bits) rule words i
+Inv-loop from to rule words position₀ position = (position ≤ length words) × MovableUpTo (from .bits) (to .bits) rule words position
 
 abbrev μ-loop : tie.MeasureT-loop
-μ-loop from to rule words i₀ i = length words - i
+μ-loop from to rule words position₀ position = length words - position
 
 loop-holds : tie.Need-loop-holds Inv-loop μ-loop
 loop-holds c = (zero-le, none-tried _ _ _ _)
@@ -38,19 +37,18 @@ returns c = let t = c .before .before .before in
 enum-told : tie.Need-enum-told Inv-loop μ-loop
 enum-told c = search needs
 
-add-i : tie.Need-add-i Inv-loop μ-loop
-add-i c = search needs
+add-position : tie.Need-add-position Inv-loop μ-loop
+add-position c = search needs
 
 loop-less : tie.Need-loop-less Inv-loop μ-loop
-loop-less c = let t = c .before .before in
-    falls (length (t .before .before .before .before .before .args .words .now)) (t .before .before .before .loop .i) (t .before .before .loop-test .taken)
+loop-less c = search needs
 
 loop-again : tie.Need-loop-again Inv-loop μ-loop
 loop-again c = let t = c .before .before in
     (add-one-le (t .before .before .loop-test .taken), one-more-tried _ _ _ _ _ _ (t .try-word .ensures) (t .before .before .before .loop .inv .1) (c .enum-told .given .1))
 
 returns-2 : tie.Need-returns-2 Inv-loop μ-loop
-returns-2 c = all-tried _ _ _ _ _ (c .before .loop .inv .0) (c .loop-test .left) (c .before .loop .inv .1)
+returns-2 c = all-tried _ _ _ _ _ (c .loop-test .left) (c .before .loop .inv .1)
 
 pub try-words-spec : {M : Type 1} → statement M
 try-words-spec =
@@ -65,7 +63,7 @@ try-words-spec =
     enum-known-verdict
     returns
     enum-told
-    add-i
+    add-position
     loop-less
     loop-again
     returns-2)

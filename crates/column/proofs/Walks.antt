@@ -31,9 +31,9 @@ module _ (n n' : ℕ) (rule : Rule) (words : List ℕ) where
     unfolding IsColumn Tries
     first-refused q inside h = record { inside = inside; lowest = before; is = subst (Tries n n' rule (getD words i 0)) h tried }
 
-  pub all-tried : (i : ℕ) → length words ≤ i → MovableUpTo n n' rule words i → IsColumn n n' rule words (Column.Moved (length words))
-  unfolding IsColumn MovableUpTo
-  all-tried i end x = (refl, λ k h. x k (omega (arith, h, end)))
+  pub all-tried : (i : ℕ) → i ≤ length words → length words ≤ i → MovableUpTo n n' rule words i → IsColumn n n' rule words (Column.Moved i)
+  unfolding IsColumn
+  all-tried i lo hi x = (le-antisymm lo hi, x)
 
   -- ---- writing
   pub none-written : (before : List ℕ) → AreMoved n n' rule words 0 before before

@@ -63,7 +63,7 @@ fn try_words(from: Width, to: Width, rule: Rule, words: &[u64]) -> Column
         }
         position += 1;
     }
-    Column::Moved(words.len())
+    Column::Moved(position)
 }
 
 // Whether the word can be moved. Rounding gives every word of the width a word, so only a stray bit is refused there.

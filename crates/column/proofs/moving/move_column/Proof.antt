@@ -77,7 +77,7 @@ returns-3 : tie.Need-returns-3
 unfolding MovesColumn Holds
 returns-3 c = let t = c .before .before .before .before .before .before in
     let movable = every-word-movable _ _ _ _ _ _ (t .try-words .ensures) (c .before .before .before .before .enum-told2 .given .1) in
-    (through (told (t .before .before .before) (t .before .enum-told .given .1)) (all-tried _ _ _ _ _ (le-refl _) movable), c .before .before .write-words .ensures)
+    (through (told (t .before .before .before) (t .before .enum-told .given .1)) (all-tried _ _ _ _ _ (le-refl _) (le-refl _) movable), c .before .before .write-words .ensures)
 
 pub move-column-spec : {M : Type 1} → statement M
 move-column-spec =

@@ -48,7 +48,7 @@ loop-again c = let t = c .before .before in
     (add-one-le (t .before .before .loop-test .taken), one-more-tried _ _ _ _ _ _ (t .try-word .ensures) (t .before .before .before .loop .inv .1) (c .enum-told .given .1))
 
 returns-2 : tie.Need-returns-2 Inv-loop μ-loop
-returns-2 c = all-tried _ _ _ _ _ (c .loop-test .left) (c .before .loop .inv .1)
+returns-2 c = all-tried _ _ _ _ _ (c .before .loop .inv .0) (c .loop-test .left) (c .before .loop .inv .1)
 
 pub try-words-spec : {M : Type 1} → statement M
 try-words-spec =

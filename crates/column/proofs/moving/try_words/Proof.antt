@@ -1,7 +1,6 @@
 -- `try_words` meets its contract. The invariant of its loop: every word before the position is moved to some word. The measure is the number of words that
 -- are left. Assumes nothing.
-use Prim.Native.Nat.{_-_, _≤_, zero-le}
-use native.Mathlib.Numerals.{add-one-le}
+use Prim.Native.Nat.{_-_, _≤_}
 use borrow.Author.Needs.{needs}
 use lib.ListN.{length}
 use Rattle.column.specs.Columns.{MovableUpTo}
@@ -16,7 +15,7 @@ abbrev μ-loop : tie.MeasureT-loop
 μ-loop from to rule words position₀ position = length words - position
 
 loop-holds : tie.Need-loop-holds Inv-loop μ-loop
-loop-holds c = (zero-le, none-tried _ _ _ _)
+loop-holds c = (search needs, none-tried _ _ _ _)
 
 mul-try-word : tie.Need-mul-try-word Inv-loop μ-loop
 mul-try-word c = search needs
@@ -45,7 +44,7 @@ loop-less c = search needs
 
 loop-again : tie.Need-loop-again Inv-loop μ-loop
 loop-again c = let t = c .before .before in
-    (add-one-le (t .before .before .loop-test .taken), one-more-tried _ _ _ _ _ _ (t .try-word .ensures) (t .before .before .before .loop .inv .1) (c .enum-told .given .1))
+    (search needs, one-more-tried _ _ _ _ _ _ (t .try-word .ensures) (t .before .before .before .loop .inv .1) (c .enum-told .given .1))
 
 returns-2 : tie.Need-returns-2 Inv-loop μ-loop
 returns-2 c = all-tried _ _ _ _ _ (c .before .loop .inv .0) (c .loop-test .left) (c .before .loop .inv .1)

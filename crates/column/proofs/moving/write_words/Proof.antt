@@ -1,8 +1,6 @@
 -- `write_words` meets its contract. The invariant of its loop: the first i results are the moved words, the others are as they were. The measure
 -- is the number of words that are left. Assumes nothing.
-use Prim.Native.Nat.{_-_, _≤_, zero-le}
-use native.Mathlib.Numerals.{add-one-le}
-use native.Mathlib.Omega.{arith}
+use Prim.Native.Nat.{_-_, _≤_}
 use borrow.Author.Needs.{needs}
 use lib.ListN.{length}
 use Rattle.column.specs.Columns.{MovableUpTo, AreMoved}
@@ -17,7 +15,7 @@ abbrev μ-loop : tie.MeasureT-loop
 μ-loop from to rule words results₀ i₀ results i = length words - i
 
 loop-holds : tie.Need-loop-holds Inv-loop μ-loop
-loop-holds c = (zero-le, none-written _ _ _ _ _)
+loop-holds c = (search needs, none-written _ _ _ _ _)
 
 mul-moved : tie.Need-mul-moved Inv-loop μ-loop
 mul-moved c = search needs
@@ -43,7 +41,7 @@ loop-less c = search needs
 
 loop-again : tie.Need-loop-again Inv-loop μ-loop
 loop-again c = let t = c .before .before in
-    (add-one-le (t .loop-test .taken), one-more-written _ _ _ _ _ _ _ _ (omega (arith, t .loop-test .taken, t .before .before .before .before .pre .0)) (t .before .loop .inv .1) (c .moved .ensures))
+    (search needs, one-more-written _ _ _ _ _ _ _ _ (search needs) (t .before .loop .inv .1) (c .moved .ensures))
 
 same-length : tie.Need-same-length Inv-loop μ-loop
 same-length c = c .before .loop .inv .1 .room

@@ -84,7 +84,7 @@ module _ (n n' : ℕ) (rule : Rule) (words before : List ℕ) (count : ℕ) (aft
 
 -- ---- a column that was refused at a position
 module _ (n n' : ℕ) (rule : Rule) (words : List ℕ) (room position : ℕ) (q : Refusal) (answer : MovesColumn n n' rule words room (Column.RefusedAt position q)) where
-  first : FirstRefusal n n' rule words position q
+  pub first : FirstRefusal n n' rule words position q
   unfolding SpeaksOfWords IsColumn
   first = passed n n' rule words room (Column.RefusedAt position q) tt answer .is
 

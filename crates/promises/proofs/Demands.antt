@@ -2,6 +2,7 @@
 use mathlib.Core.Path.{_≡_, refl, ap, _∙_}
 use mathlib.Core.Logic.{_⊎_, inl, inr, ⊎-elim}
 use Prim.Native.Nat.{ℕ, _^_, _≤_, _<_}
+use lib.ListN.{length}
 use native.Mathlib.Decide.{decLt}
 use native.Mathlib.Omega.{arith}
 use Rattle.word.specs.declared.order.Comparison.{Comparison}
@@ -18,6 +19,7 @@ use Rattle.word.proofs.Values.{order-of-values, order-same, NaR-below, above-Na
 use Rattle.word.proofs.Binades.{meaning-one}
 use Rattle.write.specs.Writes.{Writes, Moves}
 use Rattle.whole.specs.Wholes.{WritesWhole, TakesWhole}
+use Rattle.column.specs.Columns.{roomTest, MovesColumn}
 use Rattle.binary64.specs.Takes.{TakesBinary64}
 use Rattle.binary64.specs.Writes.{WritesBinary64}
 use Rattle.promises.specs.Demands.{RefusedAs, RefusesWidths, RefusesStrays, WidthRefused, StrayRefused, ReadingIsTheDefinition, ReadingTellsWordsApart, ComparisonIsTheOrderOfValues, NaRIsBelowEveryValue, EveryValueIsAboveNaR, EveryWordEqualsItself, NegationNegates}
@@ -37,20 +39,21 @@ bad-width-of-word n w h = rw (bad-width n h)
 bad-width-of-words : (n x y : ℕ) → (n < 2) ⊎ (64 < n) → widthTest n then strayTest n x then strayTest n y ≡ Verdict.Refused Refusal.Width
 bad-width-of-words n x y h = rw (bad-width n h)
 
-bad-source : (n n' w : ℕ) → (n < 2) ⊎ (64 < n) → widthTest n then widthTest n' then strayTest n w ≡ Verdict.Refused Refusal.Width
-bad-source n n' w h = rw (bad-width n h)
+-- with a second width and any test after both
+bad-source : (n n' : ℕ) (v : Verdict) → (n < 2) ⊎ (64 < n) → widthTest n then widthTest n' then v ≡ Verdict.Refused Refusal.Width
+bad-source n n' v h = rw (bad-width n h)
 
 -- the source may be a bad width too
-bad-target : (n n' w : ℕ) → (n' < 2) ⊎ (64 < n') → widthTest n then widthTest n' then strayTest n w ≡ Verdict.Refused Refusal.Width
-bad-target n n' w h = by (decLt n 2) (decLt 64 n)
+bad-target : (n n' : ℕ) (v : Verdict) → (n' < 2) ⊎ (64 < n') → widthTest n then widthTest n' then v ≡ Verdict.Refused Refusal.Width
+bad-target n n' v h = by (decLt n 2) (decLt 64 n)
   where
-    by : Dec (n < 2) → Dec (64 < n) → widthTest n then widthTest n' then strayTest n w ≡ Verdict.Refused Refusal.Width
-    by (yes l) d = bad-source n n' w (inl l)
-    by (no f) (yes l) = bad-source n n' w (inr l)
+    by : Dec (n < 2) → Dec (64 < n) → widthTest n then widthTest n' then v ≡ Verdict.Refused Refusal.Width
+    by (yes l) d = bad-source n n' v (inl l)
+    by (no f) (yes l) = bad-source n n' v (inr l)
     by (no f) (no g) = rw (width-fits n (not-more f) (not-more g), bad-width n' h)
 
 pub width-refused : WidthRefused
-unfolding RefusesWidths Makes GivesWord GivesLimit Reads Compares Negates Writes Moves WritesWhole TakesWhole WritesBinary64 TakesBinary64
+unfolding RefusesWidths Makes GivesWord GivesLimit Reads Compares Negates Writes Moves WritesWhole TakesWhole WritesBinary64 TakesBinary64 MovesColumn
 width-refused = record {
   test = λ n a h x. record { q = Refusal.Width; is = x ∙ bad-width n h; known = refl };
   new = λ n a h x. handed-back Refusal.Width (bad-width n h) x;
@@ -64,8 +67,10 @@ width-refused = record {
   take-whole = λ rule w n a h x. handed-back Refusal.Width (bad-width-of-word n w h) x;
   write-binary64 = λ rule y n a h x. handed-back Refusal.Width (bad-width n h) x;
   take-binary64 = λ w n a h x. handed-back Refusal.Width (bad-width-of-word n w h) x;
-  move-from = λ to rule w n a h x. handed-back Refusal.Width (bad-source n to w h) x;
-  move-to = λ from rule w n a h x. handed-back Refusal.Width (bad-target from n w h) x;
+  move-from = λ to rule w n a h x. handed-back Refusal.Width (bad-source n to (strayTest n w) h) x;
+  column-from = λ to rule words room n a h x. handed-back Refusal.Width (bad-source n to (roomTest (length words) room) h) x;
+  column-to = λ from rule words room n a h x. handed-back Refusal.Width (bad-target from n (roomTest (length words) room) h) x;
+  move-to = λ from rule w n a h x. handed-back Refusal.Width (bad-target from n (strayTest from w) h) x;
 }
 
 stray-word : (n w : ℕ) → 2 ≤ n → n ≤ 64 → 2 ^ n ≤ w → widthTest n then strayTest n w ≡ Verdict.Refused Refusal.Stray

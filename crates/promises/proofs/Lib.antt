@@ -3,4 +3,5 @@ pub mod Demands
 pub mod Figures
 pub mod Numbers
 pub mod OneOutcome
+pub mod Slices
 pub mod Writing

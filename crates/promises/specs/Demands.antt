@@ -1,5 +1,6 @@
 -- The demands of the letter, as statements about what the public contracts allow.
 use mathlib.Core.Path.{_≡_}
+use mathlib.Core.List.{List}
 use mathlib.Core.Logic.{_⊎_}
 use Prim.Native.Nat.{ℕ, _^_, _≤_, _<_}
 use lib.Ieee.{Float}
@@ -22,6 +23,8 @@ use Rattle.write.specs.Writes.{Writes, Moves}
 use Rattle.whole.specs.declared.taking.Taking.{Taking}
 use Rattle.whole.specs.declared.taking.Whole.{Whole}
 use Rattle.whole.specs.Wholes.{WritesWhole, TakesWhole}
+use Rattle.column.specs.declared.moving.Column.{Column}
+use Rattle.column.specs.Columns.{MovesColumn}
 use Rattle.binary64.specs.declared.taking.Binary64.{Binary64}
 use Rattle.binary64.specs.Takes.{TakesBinary64}
 use Rattle.binary64.specs.Writes.{WritesBinary64}
@@ -56,6 +59,8 @@ pub record WidthRefused : Type 0 where
   pub write-binary64 : (rule : Rule) (x : Float) → RefusesWidths Answer.Refused (λ n. WritesBinary64 n rule x)
   pub take-binary64 : (w : ℕ) → RefusesWidths Binary64.Refused (λ n. TakesBinary64 n w)
   pub move-from : (to : ℕ) (rule : Rule) (w : ℕ) → RefusesWidths Answer.Refused (λ n. Moves n to rule w)
+  pub column-from : (to : ℕ) (rule : Rule) (words : List ℕ) (room : ℕ) → RefusesWidths Column.Refused (λ n. MovesColumn n to rule words room)
+  pub column-to : (from : ℕ) (rule : Rule) (words : List ℕ) (room : ℕ) → RefusesWidths Column.Refused (λ n. MovesColumn from n rule words room)
   pub move-to : (from : ℕ) (rule : Rule) (w : ℕ) → RefusesWidths Answer.Refused (λ n. Moves from n rule w)
 
 pub record StrayRefused : Type 0 where

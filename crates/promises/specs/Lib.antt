@@ -2,4 +2,5 @@
 pub mod Demands
 pub mod Figures
 pub mod Numbers
+pub mod Slices
 pub mod Writing

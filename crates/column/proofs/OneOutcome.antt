@@ -16,7 +16,7 @@ use Rattle.write.specs.declared.value.Rule.{Rule}
 use Rattle.write.specs.Writes.{Moves}
 use Rattle.write.proofs.OneOutcome.{moves-one}
 use Rattle.column.specs.declared.moving.Column.{Column}
-use Rattle.column.specs.Columns.{MovableUpTo, FirstRefusal, IsColumn, AreMoved, MovesColumn, Holds}
+use Rattle.column.specs.Columns.{MovableUpTo, FirstRefusal, IsTried, AreMoved, MovesColumn, Holds}
 use Rattle.column.proofs.Trials.{not-refused}
 
 module _ (n n' : ℕ) (rule : Rule) (words : List ℕ) where
@@ -29,8 +29,8 @@ module _ (n n' : ℕ) (rule : Rule) (words : List ℕ) where
       by (yes l) = absurd (not-refused n n' (getD words position 0) rule (Answer.Refused q) (x .is) q (movable position l) refl)
       by (no f) = not-more f
 
-  column-one : (a b : Column) → IsColumn n n' rule words a → IsColumn n n' rule words b → a ≡ b
-  unfolding IsColumn
+  column-one : (a b : Column) → IsTried n n' rule words a → IsTried n n' rule words b → a ≡ b
+  unfolding IsTried
   column-one (Column.Moved count) (Column.Moved count') x y = ap Column.Moved (x .0 ∙ sym (y .0))
   column-one (Column.Moved count) (Column.RefusedAt position q) x y = absurd (omega (arith, refused-later y (x .1), x .0, y .inside))
   column-one (Column.RefusedAt position q) (Column.Moved count) x y = absurd (omega (arith, refused-later x (y .1), y .0, x .inside))
@@ -50,7 +50,7 @@ module _ (n n' : ℕ) (rule : Rule) (words : List ℕ) where
 
   pub moves-column-one : (room : ℕ) (a b : Column) → MovesColumn n n' rule words room a → MovesColumn n n' rule words room b → a ≡ b
   unfolding MovesColumn
-  moves-column-one room a b = decided-one Column.Refused (IsColumn n n' rule words) column-one a b
+  moves-column-one room a b = decided-one Column.Refused (IsTried n n' rule words) column-one a b
 
   are-moved-one : (count : ℕ) (before after after' : List ℕ) → AreMoved n n' rule words count before after → AreMoved n n' rule words count before after' → after ≡ after'
   unfolding wordOf

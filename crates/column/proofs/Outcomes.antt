@@ -9,13 +9,13 @@ use denote.Enum.Declared.{tagOf}
 use types.Run.{OneOf}
 use Rattle.write.specs.declared.value.Rule.{Rule}
 use Rattle.column.specs.declared.moving.Column.{Column}
-use Rattle.column.specs.Columns.{MovableUpTo, IsColumn, Holds}
+use Rattle.column.specs.Columns.{MovableUpTo, IsTried, Holds}
 use Rattle.column.proofs.moving.Column.{the-type}
 
 -- where the trial's answer is a count, every word is moved to some word
-pub every-word-movable : (n n' : ℕ) (rule : Rule) (words : List ℕ) (a : Column) (count : ℕ) → IsColumn n n' rule words a → a ≡ Column.Moved count → MovableUpTo n n' rule words (length words)
-unfolding IsColumn
-every-word-movable n n' rule words a count x q = let y = subst (IsColumn n n' rule words) q x in subst (MovableUpTo n n' rule words) (y .0) (y .1)
+pub every-word-movable : (n n' : ℕ) (rule : Rule) (words : List ℕ) (a : Column) (count : ℕ) → IsTried n n' rule words a → a ≡ Column.Moved count → MovableUpTo n n' rule words (length words)
+unfolding IsTried
+every-word-movable n n' rule words a count x q = let y = subst (IsTried n n' rule words) q x in subst (MovableUpTo n n' rule words) (y .0) (y .1)
 
 -- an answer that is no count: of its cases the first is `Moved`
 pub nothing-written : (n n' : ℕ) (rule : Rule) (words before : List ℕ) (a : Column) → OneOf (1 ∷ 2 ∷ []) (tagOf the-type a) → Holds n n' rule words before a before

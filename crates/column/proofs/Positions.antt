@@ -1,28 +1,28 @@
 -- What the contract of a column says at each position, where the column was moved and where it was refused. Assumes nothing.
 use mathlib.Core.Path.{_≡_, refl, ap, subst}
 use mathlib.Core.List.{List, []}
-use Prim.Native.Nat.{ℕ, _≤_, _<_, zero-le}
+use Prim.Native.Nat.{ℕ, _^_, _≤_, _<_, zero-le}
 use native.Mathlib.Omega.{arith}
 use lib.ListN.{length, getD}
 use Rattle.word.specs.declared.answer.Answer.{Answer}
 use Rattle.word.specs.declared.refusal.Refusal.{Refusal}
 use Rattle.word.specs.declared.refusal.Verdict.{Verdict}
 use Rattle.word.specs.Refusals.{widthTest, _then_, through, refused}
-use Rattle.word.proofs.Verdicts.{then-through, answered, refused-as}
+use Rattle.word.proofs.Verdicts.{stray-fits, then-through, answered, refused-as}
 use Rattle.write.specs.declared.value.Rule.{Rule}
 use Rattle.write.specs.Writes.{Moves}
 use Rattle.write.proofs.OneOutcome.{moves-one}
 use Rattle.column.specs.declared.moving.Column.{Column}
-use Rattle.column.specs.Columns.{roomTest, MovableUpTo, FirstRefusal, IsColumn, MovesColumn, Holds}
+use Rattle.column.specs.Columns.{roomTest, MovableUpTo, FirstRefusal, IsTried, MovesColumn, Holds}
 use Rattle.column.proofs.Rooms.{room-fits, room-short, room-through}
-use Rattle.column.proofs.Trials.{not-refused}
+use Rattle.column.proofs.Trials.{rounded-movable, not-refused}
 
 -- ---- an answer that is no refusal of the whole column has passed the tests
 pub record Passed (n n' : ℕ) (rule : Rule) (words : List ℕ) (room : ℕ) (a : Column) : Type 0 where
   pub source : widthTest n ≡ Verdict.Through
   pub target : widthTest n' ≡ Verdict.Through
   pub fits : length words ≤ room
-  pub is : IsColumn n n' rule words a
+  pub is : IsTried n n' rule words a
 
 -- a column's answer that speaks of its words
 SpeaksOfWords : Column → Type 0
@@ -52,13 +52,25 @@ short-room-refused n n' rule words room a h h' short = refused-as Refusal.Room (
 
 -- ---- an empty column moves 0 words
 pub empty-column : (n n' : ℕ) (rule : Rule) (room : ℕ) (a : Column) → widthTest n ≡ Verdict.Through → widthTest n' ≡ Verdict.Through → MovesColumn n n' rule [] room a → a ≡ Column.Moved 0
-unfolding MovesColumn IsColumn
+unfolding MovesColumn IsTried
 empty-column n n' rule room a h h' x = by a (answered (passes n n' 0 room h h' zero-le) x)
   where
-    by : (a : Column) → IsColumn n n' rule [] a → a ≡ Column.Moved 0
+    by : (a : Column) → IsTried n n' rule [] a → a ≡ Column.Moved 0
     by (Column.Moved count) y = ap Column.Moved (y .0)
     by (Column.Refused q) y = absurd y
     by (Column.RefusedAt position q) y = absurd (omega (arith, y .inside))
+
+-- ---- rounded, a column of words of the width is not refused
+pub rounded-column-moves : (n n' : ℕ) (words : List ℕ) (room : ℕ) (a : Column) → widthTest n ≡ Verdict.Through → widthTest n' ≡ Verdict.Through → length words ≤ room → ((i : ℕ) → i < length words → getD words i 0 < 2 ^ n) → MovesColumn n n' Rule.Rounded words room a → a ≡ Column.Moved (length words)
+unfolding MovesColumn IsTried
+rounded-column-moves n n' words room a h h' fits inside x = by a (answered (passes n n' (length words) room h h' fits) x)
+  where
+    by : (a : Column) → IsTried n n' Rule.Rounded words a → a ≡ Column.Moved (length words)
+    by (Column.Moved count) y = ap Column.Moved (y .0)
+    by (Column.Refused q) y = absurd y
+    by (Column.RefusedAt position q) y =
+        let movable = rounded-movable n n' (getD words position 0) h h' (stray-fits n (getD words position 0) (inside position (y .inside))) in
+        absurd (not-refused n n' (getD words position 0) Rule.Rounded (Answer.Refused q) (y .is) q movable refl)
 
 -- ---- a column that was moved
 module _ (n n' : ℕ) (rule : Rule) (words before : List ℕ) (count : ℕ) (after : List ℕ) (answer : MovesColumn n n' rule words (length before) (Column.Moved count)) (held : Holds n n' rule words before (Column.Moved count) after) where
@@ -67,7 +79,7 @@ module _ (n n' : ℕ) (rule : Rule) (words before : List ℕ) (count : ℕ) (aft
   moved-passed = passed n n' rule words (length before) (Column.Moved count) tt answer
 
   pub every-word-counted : count ≡ length words
-  unfolding IsColumn
+  unfolding IsTried
   every-word-counted = moved-passed .is .0
 
   pub word-at : (i : ℕ) → i < length words → Moves n n' rule (getD words i 0) (Answer.Word (getD after i 0))
@@ -85,7 +97,7 @@ module _ (n n' : ℕ) (rule : Rule) (words before : List ℕ) (count : ℕ) (aft
 -- ---- a column that was refused at a position
 module _ (n n' : ℕ) (rule : Rule) (words : List ℕ) (room position : ℕ) (q : Refusal) (answer : MovesColumn n n' rule words room (Column.RefusedAt position q)) where
   pub first : FirstRefusal n n' rule words position q
-  unfolding SpeaksOfWords IsColumn
+  unfolding SpeaksOfWords IsTried
   first = passed n n' rule words room (Column.RefusedAt position q) tt answer .is
 
   -- `move_word` refuses the word there so, and no word before it

@@ -13,7 +13,7 @@ use Rattle.write.specs.declared.value.Rule.{Rule}
 use Rattle.write.specs.Writes.{Moves}
 use Rattle.write.proofs.Moves.{strict-keeps, there-and-back}
 use Rattle.column.specs.declared.moving.Column.{Column}
-use Rattle.column.specs.Columns.{IsColumn, MovesColumn, Holds}
+use Rattle.column.specs.Columns.{IsTried, MovesColumn, Holds}
 use Rattle.column.proofs.Positions.{Passed, passes, moved-passed, every-word-counted, word-at}
 
 module _ (n n' : ℕ) (words before : List ℕ) (count : ℕ) (after : List ℕ) (answer : MovesColumn n n' Rule.Strict words (length before) (Column.Moved count)) (held : Holds n n' Rule.Strict words before (Column.Moved count) after) where
@@ -39,10 +39,10 @@ module _ (n n' : ℕ) (words before : List ℕ) (count : ℕ) (after : List ℕ)
     back i r h m = there-and-back n n' (getD words i 0) (getD after i 0) rule r (moved-at i (omega (arith, h, every-word))) (subst (λ (w : ℕ). Moves n' n rule w r) (getD-take count after i 0 h) m)
 
     pub column-comes-home : (a : Column) (after' : List ℕ) → MovesColumn n' n rule (take count after) (length before') a → Holds n' n rule (take count after) before' a after' → (a ≡ Column.Moved count) × (take count after' ≡ words)
-    unfolding MovesColumn IsColumn Holds wordOf GivesAWord
+    unfolding MovesColumn IsTried Holds wordOf GivesAWord
     column-comes-home a after' x = by a (answered (passes n' n (length (take count after)) (length before') (ready .target) (ready .source) (omega (arith, results-counted, room))) x)
       where
-        by : (a : Column) → IsColumn n' n rule (take count after) a → Holds n' n rule (take count after) before' a after' → (a ≡ Column.Moved count) × (take count after' ≡ words)
+        by : (a : Column) → IsTried n' n rule (take count after) a → Holds n' n rule (take count after) before' a after' → (a ≡ Column.Moved count) × (take count after' ≡ words)
         by (Column.Moved count') z y = (ap Column.Moved (z .0 ∙ results-counted), ext-getD 0 (take count after') words (counted ∙ every-word) same)
           where
             counted : length (take count after') ≡ count

@@ -13,7 +13,8 @@ use Rattle.word.specs.declared.refusal.Verdict.{Verdict}
 use Rattle.write.specs.declared.value.Rule.{Rule}
 use Rattle.write.specs.Writes.{Moves}
 use Rattle.column.specs.declared.moving.Column.{Column}
-use Rattle.column.specs.Columns.{Movable, MovableUpTo, IsColumn, AreMoved, Tries}
+use Rattle.column.specs.Columns.{Movable, MovableUpTo, IsTried, AreMoved}
+use Rattle.column.specs.Trials.{TriesWord}
 
 module _ (n n' : ℕ) (rule : Rule) (words : List ℕ) where
   -- ---- trying
@@ -22,17 +23,17 @@ module _ (n n' : ℕ) (rule : Rule) (words : List ℕ) where
   none-tried = below-none (λ i. Movable n n' rule (getD words i 0))
 
   -- the word at i has been tried, with the verdict v
-  module _ (i : ℕ) (v : Verdict) (tried : Tries n n' rule (getD words i 0) v) (before : MovableUpTo n n' rule words i) where
+  module _ (i : ℕ) (v : Verdict) (tried : TriesWord n n' rule (getD words i 0) v) (before : MovableUpTo n n' rule words i) where
     pub one-more-tried : v ≡ Verdict.Through → MovableUpTo n n' rule words (i + 1)
-    unfolding MovableUpTo Tries
-    one-more-tried h = below-more (λ i. Movable n n' rule (getD words i 0)) i before (subst (Tries n n' rule (getD words i 0)) h tried)
+    unfolding MovableUpTo TriesWord
+    one-more-tried h = below-more (λ i. Movable n n' rule (getD words i 0)) i before (subst (TriesWord n n' rule (getD words i 0)) h tried)
 
-    pub first-refused : (q : Refusal) → i < length words → v ≡ Verdict.Refused q → IsColumn n n' rule words (Column.RefusedAt i q)
-    unfolding IsColumn Tries
-    first-refused q inside h = record { inside = inside; lowest = before; is = subst (Tries n n' rule (getD words i 0)) h tried }
+    pub first-refused : (q : Refusal) → i < length words → v ≡ Verdict.Refused q → IsTried n n' rule words (Column.RefusedAt i q)
+    unfolding IsTried TriesWord
+    first-refused q inside h = record { inside = inside; lowest = before; is = subst (TriesWord n n' rule (getD words i 0)) h tried }
 
-  pub all-tried : (i : ℕ) → i ≤ length words → length words ≤ i → MovableUpTo n n' rule words i → IsColumn n n' rule words (Column.Moved i)
-  unfolding IsColumn
+  pub all-tried : (i : ℕ) → i ≤ length words → length words ≤ i → MovableUpTo n n' rule words i → IsTried n n' rule words (Column.Moved i)
+  unfolding IsTried
   all-tried i lo hi x = (le-antisymm lo hi, x)
 
   -- ---- writing

@@ -31,11 +31,11 @@ pub record FirstRefusal (n n' : ℕ) (rule : Rule) (words : List ℕ) (position 
   pub lowest : MovableUpTo n n' rule words position
   pub is : Moves n n' rule (getD words position 0) (Answer.Refused q)
 
--- the number of words where every word is moved, else the first refusal
-unfoldable pub IsColumn : ℕ → ℕ → Rule → List ℕ → Column → Type 0
-IsColumn n n' rule words (Column.Moved count) = (count ≡ length words) × MovableUpTo n n' rule words count
-IsColumn n n' rule words (Column.RefusedAt position q) = FirstRefusal n n' rule words position q
-IsColumn n n' rule words (Column.Refused q) = ⊥
+-- what trying the words in order gives: their number where every word is moved, else the first refusal
+unfoldable pub IsTried : ℕ → ℕ → Rule → List ℕ → Column → Type 0
+IsTried n n' rule words (Column.Moved count) = (count ≡ length words) × MovableUpTo n n' rule words count
+IsTried n n' rule words (Column.RefusedAt position q) = FirstRefusal n n' rule words position q
+IsTried n n' rule words (Column.Refused q) = ⊥
 
 -- the first results are the moved words in order, the others are unchanged
 pub record AreMoved (n n' : ℕ) (rule : Rule) (words : List ℕ) (count : ℕ) (before after : List ℕ) : Type 0 where
@@ -43,17 +43,12 @@ pub record AreMoved (n n' : ℕ) (rule : Rule) (words : List ℕ) (count : ℕ) 
   pub moved : (i : ℕ) → i < count → Moves n n' rule (getD words i 0) (Answer.Word (getD after i 0))
   pub others : (i : ℕ) → count ≤ i → getD after i 0 ≡ getD before i 0
 
--- ---- what the call answers: WIDTH of the source, then of the target, then ROOM, then the first refusal in the column
+-- ---- what the call answers: WIDTH of the source, then of the target, then ROOM, then the lowest position's refusal
 unfoldable pub MovesColumn : ℕ → ℕ → Rule → List ℕ → ℕ → Column → Type 0
-MovesColumn n n' rule words room a = Decided (widthTest n then widthTest n' then roomTest (length words) room) (λ q. a ≡ Column.Refused q) (IsColumn n n' rule words a)
+MovesColumn n n' rule words room a = Decided (widthTest n then widthTest n' then roomTest (length words) room) (λ q. a ≡ Column.Refused q) (IsTried n n' rule words a)
 
 -- ---- and what the result slice holds afterwards: after a refusal, what it held before
 unfoldable pub Holds : ℕ → ℕ → Rule → List ℕ → List ℕ → Column → List ℕ → Type 0
 Holds n n' rule words before (Column.Moved count) after = AreMoved n n' rule words count before after
 Holds n n' rule words before (Column.Refused q) after = after ≡ before
 Holds n n' rule words before (Column.RefusedAt position q) after = after ≡ before
-
--- ---- inside the crate: a word that is tried is let through exactly where it is moved to some word, else refused as its move is
-unfoldable pub Tries : ℕ → ℕ → Rule → ℕ → Verdict → Type 0
-Tries n n' rule w Verdict.Through = Movable n n' rule w
-Tries n n' rule w (Verdict.Refused q) = Moves n n' rule w (Answer.Refused q)

@@ -12,7 +12,8 @@ ghost use Rattle.word.specs.declared.answer.Answer.{Answer};
 ghost use Rattle.word.specs.declared.refusal.Verdict.{Verdict};
 ghost use Rattle.word.specs.Refusals.{widthTest};
 ghost use Rattle.write.specs.Writes.{Moves};
-ghost use Rattle.column.specs.Columns.{roomTest, Movable, Tries, MovableUpTo, IsColumn, AreMoved, MovesColumn, Holds};
+ghost use Rattle.column.specs.Columns.{roomTest, Movable, MovableUpTo, IsTried, AreMoved, MovesColumn, Holds};
+ghost use Rattle.column.specs.Trials.{TriesWord};
 
 // How many words were moved, or why none was: a refusal of the whole column, or of the word at a position.
 pub enum Column {
@@ -53,7 +54,7 @@ fn test_room(count: usize, room: usize) -> Verdict
 // What the column's answer is, both widths and the room being good: the first word that is refused decides.
 fn try_words(from: Width, to: Width, rule: Rule, words: &[u64]) -> Column
     requires { ⌜ (widthTest (from .bits) ≡ Verdict.Through) × (widthTest (to .bits) ≡ Verdict.Through) ⌝ }
-    ensures { λ a. ⌜ IsColumn (from .bits) (to .bits) rule (now (words .entry)) a ⌝ }
+    ensures { λ a. ⌜ IsTried (from .bits) (to .bits) rule (now (words .entry)) a ⌝ }
 {
     let mut position = 0;
     while position < words.len() {
@@ -69,7 +70,7 @@ fn try_words(from: Width, to: Width, rule: Rule, words: &[u64]) -> Column
 // Whether the word can be moved. Rounding gives every word of the width a word, so only a stray bit is refused there.
 fn try_word(from: Width, to: Width, rule: Rule, word: u64) -> Verdict
     requires { ⌜ (widthTest (from .bits) ≡ Verdict.Through) × (widthTest (to .bits) ≡ Verdict.Through) ⌝ }
-    ensures { λ v. ⌜ Tries (from .bits) (to .bits) rule word v ⌝ }
+    ensures { λ v. ⌜ TriesWord (from .bits) (to .bits) rule word v ⌝ }
 {
     match rule {
         Rule::Rounded => from.test_word(word),

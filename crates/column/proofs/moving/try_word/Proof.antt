@@ -1,9 +1,9 @@
--- `try_word` meets its contract. Assumes nothing.
+-- `try_word` meets its contract: rounded, a word is refused only for a stray bit; strict, the move itself tells. Assumes nothing.
 use mathlib.Core.Path.{sym, subst}
-use Rattle.write.specs.declared.value.Rule.{Rule}
-use Rattle.column.specs.Columns.{Tries}
-use Rattle.column.proofs.Trials.{rounded-tried, word-given, refusal-given}
 use borrow.Author.Needs.{needs}
+use Rattle.write.specs.declared.value.Rule.{Rule}
+use Rattle.column.specs.Trials.{TriesWord}
+use Rattle.column.proofs.Trials.{rounded-tried, word-given, refusal-given}
 use Rattle.column.proofs.moving.try_word.Statement.{statement}
 use Rattle.column.proofs.moving.try_word.Tie as tie
 
@@ -27,7 +27,7 @@ enum-known-q c = search needs
 
 returns : tie.Need-returns
 returns c = let s = c .before .before .before in
-    subst (λ (rule : Rule). Tries (s .args .from .bits) (s .args .to .bits) rule (s .args .word) (c .test-word .result)) (sym (c .before .enum-told .given .1)) (rounded-tried _ _ _ _ (s .pre .0) (s .pre .1) (c .test-word .ensures))
+    subst (λ (rule : Rule). TriesWord (s .args .from .bits) (s .args .to .bits) rule (s .args .word) (c .test-word .result)) (sym (c .before .enum-told .given .1)) (rounded-tried _ _ _ _ (s .pre .0) (s .pre .1) (c .test-word .ensures))
 
 returns-2 : tie.Need-returns-2
 returns-2 c = word-given _ _ _ _ _ (c .before .before .move-word .ensures) _ (c .enum-told3 .given .1)

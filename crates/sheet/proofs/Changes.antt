@@ -1,23 +1,21 @@
 -- A change confined to one of the 126 numbers is noticed: A tells it. Assumes nothing.
-use mathlib.Core.Path.{_≡_, refl, sym, ap, ap₂, _∙_, subst}
-use mathlib.Core.Bool.{Bool, true, false}
+use mathlib.Core.Path.{_≡_, sym, ap, _∙_, subst}
 use mathlib.Core.List.{List}
 use mathlib.Core.Logic.{_⊎_, inl, inr}
-use Prim.Native.Nat.{ℕ, _+_, _*_, _^_, _≤_, _<_}
+use Prim.Native.Nat.{ℕ, _+_, _*_, _≤_, _<_}
 use native.Mathlib.Decide.{decLt, ℕ-discrete}
 use native.Mathlib.Omega.{arith}
-use borrow.Author.Tests.{eq-eqb, ne-eqb, eqb-true, eqb-false}
+use borrow.Author.Tests.{eq-eqb, ne-eqb}
 use lib.Arith.{lt-of-le-ne}
 use lib.ListN.{length, getD, List·getD-eq-default}
 use Rattle.word.specs.declared.refusal.Refusal.{Refusal}
 use Rattle.word.specs.declared.refusal.Verdict.{Verdict}
-use Rattle.word.specs.Refusals.{_then_}
 use Rattle.word.proofs.Powers.{not-more}
 use Rattle.word.proofs.Verdicts.{refused-as}
 use Rattle.sheet.specs.declared.block.Block.{Block}
 use Rattle.sheet.specs.Layout.{AreBytes, numberAt, numbers, mark, A}
 use Rattle.sheet.specs.Sums.{total, sumA}
-use Rattle.sheet.specs.Reads.{unless, sizeTest, markTest, checkTest, blockTest, ReadsBlock}
+use Rattle.sheet.specs.Reads.{unless, sizeTest, markTest, blockTest, ReadsBlock}
 use Rattle.sheet.specs.Changes.{ChangedWithin, Notices, by-mark, by-check}
 use Rattle.sheet.proofs.LittleEndian.{number-same, bytes-same, numberAt-below}
 use Rattle.sheet.proofs.Packing.{numbers-length, numbers-at}

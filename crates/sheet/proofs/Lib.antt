@@ -8,3 +8,5 @@ pub mod OneOutcome
 pub mod Totals
 pub mod Changes
 pub mod Results
+pub mod Case
+pub mod Rooms

@@ -10,7 +10,7 @@ use Rattle.word.specs.declared.refusal.Verdict.{Verdict}
 use Rattle.sheet.specs.Layout.{count, size, end}
 use Rattle.sheet.specs.Reads.{countTest}
 use Rattle.sheet.proofs.Packing.{word-inside}
-use Rattle.sheet.proofs.Passing.{holds, fails}
+use Rattle.sheet.proofs.Tests.{holds, fails}
 
 some-size : (s most : ℕ) → s * most ≡ 496 → 0 < s
 some-size zero most h = absurd (omega arith)

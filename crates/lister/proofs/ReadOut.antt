@@ -13,7 +13,8 @@ use Rattle.sheet.specs.declared.block.Block.{Block}
 use Rattle.sheet.specs.Layout.{width, words}
 use Rattle.sheet.specs.Reads.{blockTest, ReadsBlock, FillsResults}
 use Rattle.sheet.proofs.Passing.{passes, was-read}
-use Rattle.sheet.proofs.Results.{words-length, wide-enough, holds}
+use Rattle.sheet.proofs.Results.{words-length, holds}
+use Rattle.sheet.proofs.Sizes.{width-of-words}
 use Rattle.lister.specs.Listing.{most, ListsBlock}
 use Rattle.lister.specs.Text.{AreLines, IsRefusedLine}
 
@@ -22,7 +23,7 @@ module _ (block before after : List ℕ) (w i n : ℕ) (room : length before ≡
   pub narrow : w ≤ 64
   narrow =
       let t = was-read block (length before) w i n r in
-      subst (λ (x : ℕ). x ≤ 64) (sym (t .1)) (wide-enough (width block) (passes block (length before) (t .0) .wide) .1)
+      subst (λ (x : ℕ). x ≤ 64) (sym (t .1)) (width-of-words (width block) (passes block (length before) (t .0) .wide) .1)
 
   pub few : n ≤ 496
   unfolding most

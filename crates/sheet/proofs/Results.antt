@@ -1,8 +1,7 @@
 -- What stands in the results after a block was read: each word at its place, each a word of the block's width, and behind them what stood there.
 -- Assumes nothing.
-use mathlib.Core.Path.{_≡_, refl, sym, ap, _∙_, subst, subst₂}
+use mathlib.Core.Path.{_≡_, sym, ap, _∙_, subst, subst₂}
 use mathlib.Core.List.{List, _++_}
-use mathlib.Core.Logic.{inl, inr}
 use Prim.Native.Nat.{ℕ, _+_, _*_, _/_, _-_, _^_, _≤_, _<_}
 use native.Mathlib.Nat.{add-sub-of-le}
 use native.Mathlib.Omega.{arith}
@@ -16,24 +15,13 @@ use Rattle.sheet.specs.Layout.{AreBytes, numberAt, width, count, blockNu
 use Rattle.sheet.specs.Reads.{blockTest, ReadsBlock, FillsResults}
 use Rattle.sheet.proofs.LittleEndian.{numberAt-below}
 use Rattle.sheet.proofs.Packing.{packed-length, words-at}
-use Rattle.sheet.proofs.Passing.{OneOfFour, passes, was-read}
+use Rattle.sheet.proofs.Passing.{passes, was-read}
+use Rattle.sheet.proofs.Sizes.{whole-bytes, width-of-words}
+use Rattle.sheet.proofs.Tests.{OneOfFour}
 
 pub words-length : (block : List ℕ) → length (words block) ≡ count block
 unfolding words
 words-length block = packed-length (size block) (count block) (drop 8 block)
-
--- a word of width n has n / 8 bytes of 8 bits
-whole-bytes : (n : ℕ) → OneOfFour n → 8 * (n / 8) ≡ n
-whole-bytes n (inl e) = subst (λ (k : ℕ). 8 * (k / 8) ≡ k) (sym e) refl
-whole-bytes n (inr (inl e)) = subst (λ (k : ℕ). 8 * (k / 8) ≡ k) (sym e) refl
-whole-bytes n (inr (inr (inl e))) = subst (λ (k : ℕ). 8 * (k / 8) ≡ k) (sym e) refl
-whole-bytes n (inr (inr (inr e))) = subst (λ (k : ℕ). 8 * (k / 8) ≡ k) (sym e) refl
-
-pub wide-enough : (n : ℕ) → OneOfFour n → (2 ≤ n) × (n ≤ 64)
-wide-enough n (inl e) = (omega arith, omega arith)
-wide-enough n (inr (inl e)) = (omega arith, omega arith)
-wide-enough n (inr (inr (inl e))) = (omega arith, omega arith)
-wide-enough n (inr (inr (inr e))) = (omega arith, omega arith)
 
 -- a block was read
 module _ (block before after : List ℕ) (w i n : ℕ) (r : ReadsBlock block (length before) (Block.Read w i n)) (f : FillsResults block before after) where
@@ -76,4 +64,4 @@ module _ (block before after : List ℕ) (w i n : ℕ) (r : ReadsBlock block (le
       four = subst OneOfFour (sym (read .1)) (passes block (length before) (read .0) .wide)
 
       range : (2 ≤ w) × (w ≤ 64)
-      range = wide-enough w four
+      range = width-of-words w four

@@ -8,7 +8,6 @@ use crate::sums::sums_of;
 use word::refusal::Refusal;
 use word::refusal::Verdict;
 ghost use mathlib.Core.Path.{_≡_};
-ghost use Prim.Native.Nat.{_+_};
 ghost use lib.ListN.{length};
 ghost use Rattle.sheet.specs.Layout.{unused};
 ghost use Rattle.sheet.specs.Sums.{total};

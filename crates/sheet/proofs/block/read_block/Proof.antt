@@ -6,7 +6,8 @@ use Rattle.word.specs.declared.refusal.Verdict.{Verdict}
 use Rattle.word.specs.Refusals.{through, refused}
 use Rattle.sheet.specs.Layout.{blockNumber}
 use Rattle.sheet.specs.Reads.{blockTest, ReadsBlock, FillsResults}
-use Rattle.sheet.proofs.Passing.{Passes, passes, unpackable, filled, read-as}
+use Rattle.sheet.proofs.Passing.{Passes, passes, read-as}
+use Rattle.sheet.proofs.Sizes.{unpackable, filled}
 use borrow.Author.Needs.{needs}
 use Rattle.sheet.proofs.block.read_block.Statement.{statement}
 use Rattle.sheet.proofs.block.read_block.Tie as tie

@@ -38,7 +38,7 @@ loop-less c = omega arith
 loop-again : tie.Need-loop-again Inv-loop μ-loop
 loop-again c =
     let in-loop = c .before .before .before in
-    (omega arith, block-more _ _ _ _ _ (in-loop .loop-test .taken) (c .before .before .four-bytes .ensures) (in-loop .before .loop .inv .1) _ _ (c .before .wrapping-add-u32 .ensures) (c .wrapping-add-u322 .ensures))
+    (omega arith, block-more _ _ _ _ _ (omega arith) (c .before .before .four-bytes .ensures) (in-loop .before .loop .inv .1) _ _ (c .before .wrapping-add-u32 .ensures) (c .wrapping-add-u322 .ensures))
 
 returns : tie.Need-returns Inv-loop μ-loop
 returns c = block-all _ _ _ _ (c .loop-test .left) (c .before .loop .inv .1)

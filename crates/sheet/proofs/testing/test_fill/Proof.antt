@@ -3,7 +3,7 @@ use mathlib.Core.Path.{sym, _∙_}
 use borrow.Author.Tests.{eq-eqb, ne-eqb}
 use Rattle.word.specs.declared.refusal.Refusal.{Refusal}
 use Rattle.sheet.specs.Reads.{fillTest}
-use Rattle.sheet.proofs.Passing.{holds, fails}
+use Rattle.sheet.proofs.Tests.{holds, fails}
 use Rattle.sheet.proofs.Unused.{zero-when}
 use borrow.Author.Needs.{needs}
 use Rattle.sheet.proofs.testing.test_fill.Statement.{statement}

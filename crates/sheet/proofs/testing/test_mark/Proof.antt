@@ -3,7 +3,7 @@ use borrow.Author.Tests.{eq-eqb, ne-eqb}
 use Rattle.word.specs.declared.refusal.Refusal.{Refusal}
 use Rattle.sheet.specs.Layout.{mark}
 use Rattle.sheet.specs.Reads.{markTest}
-use Rattle.sheet.proofs.Passing.{holds, fails}
+use Rattle.sheet.proofs.Tests.{holds, fails}
 use borrow.Author.Needs.{needs}
 use Rattle.sheet.proofs.testing.test_mark.Statement.{statement}
 use Rattle.sheet.proofs.testing.test_mark.Tie as tie

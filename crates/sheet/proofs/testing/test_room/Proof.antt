@@ -1,7 +1,7 @@
 -- `test_room` meets its contract. Assumes nothing.
 use Rattle.word.specs.declared.refusal.Refusal.{Refusal}
 use Rattle.sheet.specs.Reads.{roomTest}
-use Rattle.sheet.proofs.Passing.{at-most, past}
+use Rattle.sheet.proofs.Tests.{at-most, past}
 use borrow.Author.Needs.{needs}
 use Rattle.sheet.proofs.testing.test_room.Statement.{statement}
 use Rattle.sheet.proofs.testing.test_room.Tie as tie

@@ -1,7 +1,7 @@
 -- `test_sums` meets its contract. Assumes nothing.
 use mathlib.Core.Path.{sym, _∙_}
 use Rattle.sheet.specs.Layout.{A, B}
-use Rattle.sheet.proofs.Passing.{a-differs, b-differs, sums-agree}
+use Rattle.sheet.proofs.Tests.{a-differs, b-differs, sums-agree}
 use borrow.Author.Needs.{needs}
 use Rattle.sheet.proofs.testing.test_sums.Statement.{statement}
 use Rattle.sheet.proofs.testing.test_sums.Tie as tie

@@ -2,7 +2,7 @@
 use mathlib.Core.Path.{sym, subst}
 use Rattle.word.specs.declared.refusal.Refusal.{Refusal}
 use Rattle.sheet.specs.Reads.{widthTest}
-use Rattle.sheet.proofs.Passing.{OneOfFour, holds, fails, width-is, width-isn't}
+use Rattle.sheet.proofs.Tests.{OneOfFour, holds, fails, width-is, width-isn't}
 use borrow.Author.Needs.{needs}
 use Rattle.sheet.proofs.testing.test_width.Statement.{statement}
 use Rattle.sheet.proofs.testing.test_width.Tie as tie

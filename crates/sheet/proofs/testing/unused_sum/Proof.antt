@@ -39,7 +39,7 @@ loop-again : tie.Need-loop-again Inv-loop μ-loop
 loop-again c =
     let in-loop = c .before in
     let start = in-loop .before .before .before .before in
-    (omega arith, unused-more (start .args .block .now) _ 504 _ _ _ (omega arith) (in-loop .loop-test .taken) (c .one-byte .ensures .0) (in-loop .before .loop .inv .1))
+    (omega arith, unused-more (start .args .block .now) _ 504 _ _ _ (omega arith) (omega arith) (c .one-byte .ensures .0) (in-loop .before .loop .inv .1))
 
 returns : tie.Need-returns Inv-loop μ-loop
 returns c = unused-all (c .before .before .before .before .args .block .now) _ 504 _ _ (c .loop-test .left) (c .before .loop .inv .1)

@@ -2,7 +2,7 @@
 -- The measure is how many words are left. Assumes nothing.
 use mathlib.Core.Path.{_≡_, refl, _∙_}
 use mathlib.Core.List.{_++_}
-use Prim.Native.Nat.{_+_, _*_, _-_, _≤_, zero-le}
+use Prim.Native.Nat.{_+_, _*_, _-_, _≤_}
 use native.Mathlib.Omega.{arith}
 use lib.ListN.{length, take, drop, length-set}
 use borrow.Author.Needs.{needs}
@@ -22,7 +22,7 @@ inside : (c : tie.In-loop Inv-loop μ-loop) → c .before .before .before .befor
 inside c = word-inside _ _ _ (c .loop-test .taken)
 
 loop-holds : tie.Need-loop-holds Inv-loop μ-loop
-loop-holds c = (zero-le, (refl, refl))
+loop-holds c = (omega arith, (refl, refl))
 
 mul-word-at : tie.Need-mul-word-at Inv-loop μ-loop
 mul-word-at c = record { fits = omega (arith, inside c) }

@@ -2,7 +2,7 @@
 use mathlib.Core.Path.{_≡_, sym, _∙_}
 use native.Mathlib.Omega.{arith}
 use Rattle.sheet.proofs.LittleEndian.{numberAt-one, of-size}
-use Rattle.sheet.proofs.Passing.{eight-left}
+use Rattle.sheet.proofs.Sizes.{eight-left}
 use borrow.Author.Needs.{needs}
 use Rattle.sheet.proofs.words.word_at.Statement.{statement}
 use Rattle.sheet.proofs.words.word_at.Tie as tie

@@ -1,0 +1,80 @@
+-- What each test of a block finds. Assumes nothing.
+use mathlib.Core.Path.{_≡_, refl, sym, subst}
+use mathlib.Core.Bool.{Bool, true, false, _||_, and-false}
+use mathlib.Core.List.{List}
+use mathlib.Core.Logic.{_⊎_, inl, inr, ⊎-elim}
+use Prim.Native.Nat.{ℕ, _≤_, _<_}
+use borrow.Author.Tests.{eq-eqb, ne-eqb, eqb-true, le-leb, lt-leb}
+use lib.Dec.{eqb, leb}
+use Rattle.word.specs.declared.refusal.Refusal.{Refusal}
+use Rattle.word.specs.declared.refusal.Verdict.{Verdict}
+use Rattle.word.proofs.Verdicts.{open-when}
+use Rattle.sheet.specs.Layout.{numbers, A, B}
+use Rattle.sheet.specs.Sums.{sumA, sumB}
+use Rattle.sheet.specs.Reads.{unless, isBlockWidth, checkTest}
+
+pub holds : (q : Refusal) {b : Bool} → b ≡ true → Verdict.Through ≡ unless q b
+unfolding unless
+holds q h = rw h
+
+pub fails : (q : Refusal) {b : Bool} → b ≡ false → Verdict.Refused q ≡ unless q b
+unfolding unless
+fails q h = rw h
+
+-- a number n that a call has given as m is tested against a most
+pub at-most : (q : Refusal) {m n : ℕ} (most : ℕ) → m ≡ n → m ≤ most → Verdict.Through ≡ unless q (leb n most)
+at-most q {m} {n} most e h = holds q (le-leb n most (subst (λ (x : ℕ). x ≤ most) e h))
+
+pub past : (q : Refusal) {m n : ℕ} (most : ℕ) → m ≡ n → most < m → Verdict.Refused q ≡ unless q (leb n most)
+past q {m} {n} most e h = fails q (lt-leb n most (subst (λ (x : ℕ). most < x) e h))
+
+pub held : (q : Refusal) (b : Bool) → unless q b ≡ Verdict.Through → b ≡ true
+unfolding unless
+held q b h = open-when b q h
+
+-- ---- the sums
+module _ (block : List ℕ) where
+  pub a-differs : (sumA (numbers block) ≡ A block → ⊥) → Verdict.Refused Refusal.Check ≡ checkTest block
+  unfolding checkTest
+  a-differs h = fails Refusal.Check (rw (ne-eqb (sumA (numbers block)) (A block) h))
+
+  pub b-differs : (sumB (numbers block) ≡ B block → ⊥) → Verdict.Refused Refusal.Check ≡ checkTest block
+  unfolding checkTest
+  b-differs h = fails Refusal.Check (rw (ne-eqb (sumB (numbers block)) (B block) h) (and-false (eqb (sumA (numbers block)) (A block))))
+
+  pub sums-agree : sumA (numbers block) ≡ A block → sumB (numbers block) ≡ B block → Verdict.Through ≡ checkTest block
+  unfolding checkTest
+  sums-agree p q = holds Refusal.Check (rw (eq-eqb (sumA (numbers block)) (A block) p, eq-eqb (sumB (numbers block)) (B block) q))
+
+-- ---- the width
+abbrev pub OneOfFour : ℕ → Type 0
+OneOfFour n = (n ≡ 8) ⊎ ((n ≡ 16) ⊎ ((n ≡ 32) ⊎ (n ≡ 64)))
+
+-- what holds of the four holds of each
+pub each-width : (P : ℕ → Type 0) → P 8 → P 16 → P 32 → P 64 → (n : ℕ) → OneOfFour n → P n
+each-width P a b c d n (inl e) = subst P (sym e) a
+each-width P a b c d n (inr (inl e)) = subst P (sym e) b
+each-width P a b c d n (inr (inr (inl e))) = subst P (sym e) c
+each-width P a b c d n (inr (inr (inr e))) = subst P (sym e) d
+
+pub width-is : (n : ℕ) → OneOfFour n → isBlockWidth n ≡ true
+unfolding isBlockWidth
+width-is = each-width (λ n. isBlockWidth n ≡ true) refl refl refl refl
+
+pub width-isn't : (n : ℕ) → (OneOfFour n → ⊥) → isBlockWidth n ≡ false
+unfolding isBlockWidth
+width-isn't n f = rw (ne-eqb n 8 (λ e. f (inl e)), ne-eqb n 16 (λ e. f (inr (inl e))), ne-eqb n 32 (λ e. f (inr (inr (inl e)))), ne-eqb n 64 (λ e. f (inr (inr (inr e)))))
+
+one-holds : (a b : Bool) → a || b ≡ true → (a ≡ true) ⊎ (b ≡ true)
+one-holds true b h = inl refl
+one-holds false b h = inr h
+
+pub is-width : (n : ℕ) → isBlockWidth n ≡ true → OneOfFour n
+unfolding isBlockWidth
+is-width n h = ⊎-elim up-to-32 (λ e. inr (inr (inr (eqb-true n 64 e)))) (one-holds (eqb n 8 || eqb n 16 || eqb n 32) (eqb n 64) h)
+  where
+    up-to-16 : eqb n 8 || eqb n 16 ≡ true → OneOfFour n
+    up-to-16 h = ⊎-elim (λ e. inl (eqb-true n 8 e)) (λ e. inr (inl (eqb-true n 16 e))) (one-holds (eqb n 8) (eqb n 16) h)
+
+    up-to-32 : eqb n 8 || eqb n 16 || eqb n 32 ≡ true → OneOfFour n
+    up-to-32 h = ⊎-elim up-to-16 (λ e. inr (inr (inl (eqb-true n 32 e)))) (one-holds (eqb n 8 || eqb n 16) (eqb n 32) h)

@@ -23,13 +23,7 @@ pub enum ColumnRefusal {
 ///
 /// The order is "WIDTH (source, then target), ROOM", and then "each position is tried in that order from STRAY on".
 /// `move_word` tries a position so: it gives STRAY before INEXACT.
-pub fn move_column(
-    from: u32,
-    to: u32,
-    rule: Rule,
-    words: &[u64],
-    results: &mut [u64],
-) -> Result<usize, ColumnRefusal> {
+pub fn move_column(from: u32, to: u32, rule: Rule, words: &[u64], results: &mut [u64]) -> Result<usize, ColumnRefusal> {
     make_width(from).map_err(ColumnRefusal::OfAll)?;
     make_width(to).map_err(ColumnRefusal::OfAll)?;
     if results.len() < words.len() {

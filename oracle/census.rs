@@ -83,6 +83,11 @@ impl Digest {
         self.take_number(answers.rounded);
         self.take_number(answers.strict);
     }
+
+    /// 16 lower-case hex digits.
+    pub fn text(&self) -> String {
+        format!("{:016x}", self.0)
+    }
 }
 
 /// The pseudo-random sequence; it holds the state.
@@ -126,12 +131,12 @@ pub fn runs(first: u64, last: u64, most: u64) -> Vec<(u64, u64)> {
 
 /// The line of one run of a width.
 pub fn run_line(name: &str, width: u32, first: u64, count: u64, digest: &Digest) -> String {
-    format!("{name} {width} {first} {count} {:016x}", digest.0)
+    format!("{name} {width} {first} {count} {}", digest.text())
 }
 
 /// The one line of a width.
 pub fn single_line(name: &str, width: u32, digest: &Digest) -> String {
-    format!("{name} {width} {:016x}", digest.0)
+    format!("{name} {width} {}", digest.text())
 }
 
 /// The bad widths that are tried.

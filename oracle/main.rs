@@ -1,5 +1,9 @@
-//! The independent program: it reads, writes and moves linear takums, takes whole numbers and binary64 in and out, and
-//! prints the census. It is written from the papers alone.
+//! The independent program: it reads, writes and moves linear takums, alone and in columns, takes whole numbers and
+//! binary64 in and out, reads sheet blocks, and prints the census. It is written from the papers alone.
+//!
+//! - `oracle` prints the census.
+//! - `oracle list` prints what the lister must print of standard input.
+//! - `oracle sheet` writes the example sheet of a rack, `oracle sheet N` a pseudo-random sheet of N blocks.
 //!
 //! The papers are paper 01 (the requirements), document 004, Definition 2 (the linear takum), and docs/CENSUS.md (the
 //! lines to print). Nothing here was taken from the library. Every word is turned into its exact value. The sign, h and
@@ -15,23 +19,35 @@
 //! - refusals.rs, words.rs (the value of a word), widths.rs and reading.rs;
 //! - offers.rs, nearest.rs, writing.rs and moving.rs;
 //! - whole.rs and binary64.rs;
-//! - census.rs and ways.rs, what the lines are made with;
+//! - columns.rs, blocks.rs and lister.rs; rack.rs and long_sheets.rs, the sheets that are made;
+//! - census.rs, ways.rs and results.rs, what the lines are made with;
 //! - the files named _lines, which print the parts of docs/CENSUS.md;
 //! - the files named _checks, which hold all this against the papers' statements and figures.
 
 mod binary64;
 mod binary64_checks;
 mod binary64_lines;
+mod block_checks;
+mod block_lines;
+mod blocks;
 mod census;
+mod column_checks;
+mod column_lines;
+mod columns;
 mod exact;
+mod fault_lines;
+mod lister;
+mod long_sheets;
 mod moving;
 mod nearest;
 mod offers;
 mod out_lines;
+mod rack;
 mod reading;
 mod reading_checks;
 mod reading_lines;
 mod refusals;
+mod results;
 mod search;
 mod ways;
 mod whole;
@@ -43,18 +59,41 @@ mod writing;
 mod writing_checks;
 mod writing_lines;
 
-use std::io::Write;
+use std::io::{stdin, stdout, BufWriter, Read, Result, Write};
 
 // With `rustc -O`, plain + and - on machine numbers wrap round unnoticed. None of them comes near that here: the
 // machine numbers are words, exponents and counts, and where 2^n itself is needed, the type has 128 bits. Everything
 // larger is a `Whole`. To see it, build with `-C overflow-checks=on` as well: the lines are the same.
 
 fn main() {
+    let arguments: Vec<String> = std::env::args().skip(1).collect();
+    let arguments: Vec<&str> = arguments.iter().map(String::as_str).collect();
+    let written = match arguments[..] {
+        [] => write_census(),
+        ["list"] => write_listing(),
+        ["sheet"] => stdout().write_all(&rack::rack_sheet()),
+        ["sheet", count] => match count.parse() {
+            Ok(count) => write_long_sheet(count),
+            Err(_) => leave_with_usage(),
+        },
+        _ => leave_with_usage(),
+    };
+    written.expect("standard input gives its bytes and standard output takes them");
+}
+
+fn leave_with_usage() -> ! {
+    eprintln!("usage: oracle | oracle list < SHEET | oracle sheet [N] > SHEET");
+    std::process::exit(2);
+}
+
+fn write_census() -> Result<()> {
     exact::check();
     reading_checks::check();
     writing_checks::check();
     whole_checks::check();
     binary64_checks::check();
+    column_checks::check();
+    block_checks::check();
 
     let mut lines = Vec::new();
     reading_lines::push(&mut lines);
@@ -63,7 +102,24 @@ fn main() {
     whole_lines::push(&mut lines);
     binary64_lines::push(&mut lines);
     ways::push_refusals(&mut lines);
+    column_lines::push(&mut lines);
+    block_lines::push(&mut lines);
+    fault_lines::push(&mut lines);
 
     let text = lines.join("\n") + "\n";
-    std::io::stdout().write_all(text.as_bytes()).expect("standard output takes the lines");
+    stdout().write_all(text.as_bytes())
+}
+
+fn write_listing() -> Result<()> {
+    let mut input = Vec::new();
+    stdin().read_to_end(&mut input)?;
+    let mut output = BufWriter::new(stdout().lock());
+    lister::list(&input, &mut output)?;
+    output.flush()
+}
+
+fn write_long_sheet(count: u32) -> Result<()> {
+    let mut output = BufWriter::new(stdout().lock());
+    long_sheets::write_long_sheet(count, &mut output)?;
+    output.flush()
 }

@@ -1,6 +1,6 @@
 //! Refusals, and the two that come first for every word (paper 01, "Refusal numbers"); written from the papers alone.
 
-/// The refusals that the calls of one word can give, with their numbers in paper 01.
+/// The refusals, with their numbers in paper 01. The calls of one word can give the first five only.
 #[derive(Clone, Copy, Debug, PartialEq, Eq)]
 pub enum Refusal {
     Width = 1,
@@ -8,6 +8,12 @@ pub enum Refusal {
     NaR = 3,
     Inexact = 4,
     Over = 5,
+    Room = 6,
+    Size = 7,
+    Mark = 8,
+    Check = 9,
+    Count = 10,
+    Fill = 11,
 }
 
 /// "A width isn't 2 to 64."

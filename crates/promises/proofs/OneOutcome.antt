@@ -2,30 +2,26 @@
 use mathlib.Core.Path.{_≡_, refl, sym, ap, ap₂, _∙_, subst}
 use mathlib.Core.List.{List, [], _∷_}
 use mathlib.Core.Logic.{inl, inr}
-use Prim.Native.Nat.{ℕ, _*_, _^_, _≤_}
-use native.Mathlib.Nat.{le-antisymm, zero-lt-suc}
-use lib.IntN.{ℤ, pos, natAbs, _+ℤ_}
+use Prim.Native.Nat.{ℕ, _^_}
+use native.Mathlib.Nat.{le-antisymm}
+use lib.IntN.{ℤ}
 use Rattle.word.specs.declared.answer.Answer.{Answer}
 use Rattle.word.specs.declared.fields.Fields.{Fields}
 use Rattle.word.specs.declared.order.Comparison.{Comparison}
 use Rattle.word.specs.declared.reading.Reading.{Reading}
 use Rattle.word.specs.declared.width.Limit.{Limit}
 use Rattle.word.specs.declared.width.Made.{Made}
-use Rattle.word.specs.Takum.{Takum, real, NaR, takum, fractionBits}
-use Rattle.word.specs.Refusals.{through, refused}
+use Rattle.word.specs.Takum.{takum, fractionBits}
 use Rattle.word.specs.Cuts.{Cuts}
 use Rattle.word.specs.Widths.{Greatest, greatest, none, IsLimit, Makes, GivesWord, GivesLimit}
-use Rattle.word.specs.Reads.{num, den, IsReading, Reads}
+use Rattle.word.specs.Reads.{IsReading, Reads}
 use Rattle.word.specs.Orders.{signed, order, negated, Compares, Negates}
 use Rattle.word.proofs.Answers.{wordOf, GivesAWord}
-use Rattle.word.proofs.Verdicts.{width-through, move-through, answered, refused-as, decided-one}
+use Rattle.word.proofs.Verdicts.{decided-one}
 use Rattle.word.proofs.Binades.{reading-one}
 use Rattle.write.specs.declared.value.Rule.{Rule}
-use Rattle.write.specs.declared.value.Value.{Value}
-use Rattle.write.specs.Writes.{isNegative, IsMoved, Writes, Moves}
-use Rattle.write.proofs.Exponents.{unit-some}
-use Rattle.write.proofs.Rounding.{written-one}
--- those of whole numbers and of binary64 stand beside their laws
+-- those of writing, of whole numbers and of binary64 stand beside their laws
+pub use Rattle.write.proofs.OneOutcome.{writes-one, moves-one}
 pub use Rattle.whole.proofs.OneOutcome.{writes-whole-one, takes-whole-one}
 pub use Rattle.binary64.proofs.OneOutcome.{writes-binary64-one, takes-binary64-one}
 use Rattle.promises.specs.Demands.{ComesBack}
@@ -77,26 +73,6 @@ comes-back-one n w a b = decided-one Answer.Refused (λ z. z ≡ Answer.Word w) 
 -- the fields of a string
 pub cuts-one : (t : ℕ) (a b : Fields) → Cuts t a → Cuts t b → a ≡ b
 cuts-one t a b x y = ap₂ (λ (c : ℤ) (f : ℕ). record { c = c; f = f }) (x .characteristic ∙ sym (y .characteristic)) (x .fraction ∙ sym (y .fraction))
-
--- ---- writing and moving
-pub writes-one : (n : ℕ) (rule : Rule) (v : Value) (a b : Answer) → Writes n rule v a → Writes n rule v b → a ≡ b
-unfolding Writes
-writes-one n rule v a b (through h x) y =
-    let t = width-through n h in
-    written-one n (t .0) (t .1) rule (v .negative) (v .m * num (v .k +ℤ pos 307)) (den (v .k +ℤ pos 307)) a b (unit-some (v .k +ℤ pos 307) .1) x (answered h y)
-writes-one n rule v a b (refused h x) y = x ∙ sym (refused-as _ h y)
-
-moved-one : (n : ℕ) → 2 ≤ n → n ≤ 64 → (rule : Rule) (t : Takum) (a b : Answer) → IsMoved n rule t a → IsMoved n rule t b → a ≡ b
-unfolding IsMoved
-moved-one n lo hi rule (real z) a b x y = written-one n lo hi rule (isNegative z) (natAbs z) 1 a b (zero-lt-suc 0) x y
-moved-one n lo hi rule NaR a b x y = x ∙ sym y
-
-pub moves-one : (n n' : ℕ) (rule : Rule) (w : ℕ) (a b : Answer) → Moves n n' rule w a → Moves n n' rule w b → a ≡ b
-unfolding Moves
-moves-one n n' rule w a b (through h x) y =
-    let t = width-through n' (move-through n n' w h .1) in
-    moved-one n' (t .0) (t .1) rule (takum n w) a b x (answered h y)
-moves-one n n' rule w a b (refused h x) y = x ∙ sym (refused-as _ h y)
 
 -- ---- a chain of strict moves
 goes-one : (home : ℕ) (ns : List ℕ) (n w : ℕ) (a b : Answer) → Goes home n w ns a → Goes home n w ns b → a ≡ b

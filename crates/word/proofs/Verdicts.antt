@@ -42,7 +42,7 @@ pub stray-through : (n w : ℕ) → strayTest n w ≡ Verdict.Through → w < 2 
 unfolding strayTest
 stray-through n w h = ltb-true w (2 ^ n) (open-when (ltb w (2 ^ n)) Refusal.Stray h)
 
-both : (a b : Bool) → a && b ≡ true → (a ≡ true) × (b ≡ true)
+pub both : (a b : Bool) → a && b ≡ true → (a ≡ true) × (b ≡ true)
 both true b h = (refl, h)
 both false b h = absurd (false≢true h)
 

@@ -8,6 +8,7 @@ pub mod Hub
 pub mod Moves
 pub mod Nearest
 pub mod Normal
+pub mod OneOutcome
 pub mod Order
 pub mod Places
 pub mod Rounding

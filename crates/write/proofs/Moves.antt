@@ -18,7 +18,7 @@ use Rattle.word.proofs.Words.{takum-NaR, zeros-appended}
 use Rattle.word.proofs.Powers.{pow-sum, shl-below}
 use Rattle.write.specs.declared.value.Rule.{Rule}
 use Rattle.write.specs.Writes.{IsExact, IsWritten, isNegative, IsMoved, Moves}
-use Rattle.write.proofs.Rounding.{exact-written}
+use Rattle.write.proofs.Rounding.{exact-written, rounded-exists}
 
 -- a whole number is its sign and its size
 pub rejoined : (z : ℤ) → signedSize (isNegative z) (natAbs z) ≡ z
@@ -71,3 +71,12 @@ there-and-back n n' w w' rule r x y = let k = strict-keeps n n' w w' x in moved-
 pub wider-keeps : (n k w : ℕ) (rule : Rule) (r : Answer) → n + k ≤ 64 → IsWord n w → Moves n (n + k) rule w r → r ≡ Answer.Word (w * 2 ^ k)
 wider-keeps n k w rule r room i x =
     moved-to-the-same n (n + k) w (w * 2 ^ k) rule r i (record { least = omega (arith, i .least); most = room; fits = shl-below n k (n + k) (i .fits) refl }) (zeros-appended n k w (i .least) room (i .fits)) x
+
+-- ---- rounded: every word of the source is moved to some word
+pub rounded-moves : (n n' w : ℕ) → IsWord n w → 2 ≤ n' → n' ≤ 64 → (w' : ℕ) × Moves n n' Rule.Rounded w (Answer.Word w')
+unfolding Moves IsMoved IsWritten
+rounded-moves n n' w i lo hi = let x = by (takum n w) in (x .0, through (move-passes n n' w i lo hi) (x .1))
+  where
+    by : (t : Takum) → (w' : ℕ) × IsMoved n' Rule.Rounded t (Answer.Word w')
+    by (real z) = rounded-exists n' lo hi (isNegative z) (natAbs z) 1 (omega arith)
+    by NaR = (narWord n', refl)

@@ -1,0 +1,35 @@
+-- A word that is tried is let through exactly where it is moved to some word. Assumes nothing.
+use mathlib.Core.Path.{_≡_, refl, sym, _∙_, subst}
+use Prim.Native.Nat.{ℕ}
+use Rattle.word.specs.declared.answer.Answer.{Answer}
+use Rattle.word.specs.declared.refusal.Refusal.{Refusal}
+use Rattle.word.specs.declared.refusal.Verdict.{Verdict}
+use Rattle.word.specs.Refusals.{widthTest, strayTest, refused}
+use Rattle.word.proofs.Answers.{GivesAWord}
+use Rattle.word.proofs.Verdicts.{width-through, word-through}
+use Rattle.write.specs.declared.value.Rule.{Rule}
+use Rattle.write.specs.Writes.{Moves}
+use Rattle.write.proofs.Moves.{rounded-moves}
+use Rattle.write.proofs.OneOutcome.{moves-one}
+use Rattle.column.specs.Columns.{Movable, Tries}
+
+-- Rounded, only a stray bit is refused: every word of the width is moved to some word.
+pub rounded-tried : (n n' w : ℕ) (v : Verdict) → widthTest n ≡ Verdict.Through → widthTest n' ≡ Verdict.Through → v ≡ strayTest n w → Tries n n' Rule.Rounded w v
+unfolding Tries Movable Moves
+rounded-tried n n' w Verdict.Through h h' s = let t = width-through n' h' in rounded-moves n n' w (word-through n w (rw h (sym s))) (t .0) (t .1)
+rounded-tried n n' w (Verdict.Refused q) h h' s = refused {q = q} (rw (h, h') (sym s)) refl
+
+-- By either rule, the move itself tells.
+module _ (n n' w : ℕ) (rule : Rule) (a : Answer) (is : Moves n n' rule w a) where
+  pub word-given : (w' : ℕ) → a ≡ Answer.Word w' → Tries n n' rule w Verdict.Through
+  unfolding Tries Movable
+  word-given w' q = (w', subst (Moves n n' rule w) q is)
+
+  pub refusal-given : (q : Refusal) → a ≡ Answer.Refused q → Tries n n' rule w (Verdict.Refused q)
+  unfolding Tries
+  refusal-given q e = subst (Moves n n' rule w) e is
+
+  -- a word that is moved to some word is not refused
+  pub not-refused : (q : Refusal) → Movable n n' rule w → a ≡ Answer.Refused q → ⊥
+  unfolding Movable GivesAWord
+  not-refused q (w', m) e = subst GivesAWord (moves-one n n' rule w (Answer.Word w') a m is ∙ e) tt

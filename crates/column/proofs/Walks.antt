@@ -1,0 +1,54 @@
+-- A walk of a column, one word further: what has been tried, and what has been written. Assumes nothing.
+use mathlib.Core.Path.{_≡_, refl, sym, _∙_, subst}
+use mathlib.Core.List.{List}
+use Prim.Native.Nat.{ℕ, _+_, _≤_, _<_}
+use native.Mathlib.Nat.{le-antisymm}
+use native.Mathlib.Omega.{arith}
+use borrow.Author.Count.{below-none, below-more}
+use lib.ListN.{length, getD, set, length-set}
+use lib.Seq.{getD-set-same, getD-set-other}
+use Rattle.word.specs.declared.answer.Answer.{Answer}
+use Rattle.word.specs.declared.refusal.Refusal.{Refusal}
+use Rattle.word.specs.declared.refusal.Verdict.{Verdict}
+use Rattle.write.specs.declared.value.Rule.{Rule}
+use Rattle.write.specs.Writes.{Moves}
+use Rattle.column.specs.declared.moving.Column.{Column}
+use Rattle.column.specs.Columns.{Movable, MovableUpTo, IsColumn, AreMoved, Tries}
+
+module _ (n n' : ℕ) (rule : Rule) (words : List ℕ) where
+  -- ---- trying
+  pub none-tried : MovableUpTo n n' rule words 0
+  unfolding MovableUpTo
+  none-tried = below-none (λ i. Movable n n' rule (getD words i 0))
+
+  -- the word at i has been tried, with the verdict v
+  module _ (i : ℕ) (v : Verdict) (tried : Tries n n' rule (getD words i 0) v) (before : MovableUpTo n n' rule words i) where
+    pub one-more-tried : v ≡ Verdict.Through → MovableUpTo n n' rule words (i + 1)
+    unfolding MovableUpTo Tries
+    one-more-tried h = below-more (λ i. Movable n n' rule (getD words i 0)) i before (subst (Tries n n' rule (getD words i 0)) h tried)
+
+    pub first-refused : (q : Refusal) → i < length words → v ≡ Verdict.Refused q → IsColumn n n' rule words (Column.RefusedAt i q)
+    unfolding IsColumn Tries
+    first-refused q inside h = record { inside = inside; lowest = before; is = subst (Tries n n' rule (getD words i 0)) h tried }
+
+  pub all-tried : (i : ℕ) → i ≤ length words → length words ≤ i → MovableUpTo n n' rule words i → IsColumn n n' rule words (Column.Moved i)
+  unfolding IsColumn
+  all-tried i lo hi x = (le-antisymm lo hi, x)
+
+  -- ---- writing
+  pub none-written : (before : List ℕ) → AreMoved n n' rule words 0 before before
+  none-written before = record { room = refl; moved = below-none (λ i. Moves n n' rule (getD words i 0) (Answer.Word (getD before i 0))); others = λ i h. refl }
+
+  pub one-more-written : (i w' : ℕ) (before after : List ℕ) → i < length before → AreMoved n n' rule words i before after → Moves n n' rule (getD words i 0) (Answer.Word w') → AreMoved n n' rule words (i + 1) before (set after i w')
+  one-more-written i w' before after inside x m =
+      record {
+        room = length-set after i w' ∙ x .room;
+        moved =
+            below-more (λ k. Moves n n' rule (getD words k 0) (Answer.Word (getD (set after i w') k 0))) i
+            (λ k h. subst (λ (v : ℕ). Moves n n' rule (getD words k 0) (Answer.Word v)) (sym (getD-set-other after i k w' 0 (λ q. omega (arith, h, q)))) (x .moved k h))
+            (subst (λ (v : ℕ). Moves n n' rule (getD words i 0) (Answer.Word v)) (sym (getD-set-same after i w' 0 (omega (arith, inside, x .room)))) m);
+        others = λ k h. getD-set-other after i k w' 0 (λ q. omega (arith, h, q)) ∙ x .others k (omega (arith, h));
+      }
+
+  pub all-written : (i : ℕ) (before after : List ℕ) → i ≤ length words → length words ≤ i → AreMoved n n' rule words i before after → AreMoved n n' rule words (length words) before after
+  all-written i before after lo hi = subst (λ (k : ℕ). AreMoved n n' rule words k before after) (le-antisymm lo hi)

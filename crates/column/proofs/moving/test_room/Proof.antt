@@ -1,0 +1,14 @@
+-- `test_room` meets its contract. Assumes nothing.
+use Rattle.column.proofs.Rooms.{room-fits, room-short}
+use mathlib.Core.Path.{sym}
+use Rattle.column.proofs.moving.test_room.Statement.{statement}
+use Rattle.column.proofs.moving.test_room.Tie as tie
+
+returns : tie.Need-returns
+returns c = sym (room-fits _ _ (c .if1 .taken))
+
+returns-2 : tie.Need-returns-2
+returns-2 c = sym (room-short _ _ (c .if1 .left))
+
+pub test-room-spec : {M : Type 1} → statement M
+test-room-spec = tie.close (tie.spec returns returns-2)

@@ -1,0 +1,59 @@
+-- What moving a column means (paper 01, "Columns"): the answer, and what the result slice holds afterwards.
+use mathlib.Core.Path.{_≡_}
+use mathlib.Core.Bool.{cond}
+use mathlib.Core.List.{List}
+use Prim.Native.Nat.{ℕ, _≤_, _<_}
+use lib.Dec.{leb}
+use lib.ListN.{length, getD}
+use Rattle.word.specs.declared.answer.Answer.{Answer}
+use Rattle.word.specs.declared.refusal.Refusal.{Refusal}
+use Rattle.word.specs.declared.refusal.Verdict.{Verdict}
+use Rattle.word.specs.Refusals.{widthTest, _then_, Decided}
+use Rattle.write.specs.declared.value.Rule.{Rule}
+use Rattle.write.specs.Writes.{Moves}
+use Rattle.column.specs.declared.moving.Column.{Column}
+
+-- 6 ROOM: the result slice is too short
+unfoldable pub roomTest : ℕ → ℕ → Verdict
+roomTest count room = cond (leb count room) Verdict.Through (Verdict.Refused Refusal.Room)
+
+-- the word is moved to some word
+unfoldable pub Movable : ℕ → ℕ → Rule → ℕ → Type 0
+Movable n n' rule w = (w' : ℕ) × Moves n n' rule w (Answer.Word w')
+
+-- every word of the column before the position is moved to some word
+unfoldable pub MovableUpTo : ℕ → ℕ → Rule → List ℕ → ℕ → Type 0
+MovableUpTo n n' rule words position = (i : ℕ) → i < position → Movable n n' rule (getD words i 0)
+
+-- the lowest position that has a refusal, and the refusal there
+pub record FirstRefusal (n n' : ℕ) (rule : Rule) (words : List ℕ) (position : ℕ) (q : Refusal) : Type 0 where
+  pub inside : position < length words
+  pub lowest : MovableUpTo n n' rule words position
+  pub is : Moves n n' rule (getD words position 0) (Answer.Refused q)
+
+-- the number of words where every word is moved, else the first refusal
+unfoldable pub IsColumn : ℕ → ℕ → Rule → List ℕ → Column → Type 0
+IsColumn n n' rule words (Column.Moved count) = (count ≡ length words) × MovableUpTo n n' rule words count
+IsColumn n n' rule words (Column.RefusedAt position q) = FirstRefusal n n' rule words position q
+IsColumn n n' rule words (Column.Refused q) = ⊥
+
+-- the first results are the moved words in order, the others are unchanged
+pub record AreMoved (n n' : ℕ) (rule : Rule) (words : List ℕ) (count : ℕ) (before after : List ℕ) : Type 0 where
+  pub room : length after ≡ length before
+  pub moved : (i : ℕ) → i < count → Moves n n' rule (getD words i 0) (Answer.Word (getD after i 0))
+  pub others : (i : ℕ) → count ≤ i → getD after i 0 ≡ getD before i 0
+
+-- ---- what the call answers: WIDTH of the source, then of the target, then ROOM, then the first refusal in the column
+unfoldable pub MovesColumn : ℕ → ℕ → Rule → List ℕ → ℕ → Column → Type 0
+MovesColumn n n' rule words room a = Decided (widthTest n then widthTest n' then roomTest (length words) room) (λ q. a ≡ Column.Refused q) (IsColumn n n' rule words a)
+
+-- ---- and what the result slice holds afterwards: after a refusal, what it held before
+unfoldable pub Holds : ℕ → ℕ → Rule → List ℕ → List ℕ → Column → List ℕ → Type 0
+Holds n n' rule words before (Column.Moved count) after = AreMoved n n' rule words count before after
+Holds n n' rule words before (Column.Refused q) after = after ≡ before
+Holds n n' rule words before (Column.RefusedAt position q) after = after ≡ before
+
+-- ---- inside the crate: a word that is tried is let through exactly where it is moved to some word, else refused as its move is
+unfoldable pub Tries : ℕ → ℕ → Rule → ℕ → Verdict → Type 0
+Tries n n' rule w Verdict.Through = Movable n n' rule w
+Tries n n' rule w (Verdict.Refused q) = Moves n n' rule w (Answer.Refused q)

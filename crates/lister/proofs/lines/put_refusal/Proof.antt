@@ -1,0 +1,52 @@
+-- `put_refusal` meets its contract: refusal 5 is `over`, another `nar`. Assumes nothing.
+use mathlib.Core.Path.{sym, ap, _∙_, subst}
+use mathlib.Core.Bool.{Bool, cond}
+use mathlib.Core.List.{List}
+use Prim.Native.Nat.{ℕ}
+use borrow.Author.Tests.{eq-eqb, ne-eqb}
+use Rattle.lister.specs.Puts.{Puts}
+use Rattle.lister.specs.Text.{nar, over, refusalText}
+use borrow.Author.Needs.{needs}
+use Rattle.lister.proofs.lines.put_refusal.Statement.{statement}
+use Rattle.lister.proofs.lines.put_refusal.Tie as tie
+
+number-requires : tie.Need-number-requires
+number-requires c κs = search needs
+
+put-over-requires : tie.Need-put-over-requires
+put-over-requires c κs = search needs
+
+same-length : tie.Need-same-length
+same-length c = search needs
+
+returns : tie.Need-returns
+unfolding refusalText
+returns c =
+    let s = c .before .before .before .before .before .before .before in
+    let p = c .before .before .put-over in
+    subst (λ (t : List ℕ). Puts (s .args .out .now) (s .args .at) t (p .last .0) (p .result)) (sym (ap (λ (b : Bool). cond b over nar) (eq-eqb _ 5 (sym (c .before .before .before .before .before .number .ensures) ∙ c .before .before .before .before .if1 .taken)))) (p .ensures)
+
+put-nar-requires : tie.Need-put-nar-requires
+put-nar-requires c κs = search needs
+
+same-length-2 : tie.Need-same-length-2
+same-length-2 c = search needs
+
+returns-2 : tie.Need-returns-2
+unfolding refusalText
+returns-2 c =
+    let s = c .before .before .before .before .before .before .before in
+    let p = c .before .before .put-nar in
+    subst (λ (t : List ℕ). Puts (s .args .out .now) (s .args .at) t (p .last .0) (p .result)) (sym (ap (λ (b : Bool). cond b over nar) (ne-eqb _ 5 (λ q. c .before .before .before .before .if1 .left (c .before .before .before .before .before .number .ensures ∙ q))))) (p .ensures)
+
+pub put-refusal-spec : {M : Type 1} → statement M
+put-refusal-spec =
+    tie.close
+    (tie.spec
+    number-requires
+    put-over-requires
+    same-length
+    returns
+    put-nar-requires
+    same-length-2
+    returns-2)

@@ -1,0 +1,79 @@
+-- The text of a line (paper 01, "The lister"), as a list of bytes.
+use mathlib.Core.Path.{_≡_}
+use mathlib.Core.Bool.{cond}
+use mathlib.Core.List.{List, [], _∷_, _++_}
+use Prim.Native.Nat.{ℕ, suc, _/_}
+use lib.Dec.{eqb}
+use lib.IntN.{ℤ, pos, negsuc}
+use Rattle.io.specs.Digits.{digits, Fewest}
+use Rattle.word.specs.Refusals.{numberOf}
+use Rattle.word.specs.declared.refusal.Refusal.{Refusal}
+use Rattle.whole.specs.declared.taking.Taking.{Taking}
+use Rattle.whole.specs.declared.taking.Whole.{Whole}
+use Rattle.whole.specs.Wholes.{TakesWhole}
+
+-- the bytes of `-`, of a space and of the end of a line
+unfoldable pub minus : ℕ
+minus = 0x2d
+
+unfoldable pub space : ℕ
+space = 0x20
+
+unfoldable pub newline : ℕ
+newline = 0x0a
+
+-- a whole number in decimal digits, no more than it needs
+unfoldable pub IsDecimal : ℕ → List ℕ → Type 0
+IsDecimal n t = (k : ℕ) × Fewest 10 1 n k × (t ≡ digits 10 k n)
+
+-- with a minus sign where negative
+unfoldable pub IsSigned : ℤ → List ℕ → Type 0
+IsSigned (pos n) t = IsDecimal n t
+IsSigned (negsuc n) t = (d : List ℕ) × IsDecimal (suc n) d × (t ≡ minus ∷ d)
+
+-- a word of n bits in lower-case hex, with all its digits
+unfoldable pub hexOf : ℕ → ℕ → List ℕ
+hexOf n w = digits 16 (n / 4) w
+
+-- `nar`, and `over` for refusal 5
+unfoldable pub nar : List ℕ
+nar = 0x6e ∷ 0x61 ∷ 0x72 ∷ []
+
+unfoldable pub over : List ℕ
+over = 0x6f ∷ 0x76 ∷ 0x65 ∷ 0x72 ∷ []
+
+-- what stands for a refusal; a word of a block is refused only as NAR or OVER (`refused-only-nar-or-over` in proofs/Refusals.antt)
+unfoldable pub refusalText : Refusal → List ℕ
+refusalText q = cond (eqb (numberOf q) 5) over nar
+
+-- the cut whole number, or the word that stands for its refusal
+unfoldable pub IsShown : Whole → List ℕ → Type 0
+IsShown (Whole.Is x) t = IsSigned x t
+IsShown (Whole.Refused q) t = t ≡ refusalText q
+
+-- a number and the space after it
+unfoldable pub IsField : ℕ → List ℕ → Type 0
+IsField n t = (d : List ℕ) × IsDecimal n d × (t ≡ d ++ (space ∷ []))
+
+-- a word of n bits, a space, its whole number and the end of the line
+unfoldable pub IsWordText : ℕ → ℕ → List ℕ → Type 0
+IsWordText n w t = (a : Whole) × (d : List ℕ) × TakesWhole n Taking.Cut w a × IsShown a d × (t ≡ hexOf n w ++ (space ∷ []) ++ d ++ (newline ∷ []))
+
+-- a line: block number, position, word and whole number, one space between
+unfoldable pub IsLine : ℕ → ℕ → ℕ → ℕ → List ℕ → Type 0
+IsLine number position n w t = (b p x : List ℕ) × IsField number b × IsField position p × IsWordText n w x × (t ≡ b ++ p ++ x)
+
+-- the lines of words, the first of them at a position
+unfoldable pub AreLines : ℕ → ℕ → ℕ → List ℕ → List ℕ → Type 0
+AreLines number n position [] t = t ≡ []
+AreLines number n position (w ∷ ws) t = (l u : List ℕ) × IsLine number position n w l × AreLines number n (suc position) ws u × (t ≡ l ++ u)
+
+-- `block I refused N`
+unfoldable pub blockText : List ℕ
+blockText = 0x62 ∷ 0x6c ∷ 0x6f ∷ 0x63 ∷ 0x6b ∷ space ∷ []
+
+unfoldable pub refusedText : List ℕ
+refusedText = space ∷ 0x72 ∷ 0x65 ∷ 0x66 ∷ 0x75 ∷ 0x73 ∷ 0x65 ∷ 0x64 ∷ space ∷ []
+
+unfoldable pub IsRefusedLine : ℕ → Refusal → List ℕ → Type 0
+IsRefusedLine i q t = (d e : List ℕ) × IsDecimal i d × IsDecimal (numberOf q) e × (t ≡ blockText ++ d ++ refusedText ++ e ++ (newline ∷ []))

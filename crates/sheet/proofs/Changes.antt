@@ -1,0 +1,85 @@
+-- A change confined to one of the 126 numbers is noticed: A tells it. Assumes nothing.
+use mathlib.Core.Path.{_≡_, refl, sym, ap, ap₂, _∙_, subst}
+use mathlib.Core.Bool.{Bool, true, false}
+use mathlib.Core.List.{List}
+use mathlib.Core.Logic.{_⊎_, inl, inr}
+use Prim.Native.Nat.{ℕ, _+_, _*_, _^_, _≤_, _<_}
+use native.Mathlib.Decide.{decLt, ℕ-discrete}
+use native.Mathlib.Omega.{arith}
+use borrow.Author.Tests.{eq-eqb, ne-eqb, eqb-true, eqb-false}
+use lib.Arith.{lt-of-le-ne}
+use lib.ListN.{length, getD, List·getD-eq-default}
+use Rattle.word.specs.declared.refusal.Refusal.{Refusal}
+use Rattle.word.specs.declared.refusal.Verdict.{Verdict}
+use Rattle.word.specs.Refusals.{_then_}
+use Rattle.word.proofs.Powers.{not-more}
+use Rattle.word.proofs.Verdicts.{refused-as}
+use Rattle.sheet.specs.declared.block.Block.{Block}
+use Rattle.sheet.specs.Layout.{AreBytes, numberAt, numbers, mark, A}
+use Rattle.sheet.specs.Sums.{total, sumA}
+use Rattle.sheet.specs.Reads.{unless, sizeTest, markTest, checkTest, blockTest, ReadsBlock}
+use Rattle.sheet.specs.Changes.{ChangedWithin, Notices, by-mark, by-check}
+use Rattle.sheet.proofs.LittleEndian.{number-same, bytes-same, numberAt-below}
+use Rattle.sheet.proofs.Packing.{numbers-length, numbers-at}
+use Rattle.sheet.proofs.Passing.{Passes, passes, was-read, a-differs}
+use Rattle.sheet.proofs.Totals.{total-changed, sumA-changed}
+
+module _ (i : ℕ) (old new : List ℕ) (c : ChangedWithin i old new) where
+  -- a number of four bytes outside is the same
+  same-outside : (k : ℕ) → (k + 4 ≤ 4 * i) ⊎ (4 * i + 4 ≤ k) → numberAt 4 k new ≡ numberAt 4 k old
+  same-outside k (inl h) = number-same 4 k new old (λ j l u. c .outside j (inl (omega arith)))
+  same-outside k (inr h) = number-same 4 k new old (λ j l u. c .outside j (inr (omega arith)))
+
+  same-A : A new ≡ A old
+  unfolding A
+  same-A = same-outside 504 (inr (omega (arith, c .one-of-126)))
+
+  -- the other numbers are the same
+  others : (j : ℕ) → (j ≡ i → ⊥) → getD (numbers new) j 0 ≡ getD (numbers old) j 0
+  others j f = by (decLt j 126) (decLt j i)
+    where
+      past : (block : List ℕ) → 126 ≤ j → getD (numbers block) j 0 ≡ 0
+      past block h = List·getD-eq-default (numbers block) 0 (subst (λ (n : ℕ). n ≤ j) (sym (numbers-length block)) h)
+
+      by : Dec (j < 126) → Dec (j < i) → getD (numbers new) j 0 ≡ getD (numbers old) j 0
+      by (yes h) (yes l) = numbers-at new j h ∙ same-outside (4 * j) (inl (omega (arith, l))) ∙ sym (numbers-at old j h)
+      by (yes h) (no l) =
+          let above : i < j = lt-of-le-ne (not-more l) (λ q. f (sym q)) in
+          numbers-at new j h ∙ same-outside (4 * j) (inr (omega (arith, above))) ∙ sym (numbers-at old j h)
+      by (no h) l = past new (not-more h) ∙ sym (past old (not-more h))
+
+  module _ (bo : AreBytes old) (bn : AreBytes new) where
+    -- number i isn't
+    number-differs : numberAt 4 (4 * i) new ≡ numberAt 4 (4 * i) old → ⊥
+    number-differs e = c .differs (bytes-same 4 (4 * i) new old bn bo e (c .j) (c .from) (c .to))
+
+    -- so A isn't the sum any more
+    sum-differs : sumA (numbers old) ≡ A old → sumA (numbers new) ≡ A new → ⊥
+    sum-differs p q = number-differs (sumA-changed (numbers new) (numbers old) (numberAt 4 (4 * i) new) (numberAt 4 (4 * i) old) (numberAt-below 4 (4 * i) new bn) (numberAt-below 4 (4 * i) old bo) totals (q ∙ same-A ∙ sym p))
+      where
+        totals : total (numbers new) + numberAt 4 (4 * i) old ≡ total (numbers old) + numberAt 4 (4 * i) new
+        totals =
+            ap (λ (x : ℕ). total (numbers new) + x) (sym (numbers-at old i (c .one-of-126)))
+            ∙ total-changed (numbers new) (numbers old) i (numbers-length new ∙ sym (numbers-length old)) others
+            ∙ ap (λ (x : ℕ). total (numbers old) + x) (numbers-at new i (c .one-of-126))
+
+-- ---- what the tests make of it
+mark-refused : (block : List ℕ) (places : ℕ) → length block ≡ 512 → (mark block ≡ 0x54 → ⊥) → blockTest block places ≡ Verdict.Refused Refusal.Mark
+unfolding blockTest sizeTest markTest unless
+mark-refused block places h m = rw (eq-eqb (length block) 512 h, ne-eqb (mark block) 0x54 m)
+
+check-refused : (block : List ℕ) (places : ℕ) → length block ≡ 512 → mark block ≡ 0x54 → (sumA (numbers block) ≡ A block → ⊥) → blockTest block places ≡ Verdict.Refused Refusal.Check
+unfolding blockTest sizeTest markTest unless
+check-refused block places h m a = rw (eq-eqb (length block) 512 h, eq-eqb (mark block) 0x54 m, ← a-differs block a)
+
+-- ---- a block was read; another that differs from it within one number is refused, whatever the room
+pub change-noticed : (i : ℕ) (old new : List ℕ) (places places' w n k : ℕ) (a : Block) → AreBytes old → AreBytes new → ChangedWithin i old new → ReadsBlock old places (Block.Read w n k) → ReadsBlock new places' a → Notices old new a
+unfolding ReadsBlock
+change-noticed i old new places places' w n k a bo bn c r r' = by (ℕ-discrete (mark new) (mark old))
+  where
+    p : Passes old places
+    p = passes old places (was-read old places w n k r .0)
+
+    by : Dec (mark new ≡ mark old) → Notices old new a
+    by (yes m) = subst (Notices old new) (sym (refused-as Refusal.Check (check-refused new places' (c .size ∙ p .bytes) (m ∙ p .marked) (sum-differs i old new c bo bn (p .a))) r')) (by-check m)
+    by (no m) = subst (Notices old new) (sym (refused-as Refusal.Mark (mark-refused new places' (c .size ∙ p .bytes) (λ e. m (e ∙ sym (p .marked)))) r')) (by-mark m)

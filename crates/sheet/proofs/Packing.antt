@@ -1,0 +1,70 @@
+-- Packed numbers: how many there are, which one stands where, and what a turn that stores one of them leaves. Assumes nothing.
+use mathlib.Core.Path.{_≡_, refl, sym, ap, ap₂, _∙_}
+use mathlib.Core.List.{List, [], _∷_, _++_}
+use Prim.Native.Nat.{ℕ, zero, suc, _+_, _*_, _≤_, _<_}
+use native.Mathlib.Nat.{le-of-suc-le-suc, not-suc-le-zero, le-antisymm, mul-le-mul-left}
+use native.Mathlib.Numerals.{add-one}
+use native.Mathlib.Omega.{arith}
+use lib.ListN.{length, take, drop, getD, set}
+use lib.Seq.{drop-drop, take-all}
+use Rattle.sheet.specs.Layout.{number, numberAt, packed, numbers}
+
+pub packed-length : (k n : ℕ) (bytes : List ℕ) → length (packed k n bytes) ≡ n
+unfolding packed
+packed-length k zero bytes = refl
+packed-length k (suc n) bytes = ap suc (packed-length k n (drop k bytes))
+
+pub numberAt-drop : (k i j : ℕ) (bytes : List ℕ) → numberAt k i (drop j bytes) ≡ numberAt k (j + i) bytes
+unfolding numberAt
+numberAt-drop k i j bytes = ap (λ (l : List ℕ). number (take k l)) (drop-drop i j bytes)
+
+pub packed-at : (k n : ℕ) (bytes : List ℕ) (j : ℕ) → j < n → getD (packed k n bytes) j 0 ≡ numberAt k (k * j) bytes
+unfolding packed numberAt
+packed-at k zero bytes j h = absurd (not-suc-le-zero h)
+packed-at k (suc n) bytes zero h =
+    let start : 0 ≡ k * zero = omega arith in
+    ap (λ (i : ℕ). number (take k (drop i bytes))) start
+packed-at k (suc n) bytes (suc j) h =
+    let next : k + k * j ≡ k * suc j = omega arith in
+    packed-at k n (drop k bytes) j (le-of-suc-le-suc h) ∙ numberAt-drop k (k * j) k bytes ∙ ap (λ (i : ℕ). numberAt k i bytes) next
+
+-- a turn that stores the next of the numbers xs into a list that had `before` at first
+store : (xs before : List ℕ) (i : ℕ) → i < length xs → i < length before → set (take i xs ++ drop i before) i (getD xs i 0) ≡ take (suc i) xs ++ drop (suc i) before
+store [] before i h k = absurd (not-suc-le-zero h)
+store (x ∷ xs) [] i h k = absurd (not-suc-le-zero k)
+store (x ∷ xs) (y ∷ before) zero h k = refl
+store (x ∷ xs) (y ∷ before) (suc i) h k = ap (λ (l : List ℕ). x ∷ l) (store xs before i (le-of-suc-le-suc h) (le-of-suc-le-suc k))
+
+stored : (xs before now : List ℕ) (i x : ℕ) → i < length xs → i < length before → now ≡ take i xs ++ drop i before → x ≡ getD xs i 0 → set now i x ≡ take (i + 1) xs ++ drop (i + 1) before
+stored xs before now i x h k e q = ap₂ (λ (l : List ℕ) (y : ℕ). set l i y) e q ∙ store xs before i h k ∙ ap (λ (j : ℕ). take j xs ++ drop j before) (sym (add-one i))
+
+-- ---- the numbers and the words of a block
+pub numbers-length : (block : List ℕ) → length (numbers block) ≡ 126
+unfolding numbers
+numbers-length block = packed-length 4 126 block
+
+pub numbers-at : (block : List ℕ) (i : ℕ) → i < 126 → getD (numbers block) i 0 ≡ numberAt 4 (4 * i) block
+unfolding numbers
+numbers-at block i h = packed-at 4 126 block i h
+
+-- packed from byte 8
+pub words-at : (k n : ℕ) (block : List ℕ) (j : ℕ) → j < n → getD (packed k n (drop 8 block)) j 0 ≡ numberAt k (8 + k * j) block
+words-at k n block j h = packed-at k n (drop 8 block) j h ∙ numberAt-drop k (k * j) 8 block
+
+pub word-inside : (k n j : ℕ) → j < n → k * j + k ≤ k * n
+word-inside k n j h = omega (arith, mul-le-mul-left k h)
+
+-- the loop that unpacks them
+module _ (k n : ℕ) (block before now : List ℕ) (i : ℕ) where
+  abbrev words : List ℕ
+  words = packed k n (drop 8 block)
+
+  pub unpacked-more : (x : ℕ) → i < n → n ≤ length before → x ≡ numberAt k (8 + k * i) block → now ≡ take i words ++ drop i before → set now i x ≡ take (i + 1) words ++ drop (i + 1) before
+  unpacked-more x h room q e =
+      let inside : i < length words = omega (arith, packed-length k n (drop 8 block)) in
+      stored words before now i x inside (omega arith) e (q ∙ sym (words-at k n block i h))
+
+  pub unpacked-all : n ≤ i → i ≤ n → now ≡ take i words ++ drop i before → now ≡ words ++ drop n before
+  unpacked-all h h' e =
+      let whole : length words ≤ i = omega (arith, packed-length k n (drop 8 block)) in
+      e ∙ ap₂ (λ (xs : List ℕ) (j : ℕ). xs ++ drop j before) (take-all i words whole) (le-antisymm h' h)

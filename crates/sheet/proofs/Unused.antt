@@ -1,0 +1,46 @@
+-- Bytes are all zero exactly if their sum is. Assumes nothing.
+use mathlib.Core.Path.{_≡_, refl, sym, ap, _∙_}
+use mathlib.Core.Bool.{_&&_}
+use mathlib.Core.List.{List, [], _∷_}
+use Prim.Native.Nat.{ℕ, zero, suc, _+_, _≤_, _<_}
+use native.Mathlib.Nat.{zero-add}
+use native.Mathlib.Numerals.{add-one}
+use native.Mathlib.Omega.{arith}
+use borrow.Author.Tests.{ne-eqb}
+use lib.Dec.{eqb}
+use lib.ListN.{length, getD, take, drop-of-length-le, length-take}
+use lib.Seq.{slice, slice-cons}
+use Rattle.sheet.specs.Layout.{end, unused}
+use Rattle.sheet.specs.Sums.{total}
+use Rattle.sheet.specs.Reads.{allZero}
+
+pub zero-when : (bytes : List ℕ) → allZero bytes ≡ eqb (total bytes) 0
+unfolding allZero total
+zero-when [] = refl
+zero-when (zero ∷ bytes) =
+    let none : total bytes ≡ 0 + total bytes = omega arith in
+    zero-when bytes ∙ ap (λ (x : ℕ). eqb x 0) none
+zero-when (suc b ∷ bytes) = rw (ne-eqb (suc b) 0 (λ h. omega arith)) (sym (ne-eqb (suc b + total bytes) 0 (λ h. omega arith)))
+
+-- the loop that sums them: it starts at the first byte after the words
+pub unused-none : (block : List ℕ) (at : ℕ) → at ≡ end block → 0 + total (slice at 504 block) ≡ total (unused block)
+unfolding unused
+unused-none block at e = zero-add (total (slice at 504 block)) ∙ ap (λ (i : ℕ). total (slice i 504 block)) e
+
+-- the sum so far, and the bytes from byte at up to byte to that are still to come
+pub unused-more : (block : List ℕ) (at to sum b all : ℕ) → to ≤ length block → at < to → b ≡ getD block at 0 → sum + total (slice at to block) ≡ all → sum + b + total (slice (at + 1) to block) ≡ all
+unfolding total
+unused-more block at to sum b all k h q s = omega (arith, q, s, next)
+  where
+    next : total (slice at to block) ≡ getD block at 0 + total (slice (at + 1) to block)
+    next = ap total (slice-cons at to block 0 h k) ∙ ap (λ (j : ℕ). getD block at 0 + total (slice j to block)) (sym (add-one at))
+
+pub unused-all : (block : List ℕ) (at to sum all : ℕ) → to ≤ at → sum + total (slice at to block) ≡ all → sum ≡ all
+unfolding total
+unused-all block at to sum all h s = omega (arith, s, none)
+  where
+    past : length (take to block) ≤ at
+    past = omega (arith, h, length-take to block)
+
+    none : total (slice at to block) ≡ 0
+    none = ap total (drop-of-length-le (take to block) past)

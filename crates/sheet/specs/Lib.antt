@@ -1,0 +1,5 @@
+-- What the contracts of this crate cite, and what its law of changes says.
+pub mod Changes
+pub mod Layout
+pub mod Reads
+pub mod Sums

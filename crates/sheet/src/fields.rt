@@ -1,0 +1,37 @@
+// The fields of a block of 512 bytes.
+use crate::numbers::one_byte;
+use crate::numbers::two_bytes;
+ghost use mathlib.Core.Path.{_≡_};
+ghost use Prim.Native.Nat.{_<_, _^_};
+ghost use lib.ListN.{length};
+ghost use Rattle.sheet.specs.Layout.{width, count, size, end};
+
+pub(crate) fn width_of(block: &[u8]) -> u32
+    requires { ⌜ length (now block) ≡ 512 ⌝ }
+    ensures { λ r. ⌜ (r ≡ width (now (block .entry))) × (r < 2 ^ 8) ⌝ }
+{
+    one_byte(block, 1)
+}
+
+pub(crate) fn count_of(block: &[u8]) -> u32
+    requires { ⌜ length (now block) ≡ 512 ⌝ }
+    ensures { λ r. ⌜ (r ≡ count (now (block .entry))) × (r < 2 ^ 16) ⌝ }
+{
+    two_bytes(block, 2)
+}
+
+// The bytes that a word has.
+pub(crate) fn size_of(block: &[u8]) -> usize
+    requires { ⌜ length (now block) ≡ 512 ⌝ }
+    ensures { λ r. ⌜ (r ≡ size (now (block .entry))) × (r < 2 ^ 8) ⌝ }
+{
+    (width_of(block) / 8) as usize
+}
+
+// The first byte after the words.
+pub(crate) fn end_of(block: &[u8]) -> usize
+    requires { ⌜ length (now block) ≡ 512 ⌝ }
+    ensures { λ r. ⌜ r ≡ end (now (block .entry)) ⌝ }
+{
+    8 + size_of(block) * count_of(block) as usize
+}

@@ -1,0 +1,34 @@
+-- Two outcomes that the contracts of writing and of moving allow are equal. Assumes nothing.
+use mathlib.Core.Path.{_≡_, sym, _∙_}
+use Prim.Native.Nat.{ℕ, _*_, _≤_}
+use native.Mathlib.Nat.{zero-lt-suc}
+use lib.IntN.{pos, natAbs, _+ℤ_}
+use Rattle.word.specs.declared.answer.Answer.{Answer}
+use Rattle.word.specs.Takum.{Takum, real, NaR, takum}
+use Rattle.word.specs.Reads.{num, den}
+use Rattle.word.specs.Refusals.{through, refused}
+use Rattle.word.proofs.Verdicts.{width-through, move-through, answered, refused-as}
+use Rattle.write.specs.declared.value.Rule.{Rule}
+use Rattle.write.specs.declared.value.Value.{Value}
+use Rattle.write.specs.Writes.{isNegative, IsMoved, Writes, Moves}
+use Rattle.write.proofs.Exponents.{unit-some}
+use Rattle.write.proofs.Rounding.{written-one}
+
+pub writes-one : (n : ℕ) (rule : Rule) (v : Value) (a b : Answer) → Writes n rule v a → Writes n rule v b → a ≡ b
+unfolding Writes
+writes-one n rule v a b (through h x) y =
+    let t = width-through n h in
+    written-one n (t .0) (t .1) rule (v .negative) (v .m * num (v .k +ℤ pos 307)) (den (v .k +ℤ pos 307)) a b (unit-some (v .k +ℤ pos 307) .1) x (answered h y)
+writes-one n rule v a b (refused h x) y = x ∙ sym (refused-as _ h y)
+
+moved-one : (n : ℕ) → 2 ≤ n → n ≤ 64 → (rule : Rule) (t : Takum) (a b : Answer) → IsMoved n rule t a → IsMoved n rule t b → a ≡ b
+unfolding IsMoved
+moved-one n lo hi rule (real z) a b x y = written-one n lo hi rule (isNegative z) (natAbs z) 1 a b (zero-lt-suc 0) x y
+moved-one n lo hi rule NaR a b x y = x ∙ sym y
+
+pub moves-one : (n n' : ℕ) (rule : Rule) (w : ℕ) (a b : Answer) → Moves n n' rule w a → Moves n n' rule w b → a ≡ b
+unfolding Moves
+moves-one n n' rule w a b (through h x) y =
+    let t = width-through n' (move-through n n' w h .1) in
+    moved-one n' (t .0) (t .1) rule (takum n w) a b x (answered h y)
+moves-one n n' rule w a b (refused h x) y = x ∙ sym (refused-as _ h y)

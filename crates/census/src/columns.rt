@@ -1,118 +1,121 @@
-// Parts 28 and 29: columns of drawn words, of many lengths, between many pairs of widths.
-use crate::column::Kind;
-use crate::column::Shape;
-use crate::column::draw_column;
-use crate::column::take_moves_around;
-use crate::digest::EMPTY;
-use crate::digest::sequence;
-use crate::line::print_digest;
-use crate::line::print_number;
-use crate::line::print_text;
-use crate::planted::take_planted;
+// A column: its words, drawn from a sequence, and the moves of it with a result slice of some length.
+use crate::bits::low_bits;
+use crate::bits::power_of_two;
+use crate::digest::scramble;
+use crate::digest::take;
+use crate::digest::take_refusal;
+use crate::row::BESIDE;
+use crate::row::fill_row;
+use crate::row::take_row;
+use column::moving::Column;
+use column::moving::move_column;
+use word::width::Width;
+use write::value::Rule;
 ghost use Prim.Native.Nat.{_≤_};
 
-// What a line tells: part 28, a column as it is drawn, or part 29, an exact column with bits set for some calls.
-enum Told {
-    Drawn,
-    Planted,
+// The widths that a column is moved from and to, and how many words it has.
+pub(crate) struct Shape {
+    pub(crate) from: u32,
+    pub(crate) to: u32,
+    pub(crate) length: usize,
 }
 
-pub(crate) fn print_drawn_columns() {
-    print_drawn_pair(2, 64);
-    print_drawn_pair(64, 2);
-    print_drawn_pair(8, 16);
-    print_drawn_pair(16, 8);
-    print_drawn_pair(11, 13);
-    print_drawn_pair(13, 11);
-    print_drawn_pair(16, 32);
-    print_drawn_pair(32, 16);
-    print_drawn_pair(16, 64);
-    print_drawn_pair(64, 16);
-    print_drawn_pair(63, 64);
-    print_drawn_pair(64, 63);
-    print_drawn_pair(16, 16);
-    print_drawn_pair(64, 64);
+// Every word of an exact column moves exactly. A free column has any words.
+pub(crate) enum Kind {
+    Exact,
+    Free,
 }
 
-pub(crate) fn print_planted_columns() {
-    print_planted_pair(8, 16);
-    print_planted_pair(16, 8);
-    print_planted_pair(16, 32);
-    print_planted_pair(32, 16);
-    print_planted_pair(16, 64);
-    print_planted_pair(64, 16);
-    print_planted_pair(63, 62);
-    print_planted_pair(16, 16);
-}
-
-// The empty column is part 28's alone.
-fn print_drawn_pair(from: u32, to: u32)
-    requires { ⌜ (2 ≤ from) × (from ≤ 64) × (2 ≤ to) × (to ≤ 64) ⌝ }
+// Draws the words of a column, and gives back the state of the sequence after them.
+pub(crate) fn draw_column(column: &mut [u64; 1000], kind: Kind, shape: Shape, start: u64) -> u64
+    requires { ⌜ (2 ≤ shape .from) × (shape .from ≤ 64) × (2 ≤ shape .to) × (shape .to ≤ 64) × (shape .length ≤ 1000) ⌝ }
 {
-    let start = sequence(10_000 + 100 * from as u64 + to as u64);
-    let state = print_drawn(
-        Shape {
-            from,
-            to,
-            length: 0,
-        },
-        start,
-    );
-    print_lengths(Told::Drawn, from, to, state);
+    let mut state = start;
+    let mut place = 0;
+    while place < shape.length {
+        state = scramble(state);
+        column[place] = drawn_word(kind, shape, place, state);
+        place += 1;
+    }
+    state
 }
 
-fn print_planted_pair(from: u32, to: u32)
-    requires { ⌜ (2 ≤ from) × (from ≤ 64) × (2 ≤ to) × (to ≤ 64) ⌝ }
+fn drawn_word(kind: Kind, shape: Shape, place: usize, x: u64) -> u64
+    requires { ⌜ (2 ≤ shape .from) × (shape .from ≤ 64) × (2 ≤ shape .to) × (shape .to ≤ 64) ⌝ }
 {
-    let start = sequence(20_000 + 100 * from as u64 + to as u64);
-    print_lengths(Told::Planted, from, to, start);
-}
-
-fn print_lengths(told: Told, from: u32, to: u32, start: u64)
-    requires { ⌜ (2 ≤ from) × (from ≤ 64) × (2 ≤ to) × (to ≤ 64) ⌝ }
-{
-    let mut state = print_line(told, from, to, 1, start);
-    state = print_line(told, from, to, 2, state);
-    state = print_line(told, from, to, 247, state);
-    state = print_line(told, from, to, 248, state);
-    print_line(told, from, to, 1000, state);
-}
-
-// Prints the line of a length, and gives back the state of the sequence after it.
-fn print_line(told: Told, from: u32, to: u32, length: usize, state: u64) -> u64
-    requires { ⌜ (2 ≤ from) × (from ≤ 64) × (2 ≤ to) × (to ≤ 64) × (1 ≤ length) × (length ≤ 1000) ⌝ }
-{
-    let shape = Shape { from, to, length };
-    match told {
-        Told::Drawn => print_drawn(shape, state),
-        Told::Planted => print_planted(shape, state),
+    match kind {
+        Kind::Exact => exact_word(shape, place % 16, x),
+        Kind::Free => low_bits(x, shape.from),
     }
 }
 
-fn print_drawn(shape: Shape, state: u64) -> u64
-    requires { ⌜ (2 ≤ shape .from) × (shape .from ≤ 64) × (2 ≤ shape .to) × (shape .to ≤ 64) × (shape .length ≤ 1000) ⌝ }
+// NaR, zero, or a word whose bits below the target's last are zero.
+fn exact_word(shape: Shape, place: usize, x: u64) -> u64
+    requires { ⌜ (2 ≤ shape .from) × (shape .from ≤ 64) × (2 ≤ shape .to) × (shape .to ≤ 64) ⌝ }
 {
-    let mut column = [0u64; 1000];
-    let after_exact = draw_column(&mut column, Kind::Exact, shape, state);
-    let exact = take_moves_around(EMPTY, &column, shape);
-    let after_free = draw_column(&mut column, Kind::Free, shape, after_exact);
-    print_of_shape(b"column", shape, take_moves_around(exact, &column, shape));
-    after_free
+    if place == 5 {
+        return power_of_two(shape.from - 1);
+    }
+    if place == 11 {
+        return 0;
+    }
+    if shape.to < shape.from {
+        return low_bits(x, shape.to) << (shape.from - shape.to);
+    }
+    low_bits(x, shape.from)
 }
 
-fn print_planted(shape: Shape, state: u64) -> u64
-    requires { ⌜ (2 ≤ shape .from) × (shape .from ≤ 64) × (2 ≤ shape .to) × (shape .to ≤ 64) × (1 ≤ shape .length) × (shape .length ≤ 1000) ⌝ }
+// The two moves with each of the rooms around the column's length.
+pub(crate) fn take_moves_around(start: u64, column: &[u64; 1000], shape: Shape) -> u64
+    requires { ⌜ shape .length ≤ 1000 ⌝ }
 {
-    let mut column = [0u64; 1000];
-    let after = draw_column(&mut column, Kind::Exact, shape, state);
-    print_of_shape(b"planted", shape, take_planted(EMPTY, &mut column, shape));
-    after
+    let mut digest = take_two_moves(start, column, shape, 0);
+    if 0 < shape.length {
+        digest = take_two_moves(digest, column, shape, shape.length - 1);
+    }
+    digest = take_two_moves(digest, column, shape, shape.length);
+    digest = take_two_moves(digest, column, shape, shape.length + 1);
+    take_two_moves(digest, column, shape, shape.length + 8)
 }
 
-fn print_of_shape(text: &[u8], shape: Shape, digest: u64) {
-    print_text(text);
-    print_number(shape.from as u64);
-    print_number(shape.to as u64);
-    print_number(shape.length as u64);
-    print_digest(digest);
+// The rounded move and the strict one.
+pub(crate) fn take_two_moves(digest: u64, column: &[u64; 1000], shape: Shape, room: usize) -> u64
+    requires { ⌜ (shape .length ≤ 1000) × (room ≤ 1008) ⌝ }
+{
+    let after_rounded = take_move(digest, Rule::Rounded, column, shape, room);
+    take_move(after_rounded, Rule::Strict, column, shape, room)
+}
+
+pub(crate) fn take_move(
+    digest: u64,
+    rule: Rule,
+    column: &[u64; 1000],
+    shape: Shape,
+    room: usize,
+) -> u64
+    requires { ⌜ (shape .length ≤ 1000) × (room ≤ 1008) ⌝ }
+{
+    let mut row = [0u64; 1024];
+    fill_row(&mut row);
+    let length = shape.length;
+    let end = BESIDE + room;
+    let moved = move_column(
+        Width { bits: shape.from },
+        Width { bits: shape.to },
+        rule,
+        &column[..length],
+        &mut row[BESIDE..end],
+    );
+    take_row(take_column(digest, moved), &row, end + BESIDE)
+}
+
+fn take_column(digest: u64, column: Column) -> u64 {
+    match column {
+        Column::Moved(count) => take(take(digest, 0), count as u64),
+        Column::Refused(refusal) => take_refusal(digest, refusal),
+        Column::RefusedAt { position, refusal } => {
+            let numbered = take(take(digest, 4), refusal.number() as u64);
+            take(numbered, position as u64)
+        }
+    }
 }

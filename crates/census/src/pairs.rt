@@ -1,9 +1,9 @@
 // Part 31: short columns from each width to every width.
 use crate::bits::bounded;
-use crate::column::Kind;
-use crate::column::Shape;
-use crate::column::draw_column;
-use crate::column::take_two_moves;
+use crate::columns::Kind;
+use crate::columns::Shape;
+use crate::columns::draw_column;
+use crate::columns::take_two_moves;
 use crate::runs::Run;
 use word::width::Width;
 ghost use Prim.Native.Nat.{_≤_};

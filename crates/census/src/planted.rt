@@ -1,7 +1,7 @@
 // Bits set in a column for some calls: a stray one, and one that makes a word's move inexact.
 use crate::bits::power_of_two;
-use crate::column::Shape;
-use crate::column::take_move;
+use crate::columns::Shape;
+use crate::columns::take_move;
 use write::value::Rule;
 ghost use Prim.Native.Nat.{_+_, _≤_, _<_};
 

@@ -1,7 +1,7 @@
 // Part 30: moving a short column where a width is bad.
 use crate::bits::TOP_BIT;
-use crate::column::Shape;
-use crate::column::take_two_moves;
+use crate::columns::Shape;
+use crate::columns::take_two_moves;
 ghost use Prim.Native.Nat.{_≤_};
 
 // From the bad width, to it, and both.

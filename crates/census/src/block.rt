@@ -1,5 +1,6 @@
 // A sheet block in the first 512 of 520 bytes: its fields, its seal, and the block of w and c, drawn from a sequence.
 use crate::bits::bounded;
+use crate::bits::times;
 use crate::bytes::put_four;
 use crate::bytes::put_one;
 use crate::bytes::put_two;
@@ -55,7 +56,7 @@ pub(crate) fn end_of_words(w: u32, count: u32) -> usize
     requires { ⌜ w ≤ 64 ⌝ }
     ensures { λ r. ⌜ (8 ≤ r) × (r ≤ 504) ⌝ }
 {
-    8 + bounded((words_of(w, count) * (w / 8)) as u64, 496) as usize
+    8 + bounded(times(words_of(w, count) as u64, (w / 8) as u64), 496) as usize
 }
 
 // Makes the block of w and c out of zero bytes, and gives back the state of the sequence after it.
@@ -84,7 +85,7 @@ fn draw_words(block: &mut [u8; 520], w: u32, end: usize, start: u64) -> u64
     let mut state = start;
     let mut at = 8;
     while at < end {
-        let bit = (8 * at as u64) % w as u64;
+        let bit = bounded((8 * at as u64) % w as u64, 63);
         state = drawn_at(bit, state);
         block[at] = ((state >> bit) % 256) as u8;
         at += 1;

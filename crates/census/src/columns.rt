@@ -12,6 +12,7 @@ use column::moving::move_column;
 use word::width::Width;
 use write::value::Rule;
 ghost use Prim.Native.Nat.{_≤_};
+ghost use lib.ListN.{length};
 
 // The widths that a column is moved from and to, and how many words it has.
 pub(crate) struct Shape {
@@ -86,14 +87,8 @@ pub(crate) fn take_two_moves(digest: u64, column: &[u64; 1000], shape: Shape, ro
     take_move(after_rounded, Rule::Strict, column, shape, room)
 }
 
-pub(crate) fn take_move(
-    digest: u64,
-    rule: Rule,
-    column: &[u64; 1000],
-    shape: Shape,
-    room: usize,
-) -> u64
-    requires { ⌜ (shape .length ≤ 1000) × (room ≤ 1008) ⌝ }
+pub(crate) fn take_move(digest: u64, rule: Rule, column: &[u64], shape: Shape, room: usize) -> u64
+    requires { ⌜ (shape .length ≤ length (now column)) × (room ≤ 1008) ⌝ }
 {
     let mut row = [0u64; 1024];
     fill_row(&mut row);

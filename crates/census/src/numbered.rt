@@ -1,4 +1,5 @@
 // The changes of part 34 to the 126 numbers of a block, modulo 2^32.
+use crate::bits::times;
 use crate::bytes::number_at;
 use crate::bytes::put_four;
 ghost use Prim.Native.Nat.{_≤_, _<_, _^_};
@@ -41,10 +42,4 @@ fn add(block: &mut [u8; 520], i: u64, d: u64)
 
 fn minus(d: u64) -> u64 {
     std::num::wrapping_sub_u64(0, d)
-}
-
-fn times(d: u64, weight: u64) -> u64
-    requires { ⌜ (d < 2 ^ 32) × (weight ≤ 126) ⌝ }
-{
-    d * weight
 }

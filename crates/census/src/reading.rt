@@ -8,6 +8,7 @@ use crate::row::take_row;
 use sheet::block::Block;
 use sheet::block::read_block;
 ghost use Prim.Native.Nat.{_≤_};
+ghost use lib.ListN.{length};
 
 // With each of the rooms around a number of words.
 pub(crate) fn take_readings_around(start: u64, block: &[u8; 520], words: usize) -> u64
@@ -32,6 +33,12 @@ pub(crate) fn take_reading(digest: u64, block: &[u8; 520], room: usize) -> u64
 // As many of the bytes as are lent.
 pub(crate) fn take_reading_of(digest: u64, bytes: &[u8; 520], lent: usize, room: usize) -> u64
     requires { ⌜ (lent ≤ 520) × (room ≤ 1008) ⌝ }
+{
+    take_lent(digest, bytes, lent, room)
+}
+
+fn take_lent(digest: u64, bytes: &[u8], lent: usize, room: usize) -> u64
+    requires { ⌜ (lent ≤ length (now bytes)) × (room ≤ 1008) ⌝ }
 {
     let mut row = [0u64; 1024];
     fill_row(&mut row);

@@ -12,6 +12,13 @@ pub(crate) fn power_of_two(k: u32) -> u64
     1 << k
 }
 
+// The product of two numbers of 32 bits.
+pub(crate) fn times(x: u64, y: u64) -> u64
+    requires { ⌜ (x < 2 ^ 32) × (y < 2 ^ 32) ⌝ }
+{
+    x * y
+}
+
 // The number modulo 2^n.
 pub(crate) fn low_bits(x: u64, n: u32) -> u64
     requires { ⌜ (1 ≤ n) × (n ≤ 64) ⌝ }

@@ -19,6 +19,11 @@ pub(crate) fn scramble(x: u64) -> u64 {
     z ^ (z << 17)
 }
 
+// The state that the sequence of a START begins at.
+pub(crate) fn sequence(start: u64) -> u64 {
+    std::num::wrapping_add_u64(EMPTY, start)
+}
+
 pub(crate) fn take(digest: u64, x: u64) -> u64 {
     scramble(std::num::wrapping_add_u64(digest, x))
 }
@@ -34,7 +39,7 @@ fn take_signed_32(digest: u64, z: i32) -> u64 {
     take_signed(digest, z as i64)
 }
 
-fn take_refusal(digest: u64, refusal: Refusal) -> u64 {
+pub(crate) fn take_refusal(digest: u64, refusal: Refusal) -> u64 {
     take(take(digest, 3), refusal.number() as u64)
 }
 

@@ -17,6 +17,14 @@ pub(crate) fn print_of_width(text: &[u8], n: u32, digest: u64) {
     print_digest(digest);
 }
 
+// A whole line of one width and another number.
+pub(crate) fn print_of_two(text: &[u8], n: u32, x: u32, digest: u64) {
+    print_text(text);
+    print_number(n as u64);
+    print_number(x as u64);
+    print_digest(digest);
+}
+
 // A digest is the last of a line.
 pub(crate) fn print_digest(digest: u64) {
     io::write_all(STDOUT_FILENO, b" ");

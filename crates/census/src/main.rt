@@ -2,23 +2,38 @@
 mod around;
 mod binaries;
 mod bits;
+mod block;
+mod bytes;
+mod changed;
+mod changes;
+mod columns;
 mod digest;
 mod draws;
 mod edges;
 mod facts;
+mod faults;
+mod fills;
+mod lengths;
 mod line;
 mod midpoints;
 mod moves;
+mod numbered;
 mod numbers;
 mod outs;
+mod pairs;
 mod parts;
 mod past;
 mod patterns;
 mod places;
+mod planted;
+mod reading;
 mod refused;
+mod row;
 mod runs;
+mod sheets;
 mod sizes;
 mod subjects;
+mod uncolumned;
 mod unmoved;
 mod unnumbered;
 mod unread;
@@ -28,11 +43,18 @@ mod widths;
 mod words;
 mod writings;
 
+use crate::changes::Change;
+use crate::lengths::print_drawn_columns;
+use crate::lengths::print_planted_columns;
 use crate::parts::Part;
+use crate::parts::print_at_block_widths;
 use crate::parts::print_everywhere;
 use crate::parts::print_part;
 use crate::refused::Asked;
+use crate::refused::Refused;
 use crate::refused::print_bad_widths;
+use crate::runs::print_one_line;
+use crate::sheets::print_width_bytes;
 use crate::subjects::Subject;
 use crate::subjects::WIDEST_WHOLE;
 use word::width::Width;
@@ -43,8 +65,10 @@ fn main() {
     print_outs();
     print_wholes();
     print_binaries();
-    print_bad_widths(Asked::Numbers);
+    print_bad_widths(Refused::Words(Asked::Numbers));
     print_everywhere(Part::Strays(Asked::Numbers));
+    print_columns();
+    print_blocks();
 }
 
 // Parts 1 to 6.
@@ -52,7 +76,7 @@ fn print_readings() {
     print_everywhere(Part::Widths);
     print_everywhere(Part::Runs(Subject::Word));
     print_everywhere(Part::Line(Subject::Edge));
-    print_bad_widths(Asked::Reading);
+    print_bad_widths(Refused::Words(Asked::Reading));
     print_everywhere(Part::Strays(Asked::Reading));
 }
 
@@ -62,7 +86,7 @@ fn print_writings() {
     print_everywhere(Part::Past);
     print_part(Part::Runs(Subject::Move), Width::LEAST, WIDEST_WHOLE);
     print_everywhere(Part::Runs(Subject::Draw));
-    print_bad_widths(Asked::Moving);
+    print_bad_widths(Refused::Words(Asked::Moving));
     print_everywhere(Part::Strays(Asked::Moving));
 }
 
@@ -92,4 +116,26 @@ fn print_binaries() {
     print_part(Part::Line(Subject::Twos), Width::LEAST, 12);
     print_part(Part::Line(Subject::Twos), 56, 60);
     print_everywhere(Part::Extreme);
+}
+
+// Parts 28 to 31.
+fn print_columns() {
+    print_drawn_columns();
+    print_planted_columns();
+    print_bad_widths(Refused::Columns);
+    print_everywhere(Part::Line(Subject::Pairs));
+}
+
+// Parts 32 to 40.
+fn print_blocks() {
+    print_at_block_widths(Part::Blocks);
+    print_at_block_widths(Part::Runs(Subject::Sheet(Change::Byte)));
+    print_at_block_widths(Part::Sums);
+    print_at_block_widths(Part::Runs(Subject::Sheet(Change::Fault)));
+    print_width_bytes(1);
+    print_width_bytes(63);
+    print_one_line(Subject::Sheet(Change::Mark), 16);
+    print_at_block_widths(Part::Fills);
+    print_at_block_widths(Part::Sizes);
+    print_at_block_widths(Part::Numbers);
 }

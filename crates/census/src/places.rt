@@ -1,6 +1,7 @@
 // What each subject takes in at a place: from the sequence where it draws, and else by the place's own number.
 use crate::binaries::take_binary64_draw;
 use crate::binaries::take_two;
+use crate::changes::take_change;
 use crate::draws::take_draw;
 use crate::edges::take_edge;
 use crate::midpoints::take_up_to_next;
@@ -9,7 +10,9 @@ use crate::outs::take_out_edge;
 use crate::outs::take_out_full;
 use crate::outs::take_out_power;
 use crate::outs::take_word_out;
+use crate::pairs::take_pair;
 use crate::runs::Run;
+use crate::runs::undrawn;
 use crate::subjects::Subject;
 use crate::wholes::take_in_order;
 use crate::wholes::take_power_in;
@@ -35,13 +38,7 @@ pub(crate) fn take_place(subject: Subject, run: Run, n: u32, place: u64) -> Run
         Subject::Tally => take_tally(run, n),
         Subject::Binary => take_binary64_draw(run, n),
         Subject::Twos => undrawn(run, take_two(run.digest, n, place)),
-    }
-}
-
-// Nothing was drawn, so the sequence stays where it is.
-fn undrawn(run: Run, digest: u64) -> Run {
-    Run {
-        state: run.state,
-        digest,
+        Subject::Pairs => take_pair(run, n, place),
+        Subject::Sheet(change) => take_change(change, run, n, place),
     }
 }

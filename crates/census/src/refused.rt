@@ -1,9 +1,10 @@
-// Parts 5, 6, 11, 12, 26 and 27: what is refused, at bad widths and of words with a bit at or above their width.
+// Parts 5, 6, 11, 12, 26, 27 and 30: what is refused, at bad widths and of words with a bit at or above their width.
 use crate::bits::ALL_BITS;
 use crate::bits::TOP_BIT;
 use crate::bits::power_of_two;
 use crate::digest::EMPTY;
 use crate::line::print_of_width;
+use crate::uncolumned::take_uncolumned;
 use crate::unmoved::take_moves_of_stray;
 use crate::unmoved::take_unmoved;
 use crate::unnumbered::take_unnumbered;
@@ -13,22 +14,35 @@ use crate::ways::take_out;
 use word::width::Width;
 ghost use Prim.Native.Nat.{_≤_};
 
-// What the library is asked.
+// What the library is asked of words.
 pub(crate) enum Asked {
     Reading,
     Moving,
     Numbers,
 }
 
-pub(crate) fn print_bad_widths(asked: Asked) {
-    print_bad_width(asked, 0);
-    print_bad_width(asked, 1);
-    print_bad_width(asked, 65);
-    print_bad_width(asked, 0x8000_0000);
-    print_bad_width(asked, 0xffff_ffff);
+// At bad widths columns are moved too. Their stray words are planted, in part 29.
+pub(crate) enum Refused {
+    Words(Asked),
+    Columns,
 }
 
-fn print_bad_width(asked: Asked, n: u32) {
+pub(crate) fn print_bad_widths(refused: Refused) {
+    print_bad_width(refused, 0);
+    print_bad_width(refused, 1);
+    print_bad_width(refused, 65);
+    print_bad_width(refused, 0x8000_0000);
+    print_bad_width(refused, 0xffff_ffff);
+}
+
+fn print_bad_width(refused: Refused, n: u32) {
+    match refused {
+        Refused::Words(asked) => print_of_words(asked, n),
+        Refused::Columns => print_of_width(b"uncolumned", n, take_uncolumned(EMPTY, n)),
+    }
+}
+
+fn print_of_words(asked: Asked, n: u32) {
     match asked {
         Asked::Reading => print_of_width(b"refused", n, take_unread(EMPTY, n)),
         Asked::Moving => print_of_width(b"unmoved", n, take_unmoved(EMPTY, n)),

@@ -17,6 +17,14 @@ pub(crate) struct Run {
     pub(crate) digest: u64,
 }
 
+// Nothing was drawn, so the sequence stays where it is.
+pub(crate) fn undrawn(run: Run, digest: u64) -> Run {
+    Run {
+        state: run.state,
+        digest,
+    }
+}
+
 pub(crate) fn print_runs(subject: Subject, n: u32)
     requires { ⌜ (2 ≤ n) × (n ≤ 64) ⌝ }
 {
@@ -34,7 +42,13 @@ pub(crate) fn print_runs(subject: Subject, n: u32)
 pub(crate) fn print_one_line(subject: Subject, n: u32)
     requires { ⌜ (2 ≤ n) × (n ≤ 64) ⌝ }
 {
-    let run = take_run(subject, n, first_place(subject), end_of(subject, n), EMPTY);
+    let run = take_run(
+        subject,
+        n,
+        first_place(subject),
+        end_of(subject, n),
+        first_state(subject, n),
+    );
     print_subject(subject);
     print_number(n as u64);
     print_digest(run.digest);
@@ -66,7 +80,7 @@ fn print_run(subject: Subject, n: u32, first: u64, stop: u64, state: u64) -> u64
     run.state
 }
 
-fn take_run(subject: Subject, n: u32, first: u64, stop: u64, state: u64) -> Run
+pub(crate) fn take_run(subject: Subject, n: u32, first: u64, stop: u64, state: u64) -> Run
     requires { ⌜ (2 ≤ n) × (n ≤ 64) ⌝ }
 {
     let mut run = Run {

@@ -1,6 +1,11 @@
 // What the parts take in from place to place: the name of each, its places, how they run, and where its sequence starts.
 use crate::bits::power_of_two;
-use crate::digest::EMPTY;
+use crate::changes::Change;
+use crate::changes::end_of_change;
+use crate::changes::longest_run_of;
+use crate::changes::print_change;
+use crate::changes::state_after_block;
+use crate::digest::sequence;
 use crate::line::print_text;
 ghost use Prim.Native.Nat.{_≤_};
 
@@ -10,7 +15,7 @@ pub(crate) const WIDEST_WHOLE: u32 = 16;
 // How many places there are where words or values are drawn.
 const DRAWN: u64 = 4096;
 
-// Word stands for the parts 2 and 3, Out for 13 and 14; each other is one part.
+// Word stands for the parts 2 and 3, Out for 13 and 14, Sheet for the blocks that change from place to place; each other is one part.
 pub(crate) enum Subject {
     Word,
     Edge,
@@ -26,6 +31,8 @@ pub(crate) enum Subject {
     Tally,
     Binary,
     Twos,
+    Pairs,
+    Sheet(Change),
 }
 
 pub(crate) fn print_subject(subject: Subject) {
@@ -44,6 +51,8 @@ pub(crate) fn print_subject(subject: Subject) {
         Subject::Tally => print_text(b"tally"),
         Subject::Binary => print_text(b"binary"),
         Subject::Twos => print_text(b"twos"),
+        Subject::Pairs => print_text(b"pairs"),
+        Subject::Sheet(change) => print_change(change),
     }
 }
 
@@ -74,6 +83,8 @@ pub(crate) fn end_of(subject: Subject, n: u32) -> u64
         Subject::Tally => 512,
         Subject::Binary => DRAWN,
         Subject::Twos => 514,
+        Subject::Pairs => 63,
+        Subject::Sheet(change) => end_of_change(change),
     }
 }
 
@@ -92,23 +103,30 @@ pub(crate) fn longest_run(subject: Subject) -> u64
     match subject {
         Subject::OutFull => 64,
         Subject::Whole => 4096,
+        Subject::Sheet(change) => longest_run_of(change),
         _ => 256,
     }
 }
 
 // Each width has a sequence of its own.
-pub(crate) fn first_state(subject: Subject, n: u32) -> u64 {
-    std::num::wrapping_add_u64(EMPTY, start_of(subject) + n as u64)
+pub(crate) fn first_state(subject: Subject, n: u32) -> u64
+    requires { ⌜ (2 ≤ n) × (n ≤ 64) ⌝ }
+{
+    match subject {
+        Subject::Sheet(change) => state_after_block(change, n),
+        _ => sequence(start_of(subject) + n as u64),
+    }
 }
 
 fn start_of(subject: Subject) -> u64
-    ensures { λ r. ⌜ r ≤ 7000 ⌝ }
+    ensures { λ r. ⌜ r ≤ 30000 ⌝ }
 {
     match subject {
         Subject::Draw => 1000,
         Subject::Out => 5000,
         Subject::Tally => 6000,
         Subject::Binary => 7000,
+        Subject::Pairs => 30_000,
         _ => 0,
     }
 }

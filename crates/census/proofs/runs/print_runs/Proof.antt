@@ -14,7 +14,7 @@ end-of-requires : tie.Need-end-of-requires Inv-loop μ-loop
 end-of-requires c κs = omega arith
 
 first-state-requires : tie.Need-first-state-requires Inv-loop μ-loop
-first-state-requires c κs = tt
+first-state-requires c κs = omega arith
 
 first-place-requires : tie.Need-first-place-requires Inv-loop μ-loop
 first-place-requires c κs = tt

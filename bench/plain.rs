@@ -11,7 +11,7 @@ pub const OVER: u32 = 5;
 const TOP: u64 = 1 << 63;
 
 // Plus or minus m * 2^k as a word.
-#[inline]
+#[inline(always)]
 pub fn write(n: u32, negative: bool, m: u64, k: i32) -> Result<u64, u32> {
     if !(2..=64).contains(&n) {
         return Err(WIDTH);
@@ -55,9 +55,8 @@ fn string_of(n: u32, word: u64) -> Result<u64, u32> {
 // The sign and the size of a string that is neither zero nor NaR.
 #[inline]
 fn read(string: u64) -> (bool, i32, u64) {
-    let negative = string >= TOP;
-    let (h, m) = read_positive(if negative { string.wrapping_neg() } else { string });
-    (negative, h, m)
+    let (h, m) = read_positive((string as i64).unsigned_abs());
+    (string >= TOP, h, m)
 }
 
 // The size of a positive string is m * 2^(h - 63), m having its top bit set.
@@ -73,7 +72,7 @@ fn read_positive(string: u64) -> (i32, u64) {
 }
 
 // The positive word nearest to m * 2^(h - 63), m having its top bit set.
-#[inline]
+#[inline(always)]
 fn nearest(n: u32, h: i64, m: u64) -> u64 {
     let last = (1u64 << (n - 1)) - 1;
     if h > 254 {
@@ -122,7 +121,9 @@ fn nearest_narrow(n: u32, h: i32, m: u64, low: u64, last: u64) -> u64 {
     low + (beyond > half || (beyond == half && low & 1 == 1)) as u64
 }
 
+// Without a branch, since nobody can foretell the sign.
 #[inline]
 fn with_sign(n: u32, negative: bool, word: u64) -> u64 {
-    if negative { word.wrapping_neg() & (u64::MAX >> (64 - n)) } else { word }
+    let flip = (negative as u64).wrapping_neg();
+    (word ^ flip).wrapping_sub(flip) & (u64::MAX >> (64 - n))
 }

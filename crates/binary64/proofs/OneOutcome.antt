@@ -6,22 +6,22 @@ use lib.Ieee.Fits.{down-pos}
 use Rattle.word.specs.Refusals.{through, refused}
 use Rattle.word.specs.Takum.{Takum, real, NaR, takum}
 use Rattle.word.specs.declared.answer.Answer.{Answer}
-use Rattle.word.proofs.Verdicts.{width-through, answered, refused-as}
+use Rattle.word.proofs.Verdicts.{width-through, answered, refused-as, decided-one}
 use Rattle.write.specs.declared.value.Rule.{Rule}
 use Rattle.write.proofs.Rounding.{written-one}
 use Rattle.binary64.specs.declared.taking.Binary64.{Binary64}
 use Rattle.binary64.specs.Takes.{IsTaken, TakesBinary64}
 use Rattle.binary64.specs.Writes.{IsWrittenBinary64, WritesBinary64}
 
-written-binary64-one : (n : ℕ) → 2 ≤ n → n ≤ 64 → (rule : Rule) (x : Float) (r r' : Answer) → IsWrittenBinary64 n rule x r → IsWrittenBinary64 n rule x r' → r ≡ r'
+written-one-of : (n : ℕ) → 2 ≤ n → n ≤ 64 → (rule : Rule) (x : Float) (r r' : Answer) → IsWrittenBinary64 n rule x r → IsWrittenBinary64 n rule x r' → r ≡ r'
 unfolding IsWrittenBinary64
-written-binary64-one n lo hi rule nan r r' p q = p ∙ sym q
-written-binary64-one n lo hi rule (inf s) r r' p q = p ∙ sym q
-written-binary64-one n lo hi rule (fin s m e) r r' p q = written-one n lo hi rule s (m * up e * 2 ^ 307) (down e) r r' (down-pos e) p q
+written-one-of n lo hi rule nan r r' p q = p ∙ sym q
+written-one-of n lo hi rule (inf s) r r' p q = p ∙ sym q
+written-one-of n lo hi rule (fin s m e) r r' p q = written-one n lo hi rule s (m * up e * 2 ^ 307) (down e) r r' (down-pos e) p q
 
 pub writes-binary64-one : (n : ℕ) (rule : Rule) (x : Float) (r r' : Answer) → WritesBinary64 n rule x r → WritesBinary64 n rule x r' → r ≡ r'
 unfolding WritesBinary64
-writes-binary64-one n rule x r r' (through h p) q = let t = width-through n h in written-binary64-one n (t .0) (t .1) rule x r r' p (answered h q)
+writes-binary64-one n rule x r r' (through h p) q = let t = width-through n h in written-one-of n (t .0) (t .1) rule x r r' p (answered h q)
 writes-binary64-one n rule x r r' (refused h p) q = p ∙ sym (refused-as _ h q)
 
 taken-one : (t : Takum) (a b : Binary64) → IsTaken t a → IsTaken t b → a ≡ b
@@ -31,5 +31,4 @@ taken-one NaR a b p q = p ∙ sym q
 
 pub takes-binary64-one : (n w : ℕ) (a b : Binary64) → TakesBinary64 n w a → TakesBinary64 n w b → a ≡ b
 unfolding TakesBinary64
-takes-binary64-one n w a b (through h p) q = taken-one (takum n w) a b p (answered h q)
-takes-binary64-one n w a b (refused h p) q = p ∙ sym (refused-as _ h q)
+takes-binary64-one n w a b = decided-one Binary64.Refused (IsTaken (takum n w)) (taken-one (takum n w)) a b

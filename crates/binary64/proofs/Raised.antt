@@ -2,7 +2,7 @@
 use mathlib.Core.Path.{_≡_, refl, sym, ap, _∙_}
 use mathlib.Core.Bool.{Bool, true, false}
 use Prim.Native.Nat.{ℕ, zero, suc, _+_, _-_, _*_, _^_, _≤_, _<_}
-use native.Mathlib.Nat.{zero-mul, mul-assoc, mul-comm, mul-right-comm, mul-pos, lt-of-lt-of-le, eq-of-mul-eq-mul-right}
+use native.Mathlib.Nat.{mul-assoc, mul-comm, mul-right-comm, lt-of-lt-of-le, eq-of-mul-eq-mul-right}
 use native.Mathlib.Omega.{arith}
 use borrow.Author.Tests.{le-ltb}
 use lib.IntN.{ℤ, pos, negsuc, natAbs, _+ℤ_, _-ℤ_, +ℤ-assoc, +ℤ-idr}
@@ -13,6 +13,7 @@ use Rattle.word.specs.Reads.{num, den, signedSize, IsSize, IsNumber}
 use Rattle.word.proofs.Integers.{balance}
 use Rattle.write.specs.Writes.{isNegative}
 use Rattle.write.proofs.Exponents.{unit-some, shift}
+use Rattle.write.proofs.Rules.{size-some}
 
 -- an exponent raised by 1023
 pub raise : (h : ℤ) → mag h ≤ 255 → (g : ℕ) × (h +ℤ pos 1023 ≡ pos g) × (767 ≤ g) × (g ≤ 1278)
@@ -25,14 +26,7 @@ module _ {t : Takum} {f : ℕ} {s : Bool} {h : ℤ} {m p : ℕ} (x : IsNumber t 
 
   number-some : 0 < x .v
   unfolding IsSize
-  number-some = by (x .v) (x .size)
-    where
-      some : 0 < m
-      some = lt-of-lt-of-le (pow-pos p) (x .low)
-
-      by : (v : ℕ) → m * num e ≡ v * den e → 0 < v
-      by zero q = absurd (omega (arith, q, zero-mul (den e), mul-pos some (unit-some e .0)))
-      by (suc v) q = omega arith
+  number-some = size-some m (x .v) e (lt-of-lt-of-le (pow-pos p) (x .low)) (x .size)
 
   -- its value has its sign and its size
   pub number-sign : (isNegative (signedSize s (x .v)) ≡ s) × (natAbs (signedSize s (x .v)) ≡ x .v)

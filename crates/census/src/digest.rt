@@ -1,4 +1,7 @@
 // A digest: it takes in the numbers of one answer after another, so that a change in one number always changes it.
+use crate::numbers::pattern_of;
+use binary64::taking::Binary64;
+use whole::taking::Whole;
 use word::answer::Answer;
 use word::order::Comparison;
 use word::reading::Reading;
@@ -20,11 +23,15 @@ pub(crate) fn take(digest: u64, x: u64) -> u64 {
     scramble(std::num::wrapping_add_u64(digest, x))
 }
 
-fn take_signed(digest: u64, z: i32) -> u64 {
+fn take_signed(digest: u64, z: i64) -> u64 {
     if z < 0 {
         return take(take(digest, 1), (-1 - z) as u64);
     }
     take(take(digest, 0), z as u64)
+}
+
+fn take_signed_32(digest: u64, z: i32) -> u64 {
+    take_signed(digest, z as i64)
 }
 
 fn take_refusal(digest: u64, refusal: Refusal) -> u64 {
@@ -54,7 +61,7 @@ pub(crate) fn take_answer(digest: u64, answer: Answer) -> u64 {
 
 pub(crate) fn take_comparison(digest: u64, comparison: Comparison) -> u64 {
     match comparison {
-        Comparison::Is(order) => take_signed(take(digest, 0), order),
+        Comparison::Is(order) => take_signed_32(take(digest, 0), order),
         Comparison::Refused(refusal) => take_refusal(digest, refusal),
     }
 }
@@ -65,8 +72,23 @@ pub(crate) fn take_reading(digest: u64, reading: Reading) -> u64 {
         Reading::NotReal => take(digest, 1),
         Reading::Number { negative, h, m, p } => {
             let signed = take(take(digest, 2), negative as u64);
-            take(take(take_signed(signed, h), m), p as u64)
+            take(take(take_signed_32(signed, h), m), p as u64)
         }
         Reading::Refused(refusal) => take_refusal(digest, refusal),
+    }
+}
+
+pub(crate) fn take_whole_out(digest: u64, out: Whole) -> u64 {
+    match out {
+        Whole::Is(z) => take_signed(take(digest, 0), z),
+        Whole::Refused(refusal) => take_refusal(digest, refusal),
+    }
+}
+
+pub(crate) fn take_binary64_out(digest: u64, out: Binary64) -> u64 {
+    match out {
+        Binary64::Number(x) => take(take(digest, 0), pattern_of(x)),
+        Binary64::NotReal => take(digest, 1),
+        Binary64::Refused(refusal) => take_refusal(digest, refusal),
     }
 }

@@ -1,10 +1,13 @@
 // The parts that go from width to width: one loop serves them all.
-use crate::edges::print_edge;
+use crate::binaries::print_extreme;
 use crate::past::print_past;
 use crate::refused::Asked;
 use crate::refused::print_strays;
-use crate::runs::Subject;
+use crate::runs::print_one_line;
 use crate::runs::print_runs;
+use crate::subjects::Subject;
+use crate::wholes::print_brink;
+use crate::wholes::print_limit_line;
 use crate::widths::print_width;
 use word::width::Width;
 ghost use Prim.Native.Nat.{_≤_};
@@ -12,16 +15,24 @@ ghost use Prim.Native.Nat.{_≤_};
 pub(crate) enum Part {
     Widths,
     Runs(Subject),
-    Edges,
+    Line(Subject),
     Strays(Asked),
     Past,
+    Limit,
+    Brink,
+    Extreme,
 }
 
-// Prints a part at each width up to the last one.
-pub(crate) fn print_part(part: Part, last: u32)
-    requires { ⌜ last ≤ 64 ⌝ }
+// Prints a part at every width.
+pub(crate) fn print_everywhere(part: Part) {
+    print_part(part, Width::LEAST, Width::GREATEST);
+}
+
+// Prints a part at each width from the first one to the last one.
+pub(crate) fn print_part(part: Part, first: u32, last: u32)
+    requires { ⌜ (2 ≤ first) × (last ≤ 64) ⌝ }
 {
-    let mut n = Width::LEAST;
+    let mut n = first;
     while n <= last {
         print_at(part, n);
         n += 1;
@@ -34,8 +45,11 @@ fn print_at(part: Part, n: u32)
     match part {
         Part::Widths => print_width(n),
         Part::Runs(subject) => print_runs(subject, n),
-        Part::Edges => print_edge(n),
+        Part::Line(subject) => print_one_line(subject, n),
         Part::Strays(asked) => print_strays(asked, n),
         Part::Past => print_past(n),
+        Part::Limit => print_limit_line(n),
+        Part::Brink => print_brink(n),
+        Part::Extreme => print_extreme(n),
     }
 }

@@ -1,4 +1,4 @@
-// Parts 5, 6, 11 and 12: what is refused, at bad widths and of words with a bit at or above their width.
+// Parts 5, 6, 11, 12, 26 and 27: what is refused, at bad widths and of words with a bit at or above their width.
 use crate::bits::ALL_BITS;
 use crate::bits::TOP_BIT;
 use crate::bits::power_of_two;
@@ -6,8 +6,10 @@ use crate::digest::EMPTY;
 use crate::line::print_of_width;
 use crate::unmoved::take_moves_of_stray;
 use crate::unmoved::take_unmoved;
+use crate::unnumbered::take_unnumbered;
 use crate::unread::take_facts_of_stray;
 use crate::unread::take_unread;
+use crate::ways::take_out;
 use word::width::Width;
 ghost use Prim.Native.Nat.{_≤_};
 
@@ -15,6 +17,7 @@ ghost use Prim.Native.Nat.{_≤_};
 pub(crate) enum Asked {
     Reading,
     Moving,
+    Numbers,
 }
 
 pub(crate) fn print_bad_widths(asked: Asked) {
@@ -29,6 +32,7 @@ fn print_bad_width(asked: Asked, n: u32) {
     match asked {
         Asked::Reading => print_of_width(b"refused", n, take_unread(EMPTY, n)),
         Asked::Moving => print_of_width(b"unmoved", n, take_unmoved(EMPTY, n)),
+        Asked::Numbers => print_of_width(b"unnumbered", n, take_unnumbered(EMPTY, n)),
     }
 }
 
@@ -45,6 +49,7 @@ fn print_stray_line(asked: Asked, n: u32)
     match asked {
         Asked::Reading => print_of_width(b"stray", n, take_strays(asked, n)),
         Asked::Moving => print_of_width(b"strayed", n, take_strays(asked, n)),
+        Asked::Numbers => print_of_width(b"unread", n, take_strays(asked, n)),
     }
 }
 
@@ -54,13 +59,23 @@ fn take_strays(asked: Asked, n: u32) -> u64
     let least = power_of_two(n);
     let after_least = take_stray(asked, EMPTY, n, least);
     let after_next = take_stray(asked, after_least, n, least + 1);
-    let after_top = take_stray(asked, after_next, n, TOP_BIT);
+    let after_half = take_half_more(asked, after_next, n, least);
+    let after_top = take_stray(asked, after_half, n, TOP_BIT);
     take_stray(asked, after_top, n, ALL_BITS)
+}
+
+// Part 27 alone has the stray word 2^n + 2^(n-1).
+fn take_half_more(asked: Asked, digest: u64, n: u32, least: u64) -> u64 {
+    match asked {
+        Asked::Numbers => take_out(digest, n, least | (least >> 1)),
+        _ => digest,
+    }
 }
 
 fn take_stray(asked: Asked, digest: u64, n: u32, word: u64) -> u64 {
     match asked {
         Asked::Reading => take_facts_of_stray(digest, n, word),
         Asked::Moving => take_moves_of_stray(digest, n, word),
+        Asked::Numbers => take_out(digest, n, word),
     }
 }

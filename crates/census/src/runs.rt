@@ -1,31 +1,15 @@
-// Places in runs: one line for each run, with the digest of what is taken in at its places.
-use crate::bits::power_of_two;
+// Places in runs: one line for each run, or one for all of them, with the digest of what is taken in at its places.
 use crate::digest::EMPTY;
-use crate::draws::take_draw;
 use crate::line::print_digest;
 use crate::line::print_number;
-use crate::line::print_text;
-use crate::midpoints::take_up_to_next;
-use crate::moves::take_moves_of;
-use crate::words::take_word;
+use crate::places::take_place;
+use crate::subjects::Subject;
+use crate::subjects::end_of;
+use crate::subjects::first_place;
+use crate::subjects::first_state;
+use crate::subjects::longest_run;
+use crate::subjects::print_subject;
 ghost use Prim.Native.Nat.{_≤_, _<_};
-
-// The widest width of which every word is taken.
-pub(crate) const WIDEST_WHOLE: u32 = 16;
-
-// How many places there are where words or values are drawn.
-const DRAWN: u64 = 4096;
-
-// The most places that one line speaks of.
-const LONGEST_RUN: u64 = 256;
-
-// What is taken in at a place: facts of words (parts 2 and 3), writings (7), moves (9), and draws of both (10).
-pub(crate) enum Subject {
-    Word,
-    Write,
-    Move,
-    Draw,
-}
 
 // What goes on from place to place: the state of the sequence, and the digest.
 pub(crate) struct Run {
@@ -40,56 +24,32 @@ pub(crate) fn print_runs(subject: Subject, n: u32)
     let mut state = first_state(subject, n);
     let mut first = first_place(subject);
     while first < end {
-        let stop = run_end(first, end);
+        let stop = run_end(subject, first, end);
         state = print_run(subject, n, first, stop, state);
         first = stop;
     }
 }
 
-// Each width has a sequence of its own.
-fn first_state(subject: Subject, n: u32) -> u64 {
-    match subject {
-        Subject::Draw => std::num::wrapping_add_u64(EMPTY, 1000 + n as u64),
-        _ => std::num::wrapping_add_u64(EMPTY, n as u64),
-    }
-}
-
-// Writings begin at the smallest positive word.
-fn first_place(subject: Subject) -> u64 {
-    match subject {
-        Subject::Write => 1,
-        _ => 0,
-    }
-}
-
-fn end_of(subject: Subject, n: u32) -> u64
+// All places in one line.
+pub(crate) fn print_one_line(subject: Subject, n: u32)
     requires { ⌜ (2 ≤ n) × (n ≤ 64) ⌝ }
 {
-    match subject {
-        Subject::Word => words_of(n),
-        Subject::Write => power_of_two(n - 1),
-        Subject::Move => words_of(n),
-        Subject::Draw => DRAWN,
-    }
-}
-
-// How many words are taken at a width.
-fn words_of(n: u32) -> u64 {
-    if n <= WIDEST_WHOLE {
-        return power_of_two(n);
-    }
-    DRAWN
+    let run = take_run(subject, n, first_place(subject), end_of(subject, n), EMPTY);
+    print_subject(subject);
+    print_number(n as u64);
+    print_digest(run.digest);
 }
 
 // Where the run that starts at a place before the end stops.
-fn run_end(first: u64, end: u64) -> u64
+fn run_end(subject: Subject, first: u64, end: u64) -> u64
     requires { ⌜ first < end ⌝ }
     ensures { λ r. ⌜ (first < r) × (r ≤ end) ⌝ }
 {
-    if end - first < LONGEST_RUN {
+    let longest = longest_run(subject);
+    if end - first < longest {
         return end;
     }
-    first + LONGEST_RUN
+    first + longest
 }
 
 // Prints the line of a run, and gives back the state of the sequence after it.
@@ -106,15 +66,6 @@ fn print_run(subject: Subject, n: u32, first: u64, stop: u64, state: u64) -> u64
     run.state
 }
 
-fn print_subject(subject: Subject) {
-    match subject {
-        Subject::Word => print_text(b"word"),
-        Subject::Write => print_text(b"write"),
-        Subject::Move => print_text(b"move"),
-        Subject::Draw => print_text(b"draw"),
-    }
-}
-
 fn take_run(subject: Subject, n: u32, first: u64, stop: u64, state: u64) -> Run
     requires { ⌜ (2 ≤ n) × (n ≤ 64) ⌝ }
 {
@@ -128,21 +79,4 @@ fn take_run(subject: Subject, n: u32, first: u64, stop: u64, state: u64) -> Run
         place += 1;
     }
     run
-}
-
-fn take_place(subject: Subject, run: Run, n: u32, place: u64) -> Run
-    requires { ⌜ (2 ≤ n) × (n ≤ 64) ⌝ }
-{
-    match subject {
-        Subject::Word => take_word(run, n, place),
-        Subject::Write => Run {
-            state: run.state,
-            digest: take_up_to_next(run.digest, n, place),
-        },
-        Subject::Move => Run {
-            state: run.state,
-            digest: take_moves_of(run.digest, n, place),
-        },
-        Subject::Draw => take_draw(run, n),
-    }
 }

@@ -1,6 +1,7 @@
 // Sizes m * 2^k: the size of a word, and the sizes that lie just below and just above a size.
 use crate::bits::ALL_BITS;
 use crate::bits::TOP_BIT;
+use crate::bits::bounded;
 use word::reading::Reading;
 use word::reading::read;
 use word::width::Width;
@@ -34,25 +35,15 @@ pub(crate) fn size_of(n: u32, word: u64) -> Size
     odd_size(m, place_of(h, p))
 }
 
-// The place of the exponent h - p.
+// The place of the exponent h - p. No word has an h or a p beyond 255.
 fn place_of(h: i32, p: u32) -> u64
     ensures { λ r. ⌜ (400 ≤ r) × (r ≤ 1300) ⌝ }
 {
-    let lowered = ORIGIN - bounded(p as u64);
+    let lowered = ORIGIN - bounded(p as u64, 255);
     if h < 0 {
-        return lowered - bounded((-1 - h) as u64) - 1;
+        return lowered - bounded((-1 - h) as u64, 255) - 1;
     }
-    lowered + bounded(h as u64)
-}
-
-// No word has an h or a p beyond 255, so this changes nothing; it only sets the bounds that a place has.
-fn bounded(x: u64) -> u64
-    ensures { λ r. ⌜ r ≤ 255 ⌝ }
-{
-    if x <= 255 {
-        return x;
-    }
-    255
+    lowered + bounded(h as u64, 255)
 }
 
 // m at a place, without its factors two. Only zero has 64 of them.

@@ -3,7 +3,7 @@ use crate::bits::low_bits;
 use crate::digest::scramble;
 use crate::facts::take_facts;
 use crate::runs::Run;
-use crate::runs::WIDEST_WHOLE;
+use crate::subjects::WIDEST_WHOLE;
 ghost use Prim.Native.Nat.{_≤_};
 
 // At a place the word is the place's own number where every word is taken, and else the next of the sequence.

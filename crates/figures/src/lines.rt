@@ -74,7 +74,7 @@ pub(crate) fn print_move(from: u32, to: u32, rule: Rule, word: u64) {
 }
 
 // The rest of a line, from the rule on.
-fn print_answer(rule: Rule, answer: Answer) {
+pub(crate) fn print_answer(rule: Rule, answer: Answer) {
     print_rule(rule);
     match answer {
         Answer::Word(word) => {
@@ -96,12 +96,12 @@ fn print_rule(rule: Rule) {
     }
 }
 
-fn print_width(n: u32) {
+pub(crate) fn print_width(n: u32) {
     print_bytes(b"width ");
     print_number(n as u64);
 }
 
-fn print_refusal(refusal: Refusal) {
+pub(crate) fn print_refusal(refusal: Refusal) {
     print_bytes(b"refused ");
     print_number(refusal.number() as u64);
 }

@@ -1,5 +1,6 @@
 // Figures of paper 01: those that are run and compared, one line each.
 mod lines;
+mod numbers;
 mod text;
 mod value;
 
@@ -8,6 +9,11 @@ use crate::lines::print_made;
 use crate::lines::print_move;
 use crate::lines::print_word;
 use crate::lines::print_writing;
+use crate::numbers::print_binary64_in;
+use crate::numbers::print_binary64_out;
+use crate::numbers::print_whole_in;
+use crate::numbers::print_whole_out;
+use whole::taking::Taking;
 use write::value::Rule;
 use write::value::Value;
 
@@ -17,6 +23,10 @@ fn main() {
     print_refusals();
     print_writings();
     print_errors();
+    print_tally();
+    print_whole_numbers();
+    print_ends_of_64_bits();
+    print_binary64();
 }
 
 fn print_words() {
@@ -54,6 +64,7 @@ fn print_writings() {
     print_rounded(16, plus(514, 0));
     print_strict(16, plus(514, 0));
     print_rounded(16, plus(515, 0));
+    print_strict(16, plus(515, 0));
     print_rounded(16, plus(1, -300));
     print_rounded(16, plus(1, 300));
     print_rounded(8, plus(7, 0));
@@ -106,6 +117,58 @@ fn print_carry() {
     print_rounded(16, plus(0xffff_ffff_ffff_ffff, -62));
     print_rounded(16, plus(0xffff_ffff_ffff_ffff, -57));
     print_rounded(16, plus(0xffff_ffff_ffff_ffff, -49));
+}
+
+// The tally of the letter: 515 goes out as 516, is refused when strict, and stays at 32 bits.
+fn print_tally() {
+    print_whole_in(16, Rule::Rounded, 515);
+    print_whole_out(16, Taking::Cut, 0x5a02);
+    print_whole_in(16, Rule::Strict, 515);
+    print_whole_in(32, Rule::Strict, 515);
+    print_whole_out(32, Taking::Strict, 0x5a01_8000);
+}
+
+// At 16 bits every whole number up to the limit has a word, and the next one has none; -0.5 cut is 0.
+fn print_whole_numbers() {
+    print_whole_in(16, Rule::Strict, 512);
+    print_whole_in(16, Rule::Strict, 513);
+    print_whole_in(16, Rule::Strict, -512);
+    print_whole_in(16, Rule::Strict, -513);
+    print_whole_in(16, Rule::Rounded, 1023);
+    print_whole_in(8, Rule::Rounded, 10);
+    print_whole_out(16, Taking::Cut, 0xc800);
+    print_whole_out(16, Taking::Strict, 0xc800);
+    print_whole_out(16, Taking::Cut, 0xbc00);
+    print_whole_out(16, Taking::Cut, 0x8000);
+    print_whole_out(16, Taking::Cut, 0x10000);
+    print_whole_out(65, Taking::Cut, 0);
+}
+
+// -2^63 goes in and out; 2^63 has a word at every width from 4 on, and is over.
+fn print_ends_of_64_bits() {
+    print_whole_in(16, Rule::Strict, -0x7fff_ffff_ffff_ffff - 1);
+    print_whole_in(64, Rule::Strict, 0x7fff_ffff_ffff_ffff);
+    print_whole_in(64, Rule::Rounded, 0x7fff_ffff_ffff_ffff);
+    print_whole_out(16, Taking::Strict, 0x9000);
+    print_whole_out(16, Taking::Strict, 0x7000);
+    print_whole_out(16, Taking::Cut, 0x7000);
+}
+
+// 1.5 and zero, negative zero, 2^-1074, the greatest number, infinity and NaN.
+fn print_binary64() {
+    print_binary64_in(16, Rule::Strict, 1.5);
+    print_binary64_in(16, Rule::Strict, -1.5);
+    print_binary64_in(16, Rule::Strict, 0.0);
+    print_binary64_in(16, Rule::Strict, -0.0);
+    print_binary64_in(16, Rule::Rounded, f64::from_bits(1));
+    print_binary64_in(16, Rule::Rounded, f64::from_bits(0x7fef_ffff_ffff_ffff));
+    print_binary64_in(16, Rule::Strict, f64::from_bits(0x7ff0_0000_0000_0000));
+    print_binary64_in(16, Rule::Strict, 0.0 / 0.0);
+    print_binary64_out(16, 0x4400);
+    print_binary64_out(16, 0xbc00);
+    print_binary64_out(16, 0);
+    print_binary64_out(16, 0x8000);
+    print_binary64_out(16, 0x10000);
 }
 
 fn plus(m: u64, k: i32) -> Value {

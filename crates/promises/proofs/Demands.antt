@@ -17,6 +17,9 @@ use Rattle.word.proofs.Verdicts.{width-fits, width-short, width-long, stray-fit
 use Rattle.word.proofs.Values.{order-of-values, order-same, NaR-below, above-NaR, negated-word, negation-negates, words-differ}
 use Rattle.word.proofs.Binades.{meaning-one}
 use Rattle.write.specs.Writes.{Writes, Moves}
+use Rattle.whole.specs.Wholes.{WritesWhole, TakesWhole}
+use Rattle.binary64.specs.Takes.{TakesBinary64}
+use Rattle.binary64.specs.Writes.{WritesBinary64}
 use Rattle.promises.specs.Demands.{RefusedAs, RefusesWidths, RefusesStrays, WidthRefused, StrayRefused, ReadingIsTheDefinition, ReadingTellsWordsApart, ComparisonIsTheOrderOfValues, NaRIsBelowEveryValue, EveryValueIsAboveNaR, EveryWordEqualsItself, NegationNegates}
 
 -- ---- demand 1
@@ -47,7 +50,7 @@ bad-target n n' w h = by (decLt n 2) (decLt 64 n)
     by (no f) (no g) = rw (width-fits n (not-more f) (not-more g), bad-width n' h)
 
 pub width-refused : WidthRefused
-unfolding RefusesWidths Makes GivesWord GivesLimit Reads Compares Negates Writes Moves
+unfolding RefusesWidths Makes GivesWord GivesLimit Reads Compares Negates Writes Moves WritesWhole TakesWhole WritesBinary64 TakesBinary64
 width-refused = record {
   test = λ n a h x. record { q = Refusal.Width; is = x ∙ bad-width n h; known = refl };
   new = λ n a h x. handed-back Refusal.Width (bad-width n h) x;
@@ -57,6 +60,10 @@ width-refused = record {
   compare = λ u v n a h x. handed-back Refusal.Width (bad-width-of-words n u v h) x;
   negate = λ w n a h x. handed-back Refusal.Width (bad-width-of-word n w h) x;
   write = λ rule v n a h x. handed-back Refusal.Width (bad-width n h) x;
+  write-whole = λ rule y n a h x. handed-back Refusal.Width (bad-width n h) x;
+  take-whole = λ rule w n a h x. handed-back Refusal.Width (bad-width-of-word n w h) x;
+  write-binary64 = λ rule y n a h x. handed-back Refusal.Width (bad-width n h) x;
+  take-binary64 = λ w n a h x. handed-back Refusal.Width (bad-width-of-word n w h) x;
   move-from = λ to rule w n a h x. handed-back Refusal.Width (bad-source n to w h) x;
   move-to = λ from rule w n a h x. handed-back Refusal.Width (bad-target from n w h) x;
 }
@@ -79,13 +86,15 @@ stray-moved : (n n' w : ℕ) → 2 ≤ n → n ≤ 64 → 2 ≤ n' → n' ≤ 64
 stray-moved n n' w lo hi lo' hi' h = rw (width-fits n lo hi, width-fits n' lo' hi') (stray-bit n w h)
 
 pub stray-refused : StrayRefused
-unfolding RefusesStrays Reads Compares Negates Moves
+unfolding RefusesStrays Reads Compares Negates Moves TakesWhole TakesBinary64
 stray-refused = record {
   test-word = λ n w a lo hi h x. record { q = Refusal.Stray; is = x ∙ stray-bit n w h; known = refl };
   read = λ n w a lo hi h x. handed-back Refusal.Stray (stray-word n w lo hi h) x;
   compare-first = λ y n w a lo hi h x. handed-back Refusal.Stray (stray-first n w y lo hi h) x;
   compare-second = λ y n w a lo hi h x. handed-back Refusal.Stray (stray-second n y w lo hi h) x;
   negate = λ n w a lo hi h x. handed-back Refusal.Stray (stray-word n w lo hi h) x;
+  take-whole = λ rule n w a lo hi h x. handed-back Refusal.Stray (stray-word n w lo hi h) x;
+  take-binary64 = λ n w a lo hi h x. handed-back Refusal.Stray (stray-word n w lo hi h) x;
   move = λ to rule lo' hi' n w a lo hi h x. handed-back Refusal.Stray (stray-moved n to w lo hi lo' hi' h) x;
 }
 

@@ -20,7 +20,7 @@ use Rattle.write.specs.Writes.{HasValue, other, IsWritten, Writes}
 use Rattle.write.proofs.Rounding.{tie-nearest, none-between, written-one}
 use Rattle.promises.specs.Figures.{Figure, reads, writes, whole, below, plus, minus, figures, Holds, AllHold}
 use Rattle.promises.specs.Demands.{ReadingIsTheDefinition}
-use Rattle.promises.specs.Writing.{over, under, AWordsValueIsWrittenAsTheWord}
+use Rattle.promises.specs.Writing.{numerator, denominator, AWordsValueIsWrittenAsTheWord}
 use Rattle.promises.proofs.Demands.{reading-is-the-definition}
 use Rattle.promises.proofs.Writing.{a-words-value-is-written-as-the-word}
 
@@ -145,7 +145,7 @@ either true b t = inl tt
 either false b t = inr t
 
 exactly-holds : (n : ℕ) (rule : Rule) (M : ℕ) (r : Answer) (v : ℕ) → T (exactly n M r v) → (a : Answer) → Writes n rule (whole M) a → a ≡ r
-unfolding exactly scaled whole AWordsValueIsWrittenAsTheWord over under num den
+unfolding exactly scaled whole AWordsValueIsWrittenAsTheWord numerator denominator num den
 exactly-holds n rule M r v t a x =
     let u = both (has n (scaled M) v) (gives r v) t in
     let i = has-is n (scaled M) v (u .0) in

@@ -1,20 +1,23 @@
 -- Two outcomes that a public contract allows are equal, for each public call. Assumes nothing.
-use mathlib.Core.Path.{_≡_, refl, sym, ap, _∙_, subst}
+use mathlib.Core.Path.{_≡_, refl, sym, ap, ap₂, _∙_, subst}
 use mathlib.Core.List.{List, [], _∷_}
 use mathlib.Core.Logic.{inl, inr}
 use Prim.Native.Nat.{ℕ, _*_, _^_, _≤_}
 use native.Mathlib.Nat.{le-antisymm, zero-lt-suc}
-use lib.IntN.{pos, natAbs, _+ℤ_}
+use lib.IntN.{ℤ, pos, natAbs, _+ℤ_}
 use Rattle.word.specs.declared.answer.Answer.{Answer}
+use Rattle.word.specs.declared.fields.Fields.{Fields}
 use Rattle.word.specs.declared.order.Comparison.{Comparison}
 use Rattle.word.specs.declared.reading.Reading.{Reading}
 use Rattle.word.specs.declared.width.Limit.{Limit}
 use Rattle.word.specs.declared.width.Made.{Made}
 use Rattle.word.specs.Takum.{Takum, real, NaR, takum, fractionBits}
 use Rattle.word.specs.Refusals.{through, refused}
+use Rattle.word.specs.Cuts.{Cuts}
 use Rattle.word.specs.Widths.{Greatest, greatest, none, IsLimit, Makes, GivesWord, GivesLimit}
 use Rattle.word.specs.Reads.{num, den, IsReading, Reads}
 use Rattle.word.specs.Orders.{signed, order, negated, Compares, Negates}
+use Rattle.word.proofs.Answers.{wordOf, GivesAWord}
 use Rattle.word.proofs.Verdicts.{width-through, move-through, answered, refused-as, decided-one}
 use Rattle.word.proofs.Binades.{reading-one}
 use Rattle.write.specs.declared.value.Rule.{Rule}
@@ -22,6 +25,9 @@ use Rattle.write.specs.declared.value.Value.{Value}
 use Rattle.write.specs.Writes.{isNegative, IsMoved, Writes, Moves}
 use Rattle.write.proofs.Exponents.{unit-some}
 use Rattle.write.proofs.Rounding.{written-one}
+-- those of whole numbers and of binary64 stand beside their laws
+pub use Rattle.whole.proofs.OneOutcome.{writes-whole-one, takes-whole-one}
+pub use Rattle.binary64.proofs.OneOutcome.{writes-binary64-one, takes-binary64-one}
 use Rattle.promises.specs.Demands.{ComesBack}
 use Rattle.promises.specs.Writing.{Goes, ComesHome}
 
@@ -68,6 +74,10 @@ pub comes-back-one : (n w : ℕ) (a b : Answer) → ComesBack n w a → ComesBac
 unfolding ComesBack
 comes-back-one n w a b = decided-one Answer.Refused (λ z. z ≡ Answer.Word w) (given (Answer.Word w)) a b
 
+-- the fields of a string
+pub cuts-one : (t : ℕ) (a b : Fields) → Cuts t a → Cuts t b → a ≡ b
+cuts-one t a b x y = ap₂ (λ (c : ℤ) (f : ℕ). record { c = c; f = f }) (x .characteristic ∙ sym (y .characteristic)) (x .fraction ∙ sym (y .fraction))
+
 -- ---- writing and moving
 pub writes-one : (n : ℕ) (rule : Rule) (v : Value) (a b : Answer) → Writes n rule v a → Writes n rule v b → a ≡ b
 unfolding Writes
@@ -89,22 +99,14 @@ moves-one n n' rule w a b (through h x) y =
 moves-one n n' rule w a b (refused h x) y = x ∙ sym (refused-as _ h y)
 
 -- ---- a chain of strict moves
-word-of : Answer → ℕ
-word-of (Answer.Word w) = w
-word-of (Answer.Refused q) = 0
-
-is-word : Answer → Type 0
-is-word (Answer.Word w) = Unit {0}
-is-word (Answer.Refused q) = ⊥
-
 goes-one : (home : ℕ) (ns : List ℕ) (n w : ℕ) (a b : Answer) → Goes home n w ns a → Goes home n w ns b → a ≡ b
-unfolding Goes word-of is-word
+unfolding Goes wordOf GivesAWord
 goes-one home [] n w a b x y = moves-one n home Rule.Strict w a b x y
 goes-one home (n' ∷ ns) n w a b (inl x) (inl y) =
-    let same = ap word-of (moves-one n n' Rule.Strict w (Answer.Word (x .0)) (Answer.Word (y .0)) (x .1) (y .1)) in
+    let same = ap wordOf (moves-one n n' Rule.Strict w (Answer.Word (x .0)) (Answer.Word (y .0)) (x .1) (y .1)) in
     goes-one home ns n' (y .0) a b (subst (λ (v : ℕ). Goes home n' v ns a) same (x .2)) (y .2)
-goes-one home (n' ∷ ns) n w a b (inl x) (inr y) = absurd (subst is-word (moves-one n n' Rule.Strict w (Answer.Word (x .0)) (Answer.Refused (y .0)) (x .1) (y .1)) tt)
-goes-one home (n' ∷ ns) n w a b (inr x) (inl y) = absurd (subst is-word (moves-one n n' Rule.Strict w (Answer.Word (y .0)) (Answer.Refused (x .0)) (y .1) (x .1)) tt)
+goes-one home (n' ∷ ns) n w a b (inl x) (inr y) = absurd (subst GivesAWord (moves-one n n' Rule.Strict w (Answer.Word (x .0)) (Answer.Refused (y .0)) (x .1) (y .1)) tt)
+goes-one home (n' ∷ ns) n w a b (inr x) (inl y) = absurd (subst GivesAWord (moves-one n n' Rule.Strict w (Answer.Word (y .0)) (Answer.Refused (x .0)) (y .1) (x .1)) tt)
 goes-one home (n' ∷ ns) n w a b (inr x) (inr y) = x .2 ∙ moves-one n n' Rule.Strict w (Answer.Refused (x .0)) (Answer.Refused (y .0)) (x .1) (y .1) ∙ sym (y .2)
 
 pub comes-home-one : (n w : ℕ) (ns : List ℕ) (a b : Answer) → ComesHome n w ns a → ComesHome n w ns b → a ≡ b

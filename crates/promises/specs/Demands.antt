@@ -2,6 +2,7 @@
 use mathlib.Core.Path.{_≡_}
 use mathlib.Core.Logic.{_⊎_}
 use Prim.Native.Nat.{ℕ, _^_, _≤_, _<_}
+use lib.Ieee.{Float}
 use lib.IntN.{ℤ, negsuc, pos}
 use Rattle.word.specs.declared.answer.Answer.{Answer}
 use Rattle.word.specs.declared.order.Comparison.{Comparison}
@@ -18,6 +19,12 @@ use Rattle.word.specs.Orders.{order, opposite, Compares, Negates}
 use Rattle.write.specs.declared.value.Rule.{Rule}
 use Rattle.write.specs.declared.value.Value.{Value}
 use Rattle.write.specs.Writes.{Writes, Moves}
+use Rattle.whole.specs.declared.taking.Taking.{Taking}
+use Rattle.whole.specs.declared.taking.Whole.{Whole}
+use Rattle.whole.specs.Wholes.{WritesWhole, TakesWhole}
+use Rattle.binary64.specs.declared.taking.Binary64.{Binary64}
+use Rattle.binary64.specs.Takes.{TakesBinary64}
+use Rattle.binary64.specs.Writes.{WritesBinary64}
 
 -- ---- demand 1: bad input gets the refusal number that the papers fix, from every call
 -- an answer that hands back the refusal with this number and nothing else
@@ -44,6 +51,10 @@ pub record WidthRefused : Type 0 where
   pub compare : (x y : ℕ) → RefusesWidths Comparison.Refused (λ n. Compares n x y)
   pub negate : (w : ℕ) → RefusesWidths Answer.Refused (λ n. Negates n w)
   pub write : (rule : Rule) (v : Value) → RefusesWidths Answer.Refused (λ n. Writes n rule v)
+  pub write-whole : (rule : Rule) (x : ℤ) → RefusesWidths Answer.Refused (λ n. WritesWhole n rule x)
+  pub take-whole : (rule : Taking) (w : ℕ) → RefusesWidths Whole.Refused (λ n. TakesWhole n rule w)
+  pub write-binary64 : (rule : Rule) (x : Float) → RefusesWidths Answer.Refused (λ n. WritesBinary64 n rule x)
+  pub take-binary64 : (w : ℕ) → RefusesWidths Binary64.Refused (λ n. TakesBinary64 n w)
   pub move-from : (to : ℕ) (rule : Rule) (w : ℕ) → RefusesWidths Answer.Refused (λ n. Moves n to rule w)
   pub move-to : (from : ℕ) (rule : Rule) (w : ℕ) → RefusesWidths Answer.Refused (λ n. Moves from n rule w)
 
@@ -53,6 +64,8 @@ pub record StrayRefused : Type 0 where
   pub compare-first : (y : ℕ) → RefusesStrays Comparison.Refused (λ n x. Compares n x y)
   pub compare-second : (x : ℕ) → RefusesStrays Comparison.Refused (λ n y. Compares n x y)
   pub negate : RefusesStrays Answer.Refused Negates
+  pub take-whole : (rule : Taking) → RefusesStrays Whole.Refused (λ n w. TakesWhole n rule w)
+  pub take-binary64 : RefusesStrays Binary64.Refused TakesBinary64
   pub move : (to : ℕ) (rule : Rule) → 2 ≤ to → to ≤ 64 → RefusesStrays Answer.Refused (λ n w. Moves n to rule w)
 
 -- ---- demand 2, reading: at widths 2 to 64 the reading of a word is never refused, and is the value that Definition 2 gives

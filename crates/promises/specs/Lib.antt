@@ -1,4 +1,5 @@
 -- What is promised, as statements that a reader can hold against the letter and paper 01.
 pub mod Demands
 pub mod Figures
+pub mod Numbers
 pub mod Writing

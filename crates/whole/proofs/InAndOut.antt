@@ -11,6 +11,7 @@ use Rattle.word.specs.declared.refusal.Verdict.{Verdict}
 use Rattle.word.specs.Refusals.{_then_, IsWord, through, refused}
 use Rattle.word.specs.Takum.{Takum, real, takum}
 use Rattle.word.specs.Reads.{signedSize}
+use Rattle.word.proofs.Answers.{GivesAWord}
 use Rattle.word.proofs.Verdicts.{then-through, open-when, width-fits, word-passes, answered}
 use Rattle.write.specs.declared.value.Rule.{Rule}
 use Rattle.write.specs.Writes.{isNegative, IsWritten}
@@ -22,11 +23,6 @@ use Rattle.whole.proofs.OneOutcome.{taken-one}
 use Rattle.whole.proofs.TakenOut.{taken-out}
 use Rattle.whole.proofs.WholeValues.{valueOf, exact-value, taken-as-itself}
 
--- an answer that gives a word isn't a refusal
-gives-word : Answer → Type 0
-gives-word (Answer.Word w) = Unit {0}
-gives-word (Answer.Refused q) = ⊥
-
 -- ---- a whole number in
 pub record Written (n : ℕ) (x : ℤ) (w : ℕ) : Type 0 where
   pub word : IsWord n w
@@ -34,9 +30,9 @@ pub record Written (n : ℕ) (x : ℤ) (w : ℕ) : Type 0 where
 
 -- the word that is written strictly has the value of the whole number
 pub strictly-written : (n : ℕ) (x : ℤ) (w : ℕ) → WritesWhole n Rule.Strict x (Answer.Word w) → Written n x w
-unfolding WritesWhole IsWritten valueOf gives-word
+unfolding WritesWhole IsWritten valueOf GivesAWord
 strictly-written n x w (through h y) = record { word = y .is .word; means = y .is .means ∙ ap (λ (z : ℕ). real (signedSize (isNegative x) z)) (sym (mul-one (y .z)) ∙ y .same) }
-strictly-written n x w (refused h q) = absurd (subst gives-word q tt)
+strictly-written n x w (refused h q) = absurd (subst GivesAWord q tt)
 
 -- and such a word is the one that either rule writes
 pub written-as : (n : ℕ) (rule : Rule) (x : ℤ) (w : ℕ) (r : Answer) → Written n x w → WritesWhole n rule x r → r ≡ Answer.Word w

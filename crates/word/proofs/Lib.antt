@@ -1,4 +1,4 @@
--- The laws of words, one idea a file. Casts and Readings are for the crates that stand on this one: those that make a sign and a size of
+-- The laws of words, one idea a file. Casts, Answers and Readings are for the crates that stand on this one: those that make a sign and a size of
 -- a signed number (`write`, `census` and `figures`), and `write`, which reads the words it compares with; nothing in this crate uses them.
 pub mod Integers
 pub mod Powers
@@ -9,6 +9,7 @@ pub mod Meaning
 pub mod Numbers
 pub mod Words
 pub mod Verdicts
+pub mod Answers
 pub mod Signed
 pub mod Casts
 pub mod Limits

@@ -10,7 +10,6 @@ use borrow.Author.Tests.{le-leb, lt-ltb, ne-eqb}
 use lib.Dec.{T, leb, ltb, eqb, eqb→eq, leb→le, lit≤}
 use lib.IntN.{ℤ, pos, natAbs, _+ℤ_, _-ℤ_, +ℤ-idr}
 use lib.Pow.{shr-shr, shl-shr}
-use Rattle.word.specs.Takum as Takum
 use Rattle.word.specs.Takum.{regimeOf, characteristicOf, S, D, R, r, p, C, F, c, e}
 use Rattle.word.proofs.Heads.{below, at-each, both, k, scale, head}
 use Rattle.word.proofs.Integers.{unbalance}

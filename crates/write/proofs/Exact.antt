@@ -1,22 +1,16 @@
 -- A positive word has the offered size exactly where the normal forms of both are the same. Assumes nothing.
-use mathlib.Core.Path.{_≡_, refl, sym, ap, _∙_, subst, subst₂}
+use mathlib.Core.Path.{_≡_, refl, sym, ap, _∙_, subst₂}
 use mathlib.Core.Bool.{Bool, true, false}
-use Prim.Native.Nat.{ℕ, zero, _+_, _-_, _*_, _%_, _^_, _≤_, _<_}
-use native.Mathlib.Nat.{mul-le-mul-right, le-trans, le-of-eq}
-use native.Mathlib.Omega.{arith}
+use Prim.Native.Nat.{ℕ, _+_, _-_, _*_, _^_, _≤_, _<_}
 use borrow.Author.Tests.{eqb-true, eqb-false}
 use lib.Dec.{eqb}
 use lib.IntN.{ℤ, pos, natAbs, _+ℤ_, _-ℤ_, -ℤ-+ℤ-cancel}
-use lib.Pow.{shl-exact}
-use Rattle.word.specs.Takum.{takum, fractionBits}
-use Rattle.word.specs.Reads.{IsSize, IsNumber, signedSize}
-use Rattle.word.specs.Refusals.{IsWord}
-use Rattle.word.proofs.Powers.{pow-sum, shl-below}
+use Rattle.word.specs.Reads.{IsSize, signedSize}
 use Rattle.word.proofs.Values.{real-inj}
 use Rattle.word.proofs.Binades.{size-one}
-use Rattle.write.specs.Writes.{HasValue, IsExact}
-use Rattle.write.specs.Offers.{IsOffered, TellsExact}
-use Rattle.write.proofs.Scales.{raise-size, lower-by, size-same, same-size}
+use Rattle.write.specs.Writes.{HasValue}
+use Rattle.write.specs.Offers.{TellsExact}
+use Rattle.write.proofs.Scales.{size-same, same-size}
 
 module _ (n w : ℕ) (e : ℤ) (M v : ℕ) (value : HasValue n false v w) (M-low : 2 ^ 63 ≤ M) (M-high : M < 2 ^ 64) (normal : IsSize M (e -ℤ pos 63) v) where
   module _ (h : ℤ) (m : ℕ) where

@@ -2,11 +2,11 @@
 -- cut falls in the fraction, that word and the next are as evenly spaced as the significands. Assumes nothing.
 use mathlib.Core.Path.{_≡_, refl, sym, ap, ap₂, _∙_, subst}
 use Prim.Native.Nat.{ℕ, zero, suc, _+_, _-_, _*_, _/_, _%_, _^_, _≤_, _<_}
-use native.Mathlib.Nat.{add-comm, mul-comm, mul-assoc, mul-right-comm, mul-le-mul-right, le-of-mul-le-mul-right, lt-of-mul-lt-mul-right, le-of-lt, le-of-eq, le-trans, lt-of-lt-of-le, lt-of-le-of-lt, mod-lt, zero-lt-suc, mul-pos, le-add-right, div-mul-le-self, mul-add-div-right}
+use native.Mathlib.Nat.{add-comm, mul-assoc, mul-le-mul-right, le-of-mul-le-mul-right, lt-of-mul-lt-mul-right, le-of-lt, le-of-eq, le-trans, lt-of-lt-of-le, lt-of-le-of-lt, mod-lt, zero-lt-suc, mul-pos, le-add-right, div-mul-le-self, mul-add-div-right}
 use native.Mathlib.Numerals.{add-one}
 use native.Mathlib.Omega.{arith}
 use lib.IntN.{ℤ, pos, _+ℤ_, _-ℤ_}
-use lib.Pow.{pow-pos, shr-lt, shr-shr, shl-shr, split}
+use lib.Pow.{pow-pos, shr-lt, shr-shr, split}
 use Rattle.word.specs.Reads.{num, den}
 use Rattle.word.proofs.Powers.{pow-sum, shl-below}
 use Rattle.word.proofs.Sizes.{size, size-le}

@@ -1,24 +1,23 @@
 -- The laws of moves: a word is moved to the word with its value where there is one, and a strict move gives no other. Assumes nothing.
 use mathlib.Core.Path.{_≡_, refl, sym, ap, _∙_, subst}
-use mathlib.Core.Bool.{Bool, true, false}
-use Prim.Native.Nat.{ℕ, suc, _+_, _-_, _*_, _^_, _≤_, _<_}
+use Prim.Native.Nat.{ℕ, _+_, _-_, _*_, _^_, _≤_, _<_}
 use native.Mathlib.Nat.{mul-one}
 use native.Mathlib.Omega.{arith}
 use lib.IntN.{ℤ, pos, negsuc, natAbs}
 use lib.Pow.{pow-pos}
 use Rattle.word.specs.Takum.{Takum, real, NaR, takum}
 use Rattle.word.specs.Reads.{signedSize}
-use Rattle.word.specs.Refusals.{widthTest, strayTest, _then_, IsWord, Decided, through, refused}
+use Rattle.word.specs.Refusals.{IsWord, through, refused}
 use Rattle.word.specs.Widths.{narWord}
 use Rattle.word.specs.declared.answer.Answer.{Answer}
-use Rattle.word.specs.declared.refusal.Refusal.{Refusal}
-use Rattle.word.specs.declared.refusal.Verdict.{Verdict}
+use Rattle.word.proofs.Answers as Answers
+use Rattle.word.proofs.Answers.{GivesAWord}
 use Rattle.word.proofs.Verdicts.{move-passes, move-through, width-through, answered}
 use Rattle.word.proofs.Values.{NaR-word}
 use Rattle.word.proofs.Words.{takum-NaR, zeros-appended}
 use Rattle.word.proofs.Powers.{pow-sum, shl-below}
 use Rattle.write.specs.declared.value.Rule.{Rule}
-use Rattle.write.specs.Writes.{HasValue, IsExact, IsWritten, isNegative, IsMoved, Moves}
+use Rattle.write.specs.Writes.{IsExact, IsWritten, isNegative, IsMoved, Moves}
 use Rattle.write.proofs.Rounding.{exact-written}
 
 -- a whole number is its sign and its size
@@ -32,15 +31,6 @@ meaning-exact n w z i q = record { z = natAbs z; is = record { word = i; means =
 
 exact-meaning : (n w : ℕ) (z : ℤ) → IsExact n (isNegative z) (natAbs z) 1 w → takum n w ≡ real z
 exact-meaning n w z x = x .is .means ∙ ap real (ap (signedSize (isNegative z)) (sym (mul-one (x .z)) ∙ x .same) ∙ rejoined z)
-
--- the word of an answer
-word-of : Answer → ℕ
-word-of (Answer.Word w) = w
-word-of (Answer.Refused q) = 0
-
-given : Answer → Type 0
-given (Answer.Word w) = Unit {0}
-given (Answer.Refused q) = ⊥
 
 -- ---- a word with the same value, by either rule
 pub moved-to-the-same : (n n' w w' : ℕ) (rule : Rule) (r : Answer) → IsWord n w → IsWord n' w' → takum n' w' ≡ takum n w → Moves n n' rule w r → r ≡ Answer.Word w'
@@ -58,8 +48,8 @@ pub record Kept (n n' w w' : ℕ) : Type 0 where
   pub same : takum n' w' ≡ takum n w
 
 pub strict-keeps : (n n' w w' : ℕ) → Moves n n' Rule.Strict w (Answer.Word w') → Kept n n' w w'
-unfolding Moves IsMoved IsWritten narWord given word-of
-strict-keeps n n' w w' (refused h q) = absurd (subst given q tt)
+unfolding Moves IsMoved IsWritten narWord GivesAWord Answers.wordOf
+strict-keeps n n' w w' (refused h q) = absurd (subst GivesAWord q tt)
 strict-keeps n n' w w' (through h x) =
     let t = move-through n n' w h in
     let u = width-through n' (t .1) in
@@ -68,7 +58,7 @@ strict-keeps n n' w w' (through h x) =
     by : (t : Takum) → takum n w ≡ t → IsWord n w → 2 ≤ n' → n' ≤ 64 → IsMoved n' Rule.Strict t (Answer.Word w') → Kept n n' w w'
     by (real z) q i lo hi y = record { from = i; to = y .is .word; same = exact-meaning n' w' z y ∙ sym q }
     by NaR q i lo hi y =
-        let nar = ap word-of y in
+        let nar = ap Answers.wordOf y in
         record { from = i; to = record { least = lo; most = hi; fits = subst (λ (v : ℕ). v < 2 ^ n') (sym nar) half }; same = takum-NaR n' w' lo hi nar ∙ sym q }
       where
         half : 2 ^ (n' - 1) < 2 ^ n'

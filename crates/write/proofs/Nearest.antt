@@ -2,7 +2,7 @@
 -- place above it decide it by comparing twice the size with the sum of theirs. For any increasing row. Assumes nothing.
 use mathlib.Core.Path.{_≡_, refl, sym, ap, ap₂, _∙_, subst}
 use mathlib.Core.Logic.{_⊎_, inl, inr, ⊎-elim}
-use Prim.Native.Nat.{ℕ, zero, suc, _+_, _-_, _*_, _%_, _≤_, _<_, max, min}
+use Prim.Native.Nat.{ℕ, zero, suc, _+_, _-_, _*_, _%_, _≤_, _<_}
 use native.Mathlib.Nat.{add-mul, mul-assoc, mul-right-comm, mul-le-mul-left, mul-le-mul-right, le-trans, eq-of-mul-eq-mul-right, le-of-eq, le-of-lt, eq-or-lt-of-le, lt-of-not-le, le-of-suc-le-suc, mul-lt-mul-of-pos-right, le-antisymm, zero-lt-suc, add-zero}
 use native.Mathlib.Numerals.{add-one}
 use native.Mathlib.Decide.{decLt, decLe}

@@ -1,23 +1,22 @@
 -- Rounding keeps the order of values: a value that is not greater has a word that is not greater. Assumes nothing.
-use mathlib.Core.Path.{_≡_, refl, sym, ap, ap₂, _∙_, subst, subst₂}
+use mathlib.Core.Path.{_≡_, refl, sym, ap, ap₂, _∙_}
 use mathlib.Core.Bool.{Bool, true, false, true≢false, cond}
 use Prim.Native.Nat.{ℕ, zero, suc, _-_, _*_, _^_, _≤_, _<_, zero-le}
 use native.Mathlib.Nat.{zero-mul, mul-pos, lt-of-not-le, le-of-eq, le-trans}
 use native.Mathlib.Decide.{decLe}
 use native.Mathlib.Omega.{arith}
 use borrow.Author.Tests.{ltb-true}
-use lib.Dec.{ltb}
 use lib.IntN.{ℤ, pos, negsuc, natAbs, pos-ne-negsuc}
 use lib.Pow.{pow-pos}
 use lib.Signed.{ltZ}
 use Rattle.word.specs.Orders.{signed, order}
 use Rattle.word.specs.Reads.{signedSize}
-use Rattle.word.proofs.Powers.{pow-sum}
 use Rattle.word.proofs.Signed.{signed-low, signed-high}
 use Rattle.word.proofs.Values.{grown, grown-lt}
-use Rattle.write.specs.Writes.{Nearest, IsRounded, zero, other, AtMost}
+use Rattle.write.specs.Writes.{IsRounded, zero, other, AtMost}
 use Rattle.write.proofs.Nearest.{NearestPlace, place-order}
-use Rattle.write.proofs.Places.{wordOf, from-word}
+use Rattle.write.proofs.Rules.{no-sign}
+use Rattle.write.proofs.Places.{twice, wordOf, from-word}
 
 -- ---- the order of signed sizes
 greater : (x y : ℤ) → order x y ≡ pos 1 → ltZ y x ≡ true
@@ -48,9 +47,6 @@ apart zero v' q = omega (arith, ltb-true v' 0 (greater (pos 0) (pos v') q))
 apart (suc i) v' q = absurd (true≢false (sym (greater (negsuc i) (pos v') q)))
 
 module _ (n : ℕ) (lo : 2 ≤ n) (hi : n ≤ 64) where
-  twice : 2 ^ (n - 1) * 2 ≡ 2 ^ n
-  twice = pow-sum (n - 1) 1 n (omega arith)
-
   -- the place of a rounded word, nothing for zero
   record At (s : Bool) (a b w : ℕ) : Type 0 where
     v : ℕ
@@ -61,16 +57,12 @@ module _ (n : ℕ) (lo : 2 ≤ n) (hi : n ≤ 64) where
   signed-word : (s : Bool) (v : ℕ) → 0 < v → v < 2 ^ (n - 1) → signed n (wordOf n s v) ≡ signedSize s v
   unfolding wordOf signedSize
   signed-word false v f l = signed-low n v l
-  signed-word true (suc i) f l = signed-high n (2 ^ n - suc i) (omega (arith, l, twice)) (omega (arith, l, twice)) ∙ ap negsuc (omega (arith, l, twice))
+  signed-word true (suc i) f l = signed-high n (2 ^ n - suc i) (omega (arith, l, twice n lo hi)) (omega (arith, l, twice n lo hi)) ∙ ap negsuc (omega (arith, l, twice n lo hi))
   signed-word true zero f l = absurd (omega (arith, f))
 
   at : (s : Bool) (a b w : ℕ) → IsRounded n s a b w → At s a b w
   unfolding signedSize
   at s a b w (zero q e) = record { v = 0; word = ap (signed n) e ∙ signed-low n 0 (pow-pos (n - 1)) ∙ sym (no-sign s); place = λ h. absurd (omega (arith, h, q)); none = λ _. refl }
-    where
-      no-sign : (s : Bool) → signedSize s 0 ≡ pos 0
-      no-sign false = refl
-      no-sign true = refl
   at s a b w (other h x) =
       let t = from-word n lo hi s a b w x in
       record { v = t .0; word = ap (signed n) (t .2) ∙ signed-word s (t .0) (t .1 .first) (t .1 .last); place = λ _. t .1; none = λ q. absurd (omega (arith, q, h)) }

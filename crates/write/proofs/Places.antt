@@ -3,15 +3,13 @@
 use mathlib.Core.Path.{_≡_, refl, sym, ap, _∙_, subst}
 use mathlib.Core.Bool.{Bool, true, false}
 use mathlib.Core.Logic.{_⊎_, inl, inr, ⊎-elim}
-use Prim.Native.Nat.{ℕ, zero, suc, _-_, _*_, _%_, _^_, _≤_, _<_, zero-le}
-use native.Mathlib.Nat.{lt-irrefl, lt-of-le-of-lt, lt-of-lt-of-le}
+use Prim.Native.Nat.{ℕ, zero, _-_, _*_, _%_, _^_, _≤_, _<_, zero-le}
+use native.Mathlib.Nat.{lt-irrefl, lt-of-le-of-lt}
 use native.Mathlib.Omega.{arith}
-use lib.IntN.{ℤ, pos, negℤ, natAbs}
-use lib.Dec.{lit<}
+use lib.IntN.{pos, negℤ, natAbs}
 use lib.Pow.{pow-pos, pow-mono}
 use Rattle.word.specs.Takum.{takum, real}
 use Rattle.word.specs.Reads.{signedSize}
-use Rattle.word.specs.Refusals.{IsWord}
 use Rattle.word.proofs.Powers.{pow-sum}
 use Rattle.word.proofs.Sizes.{size}
 use Rattle.word.proofs.Words.{Lies, at-zero, above, at-NaR, under, lies, takum-zero, takum-positive, takum-NaR, takum-negative}
@@ -26,7 +24,10 @@ wordOf n false v = v
 wordOf n true v = 2 ^ n - v
 
 module _ (n : ℕ) (lo : 2 ≤ n) (hi : n ≤ 64) where
-  twice : 2 ^ (n - 1) * 2 ≡ 2 ^ n
+  pub two : 2 ≤ 2 ^ (n - 1)
+  two = pow-mono {i = 1} {j = n - 1} (omega arith)
+
+  pub twice : 2 ^ (n - 1) * 2 ≡ 2 ^ n
   twice = pow-sum (n - 1) 1 n (omega arith)
 
   pub has-value : (s : Bool) (v : ℕ) → zero < v → v < 2 ^ (n - 1) → HasValue n s (grown n v) (wordOf n s v)
@@ -120,15 +121,12 @@ module _ (n : ℕ) (lo : 2 ≤ n) (hi : n ≤ 64) where
         t .word-is,
       )
 
-  increasing : (v u : ℕ) → zero < v → v < u → u < 2 ^ (n - 1) → grown n v < grown n u
+  pub increasing : (v u : ℕ) → zero < v → v < u → u < 2 ^ (n - 1) → grown n v < grown n u
   increasing v u h l r = grown-lt n v u lo hi l r
-
-  room : 1 < 2 ^ (n - 1)
-  room = lt-of-lt-of-le (lit< tt) (pow-mono {i = 1} {j = n - 1} (omega arith))
 
   -- ---- there is exactly one rounded word
   pub nearest-exists : (s : Bool) (a b : ℕ) → zero < b → (w : ℕ) × Nearest n s a b w
-  nearest-exists s a b h = let t = place-exists (grown n) (2 ^ (n - 1)) a b increasing h room in (wordOf n s (t .0), to-word s a b (t .0) (t .1))
+  nearest-exists s a b h = let t = place-exists (grown n) (2 ^ (n - 1)) a b increasing h two in (wordOf n s (t .0), to-word s a b (t .0) (t .1))
 
   pub nearest-one : (s : Bool) (a b w w' : ℕ) → zero < b → Nearest n s a b w → Nearest n s a b w' → w ≡ w'
   nearest-one s a b w w' h x y =

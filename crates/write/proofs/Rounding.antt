@@ -6,21 +6,16 @@ use Prim.Native.Nat.{ℕ, zero, suc, _+_, _-_, _*_, _%_, _^_, _≤_, _<_}
 use native.Mathlib.Nat.{zero-mul, lt-of-not-le, eq-of-mul-eq-mul-right, add-mul, mul-le-mul-right, le-of-lt, le-of-eq, le-trans, eq-or-lt-of-le}
 use native.Mathlib.Decide.{decLe}
 use native.Mathlib.Omega.{arith}
-use lib.Pow.{pow-mono}
 use Rattle.word.specs.Orders.{negated}
 use Rattle.word.specs.declared.answer.Answer.{Answer}
-use Rattle.word.proofs.Powers.{pow-sum}
 use Rattle.word.proofs.Signed.{negated-zero, negated-other}
-use Rattle.word.proofs.Values.{grown, grown-lt, words-differ}
-use Rattle.word.proofs.Words.{takum-zero}
-use Rattle.word.specs.Takum.{takum, real}
+use Rattle.word.proofs.Values.{grown, words-differ}
+use Rattle.word.specs.Takum.{real}
 use Rattle.word.specs.Reads.{signedSize}
-use Rattle.word.specs.Refusals.{IsWord}
 use Rattle.write.specs.declared.value.Rule.{Rule}
 use Rattle.write.specs.Writes.{HasValue, Nearest, IsRounded, zero, other, IsExact, IsWritten}
-use Rattle.write.specs.Offers.{withSign}
-use Rattle.write.proofs.Nearest.{NearestPlace, at-first, at-last, midway}
-use Rattle.write.proofs.Places.{wordOf, Place, place-of, value-is, to-word, from-word, nearest-exists, nearest-one}
+use Rattle.write.proofs.Nearest.{at-first, at-last, midway}
+use Rattle.write.proofs.Places.{increasing, two, twice, wordOf, Place, place-of, value-is, to-word, from-word, nearest-exists, nearest-one}
 use Rattle.write.proofs.Rules.{zero-value}
 use Rattle.write.proofs.Signs.{exact-nearest}
 
@@ -39,12 +34,6 @@ module _ (n : ℕ) (lo : 2 ≤ n) (hi : n ≤ 64) where
   rounded-one s a b w w' some (other h x) (zero q e) = absurd (omega (arith, q, h))
   rounded-one s a b w w' some (other h x) (other h' y) = nearest-one n lo hi s a b w w' some x y
 
-  twice : 2 ^ (n - 1) * 2 ≡ 2 ^ n
-  twice = pow-sum (n - 1) 1 n (omega arith)
-
-  two : 2 ≤ 2 ^ (n - 1)
-  two = pow-mono {i = 1} {j = n - 1} (omega arith)
-
   -- never zero, never NaR
   pub rounded-not-zero-nor-NaR : (s : Bool) (a b w : ℕ) → Nearest n s a b w → (w ≡ 0 → ⊥) × (w ≡ 2 ^ (n - 1) → ⊥)
   unfolding wordOf
@@ -52,21 +41,18 @@ module _ (n : ℕ) (lo : 2 ≤ n) (hi : n ≤ 64) where
     where
       by : (s : Bool) (v : ℕ) → 0 < v → v < 2 ^ (n - 1) → w ≡ wordOf n s v → (w ≡ 0 → ⊥) × (w ≡ 2 ^ (n - 1) → ⊥)
       by false v f l q = (λ e. omega (arith, f, q, e), λ e. omega (arith, l, q, e))
-      by true v f l q = (λ e. omega (arith, f, l, q, e, twice), λ e. omega (arith, l, q, e, twice))
+      by true v f l q = (λ e. omega (arith, f, l, q, e, twice n lo hi), λ e. omega (arith, l, q, e, twice n lo hi))
 
   -- ---- past either end the end word
-  increasing : (v u : ℕ) → zero < v → v < u → u < 2 ^ (n - 1) → grown n v < grown n u
-  increasing v u h l r = grown-lt n v u lo hi l r
-
   pub past-the-largest : (s : Bool) (z a b w : ℕ) → 0 < b → HasValue n false z (2 ^ (n - 1) - 1) → z * b ≤ a → Nearest n s a b w → w ≡ wordOf n s (2 ^ (n - 1) - 1)
   past-the-largest s z a b w some is h x =
       nearest-one n lo hi s a b w (wordOf n s (2 ^ (n - 1) - 1)) some x
-      (to-word n lo hi s a b (2 ^ (n - 1) - 1) (at-last (grown n) (2 ^ (n - 1)) a b increasing some (2 ^ (n - 1) - 1) (omega (arith, two)) (omega (arith, two)) (subst (λ (y : ℕ). y * b ≤ a) (value-is n lo hi z (2 ^ (n - 1) - 1) (omega (arith, two)) (omega (arith, two)) is) h)))
+      (to-word n lo hi s a b (2 ^ (n - 1) - 1) (at-last (grown n) (2 ^ (n - 1)) a b (increasing n lo hi) some (2 ^ (n - 1) - 1) (omega (arith, two n lo hi)) (omega (arith, two n lo hi)) (subst (λ (y : ℕ). y * b ≤ a) (value-is n lo hi z (2 ^ (n - 1) - 1) (omega (arith, two n lo hi)) (omega (arith, two n lo hi)) is) h)))
 
   pub before-the-smallest : (s : Bool) (z a b w : ℕ) → 0 < b → HasValue n false z 1 → a ≤ z * b → Nearest n s a b w → w ≡ wordOf n s 1
   before-the-smallest s z a b w some is h x =
       nearest-one n lo hi s a b w (wordOf n s 1) some x
-      (to-word n lo hi s a b 1 (at-first (grown n) (2 ^ (n - 1)) a b increasing some (omega (arith, two)) (subst (λ (y : ℕ). a ≤ y * b) (value-is n lo hi z 1 (omega arith) (omega (arith, two)) is) h)))
+      (to-word n lo hi s a b 1 (at-first (grown n) (2 ^ (n - 1)) a b (increasing n lo hi) some (omega (arith, two n lo hi)) (subst (λ (y : ℕ). a ≤ y * b) (value-is n lo hi z 1 (omega arith) (omega (arith, two n lo hi)) is) h)))
 
   -- ---- between two neighbouring positive words
   module _ (v z z' a b : ℕ) (some : 0 < b) (first : 0 < v) (room : suc v < 2 ^ (n - 1)) (is : HasValue n false z v) (next : HasValue n false z' (suc v)) where
@@ -77,7 +63,7 @@ module _ (n : ℕ) (lo : 2 ≤ n) (hi : n ≤ 64) where
     high-is = value-is n lo hi z' (suc v) (omega arith) room next
 
     rise : z * b ≤ z' * b
-    rise = mul-le-mul-right b (le-of-lt (subst₂ (λ (x y : ℕ). x < y) (sym low-is) (sym high-is) (increasing v (suc v) first (le-of-eq refl) room)))
+    rise = mul-le-mul-right b (le-of-lt (subst₂ (λ (x y : ℕ). x < y) (sym low-is) (sym high-is) ((increasing n lo hi) v (suc v) first (le-of-eq refl) room)))
 
     -- midway, the even one of them
     pub tie-nearest : 2 * a ≡ (z + z') * b → Nearest n false a b (v + v % 2)
@@ -85,7 +71,7 @@ module _ (n : ℕ) (lo : 2 ≤ n) (hi : n ≤ 64) where
     tie-nearest q =
         let sum : 2 * a ≡ z * b + z' * b = q ∙ add-mul z z' b in
         to-word n lo hi false a b (v + v % 2)
-        (midway (grown n) (2 ^ (n - 1)) a b increasing some v first room (subst (λ (x : ℕ). x * b ≤ a) low-is (omega (arith, sum, rise))) (subst (λ (x : ℕ). a ≤ x * b) high-is (omega (arith, sum, rise)))
+        (midway (grown n) (2 ^ (n - 1)) a b (increasing n lo hi) some v first room (subst (λ (x : ℕ). x * b ≤ a) low-is (omega (arith, sum, rise))) (subst (λ (x : ℕ). a ≤ x * b) high-is (omega (arith, sum, rise)))
         (sum ∙ ap₂ (λ (x y : ℕ). x * b + y * b) low-is high-is))
 
     -- no word has a value between theirs
@@ -100,7 +86,7 @@ module _ (n : ℕ) (lo : 2 ≤ n) (hi : n ≤ 64) where
         t = place-of n lo hi false (x .z) w (positive (x .z) (x .same)) (x .is)
 
         grown-le : (u y : ℕ) → 0 < u → u ≤ y → y < 2 ^ (n - 1) → grown n u ≤ grown n y
-        grown-le u y f p r = ⊎-elim (λ (q : u ≡ y). le-of-eq (ap (grown n) q)) (λ (q : u < y). le-of-lt (increasing u y f q r)) (eq-or-lt-of-le p)
+        grown-le u y f p r = ⊎-elim (λ (q : u ≡ y). le-of-eq (ap (grown n) q)) (λ (q : u < y). le-of-lt ((increasing n lo hi) u y f q r)) (eq-or-lt-of-le p)
 
         by : Dec (t .v ≤ v) → ⊥
         by (yes p) = omega (arith, l, x .same, mul-le-mul-right b (le-trans (le-of-eq (t .size-is)) (le-trans (grown-le (t .v) v (t .first) p (omega (arith, room))) (le-of-eq (sym low-is)))))
@@ -114,8 +100,8 @@ module _ (n : ℕ) (lo : 2 ≤ n) (hi : n ≤ 64) where
       subst (Nearest n (not s) a b) (sym (ap (negated n) (t .2) ∙ by s (t .0) (t .1 .first) (t .1 .last))) (to-word n lo hi (not s) a b (t .0) (t .1))
     where
       by : (s : Bool) (v : ℕ) → 0 < v → v < 2 ^ (n - 1) → negated n (wordOf n s v) ≡ wordOf n (not s) v
-      by false v f l = negated-other n v f (omega (arith, l, twice))
-      by true v f l = negated-other n (2 ^ n - v) (omega (arith, l, twice)) (omega (arith, f, l, twice)) ∙ omega (arith, l, twice)
+      by false v f l = negated-other n v f (omega (arith, l, twice n lo hi))
+      by true v f l = negated-other n (2 ^ n - v) (omega (arith, l, twice n lo hi)) (omega (arith, f, l, twice n lo hi)) ∙ omega (arith, l, twice n lo hi)
 
   pub rounded-negated : (s : Bool) (a b w : ℕ) → IsRounded n s a b w → IsRounded n (not s) a b (negated n w)
   rounded-negated s a b w (zero q e) = zero q (ap (negated n) e ∙ negated-zero n)

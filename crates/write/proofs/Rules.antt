@@ -1,34 +1,35 @@
 -- What each rule makes of the nearest positive word. Assumes nothing.
-use mathlib.Core.Path.{_≡_, refl, sym, ap, _∙_, subst}
+use mathlib.Core.Path.{_≡_, refl, sym, ap, _∙_, subst, subst₂}
 use mathlib.Core.Bool.{Bool, true, false}
 use Prim.Native.Nat.{ℕ, zero, suc, _-_, _*_, _^_, _≤_, _<_}
-use native.Mathlib.Nat.{zero-mul, mul-one, mul-pos}
+use native.Mathlib.Nat.{zero-mul, one-mul, mul-one, mul-pos, lt-of-lt-of-le}
 use native.Mathlib.Omega.{arith}
 use lib.Dec.{lit<}
 use lib.IntN.{ℤ, pos, _+ℤ_, _-ℤ_}
 use lib.Pow.{pow-pos}
 use Rattle.word.specs.Takum.{Takum, real}
-use Rattle.word.specs.Reads.{num, den, IsSize, signedSize}
+use Rattle.word.specs.Reads.{num, den, IsSize, IsNumber, signedSize}
 use Rattle.word.specs.Refusals.{IsWord}
 use Rattle.word.specs.declared.answer.Answer.{Answer}
 use Rattle.word.specs.declared.refusal.Refusal.{Refusal}
 use Rattle.word.proofs.Words.{takum-zero}
 use Rattle.write.specs.declared.value.Rule.{Rule}
 use Rattle.write.specs.declared.size.Rest.{Rest}
-use Rattle.write.specs.Writes.{HasValue, Nearest, IsRounded, zero, other, IsExact, IsWritten, isNegative, IsMoved}
+use Rattle.write.specs.Writes.{HasValue, Nearest, zero, other, IsWritten, isNegative, IsMoved}
 use Rattle.write.specs.Offers.{Amounts, IsOffered, IsNearest, TellsExact, withSign, WritesSize}
 use Rattle.write.proofs.Exponents.{unit-some}
-use Rattle.write.proofs.Scales.{plain-offer}
+use Rattle.write.proofs.Scales.{plain-offer, written-times}
 use Rattle.write.proofs.Signs.{signed-nearest, nearest-positive, signed-exact, none-exact}
+
+-- zero has no sign
+pub no-sign : (s : Bool) → signedSize s 0 ≡ pos 0
+unfolding signedSize
+no-sign false = refl
+no-sign true = refl
 
 -- zero is the zero word by either rule, whichever its sign
 pub zero-value : (n : ℕ) → 2 ≤ n → n ≤ 64 → (s : Bool) → HasValue n s 0 0
-unfolding signedSize
 zero-value n lo hi s = record { word = record { least = lo; most = hi; fits = pow-pos n }; means = takum-zero n ∙ ap real (sym (no-sign s)) }
-  where
-    no-sign : (s : Bool) → signedSize s 0 ≡ pos 0
-    no-sign false = refl
-    no-sign true = refl
 
 pub zero-written : (n : ℕ) → 2 ≤ n → n ≤ 64 → (rule : Rule) (s : Bool) (a b : ℕ) → a ≡ 0 → IsWritten n rule s a b (Answer.Word 0)
 unfolding IsWritten
@@ -58,19 +59,35 @@ module _ (n : ℕ) (lo : 2 ≤ n) (hi : n ≤ 64) (h : ℤ) (m w : ℕ) (near : 
   unfolding WritesSize IsWritten TellsExact IsNearest
   strict-refusal s inexact = λ a b nonzero some offered. (refl, none-exact n lo hi a b nonzero some w (near a b some offered) (inexact a b some offered) s)
 
--- what is written for the size of what a word means is what is written for its meaning
-pub size-moved : (n : ℕ) (rule : Rule) (r : Answer) (t : Takum) (s : Bool) (h : ℤ) (m v : ℕ) → t ≡ real (signedSize s v) → 0 < m → IsSize m (h -ℤ pos 63) v → WritesSize n rule s h m r → IsMoved n rule t r
-unfolding IsSize IsMoved isNegative signedSize WritesSize IsOffered Amounts
-size-moved n rule r t s h m v q full size x = subst (λ (t : Takum). IsMoved n rule t r) (sym q) (by s v (positive v size) (x v 1 (positive v size) (lit< tt) (sym size ∙ ap (λ (y : ℕ). m * y) (sym (mul-one (num e))))))
-  where
-    e : ℤ
-    e = h -ℤ pos 63 +ℤ pos 307
+-- a size that isn't nothing, in any unit
+pub size-some : (m v : ℕ) (e : ℤ) → 0 < m → m * num e ≡ v * den e → 0 < v
+size-some m zero e h q = absurd (omega (arith, q, zero-mul (den e), mul-pos h (unit-some e .0)))
+size-some m (suc i) e h q = omega arith
 
-    positive : (v : ℕ) → m * num e ≡ v * den e → 0 < v
-    positive zero q = absurd (omega (arith, q, zero-mul (den e), mul-pos full (unit-some e .0)))
-    positive (suc i) q = omega arith
+-- what is written for the size of what a word means is what is written for its meaning, and the other way
+module _ (n : ℕ) (rule : Rule) (r : Answer) where
+  moved : (s : Bool) (v : ℕ) → 0 < v → IsWritten n rule s v 1 r → IsMoved n rule (real (signedSize s v)) r
+  unfolding IsMoved isNegative signedSize
+  moved false v h y = y
+  moved true (suc i) h y = y
+  moved true zero h y = absurd (omega (arith, h))
 
-    by : (s : Bool) (v : ℕ) → 0 < v → IsWritten n rule s v 1 r → IsMoved n rule (real (signedSize s v)) r
-    by false v h y = y
-    by true (suc i) h y = y
-    by true zero h y = absurd (omega (arith, h))
+  of-meaning : (s : Bool) (v : ℕ) → 0 < v → IsMoved n rule (real (signedSize s v)) r → IsWritten n rule s v 1 r
+  unfolding IsMoved isNegative signedSize
+  of-meaning false v h y = y
+  of-meaning true (suc i) h y = y
+  of-meaning true zero h y = absurd (omega (arith, h))
+
+  pub size-moved : (t : Takum) (s : Bool) (h : ℤ) (m v : ℕ) → t ≡ real (signedSize s v) → 0 < m → IsSize m (h -ℤ pos 63) v → WritesSize n rule s h m r → IsMoved n rule t r
+  unfolding IsSize WritesSize IsOffered Amounts
+  size-moved t s h m v q full size x =
+      let e = h -ℤ pos 63 +ℤ pos 307 in
+      let some = size-some m v e full size in
+      subst (λ (t : Takum). IsMoved n rule t r) (sym q) (moved s v some (x v 1 some (lit< tt) (sym size ∙ ap (λ (y : ℕ). m * y) (sym (mul-one (num e))))))
+
+  pub number-written : (t : Takum) (k : ℕ) (s : Bool) (h : ℤ) (m p : ℕ) (x : IsNumber t k s h m p) → IsMoved n rule t r → IsWritten n rule s (m * num (h -ℤ pos p +ℤ pos 307)) (den (h -ℤ pos p +ℤ pos 307)) r
+  unfolding IsSize
+  number-written t k s h m p x y =
+      let e = h -ℤ pos p +ℤ pos 307 in
+      let some = size-some m (x .v) e (lt-of-lt-of-le (pow-pos p) (x .low)) (x .size) in
+      subst₂ (λ (a b : ℕ). IsWritten n rule s a b r) (sym (x .size)) (one-mul (den e)) (written-times n s (x .v) 1 (den e) (unit-some e .1) rule r (of-meaning s (x .v) some (subst (λ (t : Takum). IsMoved n rule t r) (x .means) y)))

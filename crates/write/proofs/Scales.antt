@@ -1,9 +1,9 @@
 -- One size under several units: a power of two moves between significand and exponent, and a fraction between its two parts. Assumes nothing.
 use mathlib.Core.Path.{_≡_, refl, sym, ap, ap₂, _∙_, subst, subst₂}
 use mathlib.Core.Bool.{Bool, true, false, cond}
-use mathlib.Core.Logic.{_⊎_, inl, inr, ⊎-elim}
+use mathlib.Core.Logic.{_⊎_, ⊎-elim}
 use Prim.Native.Nat.{ℕ, zero, suc, _+_, _-_, _*_, _^_, _≤_, _<_}
-use native.Mathlib.Nat.{mul-one, one-mul, mul-comm, mul-assoc, mul-right-comm, eq-of-mul-eq-mul-right, mul-le-mul-right, le-of-mul-le-mul-right, mul-sub, zero-mul}
+use native.Mathlib.Nat.{mul-one, one-mul, mul-comm, mul-assoc, mul-right-comm, eq-of-mul-eq-mul-right, mul-le-mul-right, le-of-mul-le-mul-right, mul-sub, mul-pos, zero-mul}
 use native.Mathlib.Omega.{arith}
 use borrow.Author.Tests.{ltb-true, ltb-false}
 use lib.Dec.{ltb}
@@ -81,7 +81,7 @@ module _ (m : ℕ) (k : ℤ) (a b : ℕ) (some : zero < b) (offered : IsOffered 
       (sym both ∙ ap (λ (y : ℕ). y * den (k +ℤ pos 307)) (sym q) ∙ mul-right-comm z b (den (k +ℤ pos 307)))
 
 -- ---- both parts of a fraction times d
-pub distance-times : (a x d : ℕ) → distance (a * d) (x * d) ≡ distance a x * d
+distance-times : (a x d : ℕ) → distance (a * d) (x * d) ≡ distance a x * d
 distance-times a x d = ⊎-elim low high (either-side a x)
   where
     less : (i j : ℕ) → i * d - j * d ≡ (i - j) * d
@@ -120,6 +120,28 @@ module _ (n : ℕ) (s : Bool) (a b d : ℕ) (some : zero < d) where
       by : (a : ℕ) → 0 < a * d → 0 < a
       by zero h = absurd (omega (arith, h, zero-mul d))
       by (suc i) h = omega arith
+
+  -- and the other way
+  nearest-times : (w : ℕ) → Nearest n s a b w → Nearest n s (a * d) (b * d) w
+  nearest-times w x =
+      record {
+        z = x .z;
+        some = x .some;
+        is = x .is;
+        nearest = λ z' w' h y. subst₂ (λ (i j : ℕ). i ≤ j) (sym (apart (x .z))) (sym (apart z')) (mul-le-mul-right d (x .nearest z' w' h y));
+        even = λ z' w' h y q. x .even z' w' h y (eq-of-mul-eq-mul-right d some (distance a (x .z * b)) (distance a (z' * b)) (sym (apart (x .z)) ∙ q ∙ apart z'));
+      }
+
+  rounded-times : (w : ℕ) → IsRounded n s a b w → IsRounded n s (a * d) (b * d) w
+  rounded-times w (zero q e) = zero (ap (λ (y : ℕ). y * d) q ∙ zero-mul d) e
+  rounded-times w (other h x) = other (mul-pos h some) (nearest-times w x)
+
+  pub written-times : (rule : Rule) (r : Answer) → IsWritten n rule s a b r → IsWritten n rule s (a * d) (b * d) r
+  unfolding IsWritten
+  written-times Rule.Rounded (Answer.Word w) x = rounded-times w x
+  written-times Rule.Rounded (Answer.Refused q) x = x
+  written-times Rule.Strict (Answer.Word w) x = exact-times w x
+  written-times Rule.Strict (Answer.Refused q) x = (x .0, λ w y. x .1 w (exact-reduced w y))
 
   -- what is written for a fraction is written for its reduced form
   pub written-reduced : (rule : Rule) (r : Answer) → IsWritten n rule s (a * d) (b * d) r → IsWritten n rule s a b r

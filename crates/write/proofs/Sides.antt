@@ -12,7 +12,6 @@ use lib.IntN.{ℤ, pos, _+ℤ_, _-ℤ_, -ℤ-+ℤ-cancel}
 use lib.Pow.{pow-pos, shr-shr, split}
 use Rattle.word.specs.Takum as Takum
 use Rattle.word.specs.Reads.{num, den}
-use Rattle.word.specs.Refusals.{IsWord}
 use Rattle.word.proofs.Powers.{pow-sum, shl-below, shl-out}
 use Rattle.word.proofs.Limits.{exponent-lt}
 use Rattle.word.proofs.Cut.{r-head, c-head}
@@ -22,7 +21,7 @@ use Rattle.write.specs.declared.size.Rest.{Rest}
 use Rattle.write.specs.declared.size.Side.{Side}
 use Rattle.write.specs.declared.size.Start.{Start}
 use Rattle.write.specs.Writes.{HasValue}
-use Rattle.write.specs.Offers.{Begins, firstBits, Amounts, IsOffered, IsRaised, Tells, TellsHalf, TellsPowers, TellsMidpoint, chosenOf, ChoosesByCut}
+use Rattle.write.specs.Offers.{Begins, firstBits, IsOffered, IsRaised, Tells, TellsHalf, TellsPowers, TellsMidpoint, chosenOf, ChoosesByCut}
 use Rattle.write.proofs.Exponents.{raised-inj, unit-law, unit-some}
 use Rattle.write.proofs.Halves.{cancel}
 use Rattle.write.proofs.Strings.{Binade, binade-of, string-regime}

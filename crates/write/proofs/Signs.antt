@@ -1,7 +1,7 @@
 -- With the other sign, the word of the same place: nearest and exact go over. A word with exactly the value is the nearest. Assumes nothing.
 use mathlib.Core.Path.{_≡_, refl, sym, ap, _∙_, subst}
 use mathlib.Core.Bool.{Bool, true, false, cond}
-use mathlib.Core.Logic.{_⊎_, inl, inr, ⊎-elim}
+use mathlib.Core.Logic.{_⊎_, inl, ⊎-elim}
 use Prim.Native.Nat.{ℕ, zero, suc, _+_, _-_, _*_, _^_, _≤_, _<_, zero-le}
 use native.Mathlib.Nat.{le-of-eq, le-trans, sub-self, eq-of-mul-eq-mul-right, eq-or-lt-of-le, zero-mul}
 use native.Mathlib.Omega.{arith}
@@ -17,8 +17,8 @@ use Rattle.word.proofs.Signed.{negated-other}
 use Rattle.word.proofs.Values.{grown, words-differ}
 use Rattle.write.specs.Writes.{HasValue, distance, Nearest, IsExact}
 use Rattle.write.specs.Offers.{withSign, withoutSign}
-use Rattle.write.proofs.Nearest.{NearestPlace, distance-below, distance-above, either-side}
-use Rattle.write.proofs.Places.{wordOf, Place, has-value, value-is, place-of, to-word, from-word, nearest-one}
+use Rattle.write.proofs.Nearest.{distance-below, distance-above, either-side}
+use Rattle.write.proofs.Places.{twice, wordOf, Place, has-value, value-is, place-of, to-word, from-word, nearest-one}
 
 -- the distance is nothing only from the number itself
 no-distance : (a x : ℕ) → distance a x ≡ 0 → x ≡ a
@@ -38,16 +38,13 @@ module _ (n : ℕ) (lo : 2 ≤ n) (hi : n ≤ 64) where
   unfolding withoutSign
   unsigned-word w i h f = by (ltb w (2 ^ (n - 1))) refl
     where
-      twice : 2 ^ (n - 1) * 2 ≡ 2 ^ n
-      twice = pow-sum (n - 1) 1 n (omega arith)
-
       positive : (x : ℕ) → zero < x → x < 2 ^ (n - 1) → IsWord n x × (zero < x) × (x < 2 ^ (n - 1))
-      positive x some less = (record { least = lo; most = hi; fits = omega (arith, less, twice) }, some, less)
+      positive x some less = (record { least = lo; most = hi; fits = omega (arith, less, twice n lo hi) }, some, less)
 
       by : (b : Bool) → ltb w (2 ^ (n - 1)) ≡ b → IsWord n (cond b w (2 ^ (n - 1) + 2 ^ (n - 1) - w)) × (zero < cond b w (2 ^ (n - 1) + 2 ^ (n - 1) - w)) × (cond b w (2 ^ (n - 1) + 2 ^ (n - 1) - w) < 2 ^ (n - 1))
       by true q = positive w h (ltb-true w (2 ^ (n - 1)) q)
       by false q =
-          positive (2 ^ (n - 1) + 2 ^ (n - 1) - w) (omega (arith, i .fits, twice))
+          positive (2 ^ (n - 1) + 2 ^ (n - 1) - w) (omega (arith, i .fits, twice n lo hi))
           (⊎-elim (λ (e : 2 ^ (n - 1) ≡ w). absurd (f (sym e))) (λ (e : 2 ^ (n - 1) < w). omega (arith, e, pow-pos (n - 1))) (eq-or-lt-of-le (ltb-false w (2 ^ (n - 1)) q)))
 
   -- a word has the size of the word without its sign
@@ -60,18 +57,15 @@ module _ (n : ℕ) (lo : 2 ≤ n) (hi : n ≤ 64) where
       by false q y =
           let over : 2 ^ (n - 1) < w = above (ltb-false w (2 ^ (n - 1)) q) in
           let u = 2 ^ (n - 1) + 2 ^ (n - 1) - w in
-          let first : zero < u = omega (arith, i .fits, twice) in
+          let first : zero < u = omega (arith, i .fits, twice n lo hi) in
           let last : u < 2 ^ (n - 1) = omega (arith, over) in
           rw (lt-ltb (2 ^ (n - 1)) w over) (ap (takum n) (back over) ∙ has-value n lo hi true u first last .means ∙ ap (λ (z : ℕ). real (signedSize true z)) (sym (value-is n lo hi v u first last y)))
         where
-          twice : 2 ^ (n - 1) * 2 ≡ 2 ^ n
-          twice = pow-sum (n - 1) 1 n (omega arith)
-
           above : 2 ^ (n - 1) ≤ w → 2 ^ (n - 1) < w
           above l = ⊎-elim (λ (e : 2 ^ (n - 1) ≡ w). absurd (f (sym e))) (λ (e : 2 ^ (n - 1) < w). e) (eq-or-lt-of-le l)
 
           back : 2 ^ (n - 1) < w → w ≡ 2 ^ n - (2 ^ (n - 1) + 2 ^ (n - 1) - w)
-          back l = omega (arith, l, i .fits, twice)
+          back l = omega (arith, l, i .fits, twice n lo hi)
 
   pub signed-nearest : (s : Bool) (a b w : ℕ) → Nearest n false a b w → Nearest n s a b (withSign n s w)
   signed-nearest s a b w x =

@@ -1,8 +1,8 @@
 -- How the strings of a characteristic begin: by computed tests over every regime r, every one of its characteristics and every head that
 -- goes on from there. Assumes nothing.
-use mathlib.Core.Path.{_≡_, refl, sym, ap, ap₂, _∙_, subst}
+use mathlib.Core.Path.{_≡_, ap, _∙_, subst}
 use mathlib.Core.Bool.{Bool, _&&_}
-use Prim.Native.Nat.{ℕ, zero, suc, _+_, _-_, _*_, _/_, _%_, _^_, _≤_, _<_}
+use Prim.Native.Nat.{ℕ, _+_, _-_, _*_, _/_, _%_, _^_, _≤_, _<_}
 use native.Mathlib.Nat.{mod-lt, le-of-suc-le-suc, le-trans, lt-of-le-of-lt, add-le-add, mul-le-mul, mul-le-mul-right, two-pow-succ}
 use native.Mathlib.Omega.{arith}
 use lib.Dec.{T, eqb, eqb→eq, lit<}
@@ -15,7 +15,6 @@ use Rattle.word.proofs.Integers.{same-integer, same-integer-is}
 use Rattle.word.proofs.Powers.{Log, pow-sum}
 use Rattle.word.proofs.Limits.{exponent-lt}
 use Rattle.word.proofs.Cut.{S-head, r-head, c-head}
-use Rattle.write.specs.declared.size.Start.{Start}
 use Rattle.write.specs.Offers.{Begins}
 
 -- the bits for the characteristics 2^ρ - 1 + i and -2^ρ - i, i below 2^ρ

@@ -1,6 +1,6 @@
 -- The strings of one binade: where they begin, their sizes are the significands one after the other, up to the next binade's first string.
 -- So the first 64 bits of an offered size are the last string at or below it. Assumes nothing.
-use mathlib.Core.Path.{_≡_, refl, sym, ap, ap₂, _∙_, subst}
+use mathlib.Core.Path.{_≡_, sym, ap, ap₂, _∙_, subst}
 use Prim.Native.Nat.{ℕ, zero, suc, _+_, _-_, _*_, _/_, _%_, _^_, _≤_, _<_}
 use native.Mathlib.Nat.{mul-one, one-mul, zero-add, eq-or-lt-of-le, sub-le, lt-trans}
 use native.Mathlib.Omega.{arith}
@@ -8,16 +8,16 @@ use mathlib.Core.Logic.{⊎-elim}
 use borrow.Author.Tests.{ne-eqb}
 use lib.Dec.{lit<, lit≤}
 use lib.IntN.{ℤ, pos, _+ℤ_, _-ℤ_, natAbs, +ℤ-idr}
-use lib.Pow.{pow-pos, pow-mono, high, low, split, shl-lt}
+use lib.Pow.{pow-pos, pow-mono, high, low}
 use Rattle.word.specs.Takum as Takum
-use Rattle.word.specs.Takum.{S, p, F, e, value}
+use Rattle.word.specs.Takum.{S, p, F, e}
 use Rattle.word.proofs.Powers.{pow-sum, shr-none}
 use Rattle.word.proofs.Integers.{balance, unbalance}
 use Rattle.word.proofs.Heads.{k}
 use Rattle.word.proofs.Sizes.{size, size-next}
 use Rattle.word.proofs.Meaning.{value-at, string-positive, exponent-whole}
 use Rattle.write.specs.declared.size.Start.{Start}
-use Rattle.write.specs.Offers.{Begins, firstBits, IsRaised}
+use Rattle.write.specs.Offers.{Begins, IsRaised}
 
 -- three sizes one step apart, of which the first two are known
 on : (W E a b c t : ℕ) → W ≡ t + 2 → b ≡ a + c → a ≡ (W + t) * E → b ≡ (W + (t + 1)) * E → b + c ≡ (W + W) * E

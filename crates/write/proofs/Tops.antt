@@ -5,10 +5,9 @@ use Prim.Native.Nat.{ℕ, zero, _+_, _-_, _*_, _/_, _^_, _≤_, _<_}
 use native.Mathlib.Nat.{mul-one, mul-assoc, add-mul, mul-div-cancel, div-eq-of-lt, le-add-right, le-trans, le-of-eq, zero-lt-suc}
 use native.Mathlib.Omega.{arith}
 use lib.Dec.{lit≤}
-use lib.IntN.{ℤ, pos, _-ℤ_, _+ℤ_}
-use lib.Pow.{pow-mono}
+use lib.IntN.{ℤ, pos, _-ℤ_}
 use Rattle.word.specs.Takum.{real, S, p, F, c, value, takum}
-use Rattle.word.specs.Reads.{IsSize, IsNumber, signedSize}
+use Rattle.word.specs.Reads.{IsSize, IsNumber}
 use Rattle.word.specs.Refusals.{IsWord}
 use Rattle.word.proofs.Powers.{pow-sum, shl-below}
 use Rattle.word.proofs.Sizes.{size}

@@ -89,11 +89,11 @@ marginOf low Rest.OverHalf = 1
 unfoldable pub ChoosesByCut : ℕ → ℕ → Rest → ℕ → Type 0
 ChoosesByCut low cut rest w = (t beyond half : ℕ) → cut ≡ beyond * 2 ^ t → 2 ^ 63 ≡ half * 2 ^ t → (side : Side) × TellsHalf beyond half rest side × (w ≡ chosenOf low side)
 
--- an exponent raised by 255, so that it isn't negative
+-- an exponent from -255 to 254 (`mag` of it is at most 254) raised by 255, so that it isn't negative
 unfoldable pub IsRaised : ℤ → ℕ → Type 0
 IsRaised h e = h +ℤ pos 255 ≡ pos e
 
--- (m + rest) 2^(e - 63) against the midpoint of 2^i and 2^j
+-- (m + rest) 2^(e - 63) against the midpoint of 2^i and 2^j: where the size is a, those two are y and z, in the same unit
 unfoldable pub TellsPowers : ℕ → ℕ → ℕ → ℕ → Rest → Side → Type 0
 TellsPowers i j e m rest side = (unit a : ℕ) → 0 < unit → Amounts m rest a unit → (y z : ℕ) → y * 2 ^ e ≡ 2 ^ (63 + i) * unit → z * 2 ^ e ≡ 2 ^ (63 + j) * unit → Tells side (2 * a) (y + z)
 

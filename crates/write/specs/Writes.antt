@@ -31,7 +31,8 @@ pub record Nearest (n : ℕ) (negative : Bool) (a b w : ℕ) : Type 0 where
   pub nearest : (z' w' : ℕ) → 0 < z' → HasValue n negative z' w' → distance a (z * b) ≤ distance a (z' * b)
   pub even : (z' w' : ℕ) → 0 < z' → HasValue n negative z' w' → distance a (z * b) ≡ distance a (z' * b) → (w' ≡ w) ⊎ (w % 2 ≡ 0)
 
--- the value with sign s and size a / b is at most the one with sign s' and size a' / b'
+-- The value with sign s and size a / b is at most the one with sign s' and size a' / b'. No contract needs it: the promise that rounding keeps
+-- order does.
 unfoldable pub AtMost : Bool → ℕ → ℕ → Bool → ℕ → ℕ → Type 0
 AtMost false a b false a' b' = a * b' ≤ a' * b
 AtMost true a b true a' b' = a' * b ≤ a * b'

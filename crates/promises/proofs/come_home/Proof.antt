@@ -1,11 +1,10 @@
 -- `come_home` meets its contract. The invariant of its loop: whatever is answered for the rest of the widths is answered for all of them.
 -- The measure is the number of widths that are left. Assumes nothing.
-use mathlib.Core.Path.{_≡_, refl, sym, ap, subst, subst₂}
-use mathlib.Core.List.{List, [], _∷_}
+use mathlib.Core.Path.{_≡_, refl, sym, subst}
+use mathlib.Core.List.{List}
 use mathlib.Core.Logic.{inl, inr}
-use Prim.Native.Nat.{ℕ, suc, _+_, _-_, _≤_, _<_, zero-le}
+use Prim.Native.Nat.{ℕ, _+_, _-_, _≤_, _<_, zero-le}
 use native.Mathlib.Numerals.{add-one, add-one-le}
-use native.Mathlib.Omega.{arith}
 use borrow.Author.Count.{falls}
 use borrow.Author.Needs.{needs}
 use lib.ListN.{length, getD, drop, drop-of-length-le}
@@ -14,7 +13,7 @@ use Rattle.word.specs.declared.answer.Answer.{Answer}
 use Rattle.word.specs.declared.refusal.Refusal.{Refusal}
 use Rattle.write.specs.declared.value.Rule.{Rule}
 use Rattle.write.specs.Writes.{Moves}
-use Rattle.promises.specs.Writing.{Goes, ComesHome}
+use Rattle.promises.specs.Writing.{Goes}
 use Rattle.promises.proofs.Writing.{goes-home}
 use Rattle.promises.proofs.come_home.Statement.{statement}
 use Rattle.promises.proofs.come_home.Tie as tie

@@ -3,13 +3,14 @@ use Prim.Native.Nat.{ℕ, _*_, _%_, _^_, _≤_, _<_}
 use mathlib.Core.Path.{_≡_, _∙_}
 use native.Mathlib.Omega.{arith}
 use native.Mathlib.Nat.{one-mul}
-use lib.Pow.{pow-pos, pow-mono, shl-exact}
+use lib.Pow.{pow-mono, shl-exact}
 use borrow.Author.Needs.{needs}
+use Rattle.word.proofs.Limits.{below-power}
 use Rattle.census.proofs.bits.power_of_two.Statement.{statement}
 use Rattle.census.proofs.bits.power_of_two.Tie as tie
 
-bounds : (k : ℕ) → k < 64 → (1 ≤ 1 * 2 ^ k % 2 ^ 64) × (1 * 2 ^ k % 2 ^ 64 ≤ 2 ^ 63)
-bounds k h = (omega (arith, exact, pow-pos k), omega (arith, exact, pow-mono {i = k} {j = 63} (omega arith)))
+bounds : (k : ℕ) → k < 64 → (k < 1 * 2 ^ k % 2 ^ 64) × (1 * 2 ^ k % 2 ^ 64 ≤ 2 ^ 63)
+bounds k h = (omega (arith, exact, below-power k), omega (arith, exact, pow-mono {i = k} {j = 63} (omega arith)))
   where
     exact : 1 * 2 ^ k % 2 ^ 64 ≡ 2 ^ k
     exact = shl-exact {a = 1} 1 k 64 (omega arith) (omega (arith, h)) ∙ one-mul (2 ^ k)

@@ -1,6 +1,6 @@
 -- `take_signed` is safe: either way the number that it takes in is not negative and fits. Assumes nothing.
 use borrow.Author.Needs.{needs}
-use mir.Syntax.{w32}
+use mir.Syntax.{w64}
 use Rattle.word.proofs.Casts.{plain-cast, complement-fits, complement-cast}
 use Rattle.census.proofs.digest.take_signed.Statement.{statement}
 use Rattle.census.proofs.digest.take_signed.Tie as tie
@@ -9,10 +9,10 @@ take-requires : tie.Need-take-requires
 take-requires c κs = search needs
 
 sub-take : tie.Need-sub-take
-sub-take c = complement-fits w32 tt (c .before .before .fits .z) (c .before .if1 .taken)
+sub-take c = complement-fits w64 tt (c .before .before .fits .z) (c .before .if1 .taken)
 
 cast-take : tie.Need-cast-take
-cast-take c = complement-cast w32 tt (c .before .before .fits .z) (c .before .if1 .taken)
+cast-take c = complement-cast w64 tt (c .before .before .fits .z) (c .before .if1 .taken)
 
 take-requires-2 : tie.Need-take-requires-2
 take-requires-2 c κs = search needs
@@ -24,7 +24,7 @@ take-requires-3 : tie.Need-take-requires-3
 take-requires-3 c κs = search needs
 
 cast-take-2 : tie.Need-cast-take-2
-cast-take-2 c = plain-cast w32 tt (c .before .before .fits .z) (c .before .if1 .left)
+cast-take-2 c = plain-cast w64 tt (c .before .before .fits .z) (c .before .if1 .left)
 
 take-requires-4 : tie.Need-take-requires-4
 take-requires-4 c κs = search needs

@@ -5,10 +5,10 @@ use Rattle.census.proofs.parts.print_part.Statement.{statement}
 use Rattle.census.proofs.parts.print_part.Tie as tie
 
 abbrev Inv-loop : tie.InvT-loop
-Inv-loop part last n₀ n = 2 ≤ n
+Inv-loop part first last n₀ n = 2 ≤ n
 
 abbrev μ-loop : tie.MeasureT-loop
-μ-loop part last n₀ n = 65 - n
+μ-loop part first last n₀ n = 65 - n
 
 loop-holds : tie.Need-loop-holds Inv-loop μ-loop
 loop-holds c = omega arith

@@ -1,5 +1,5 @@
 -- `characteristic_of` meets its contract: each part is the field of Definition 2 that it is named after. Assumes nothing.
-use mathlib.Core.Path.{_≡_, sym, ap, ap₂, _∙_, subst}
+use mathlib.Core.Path.{sym, ap, ap₂, _∙_, subst}
 use Prim.Native.Nat.{ℕ, _-_, _/_, _%_, _^_, _≤_}
 use native.Mathlib.Nat.{lt-of-le-of-lt, le-of-eq, mod-lt}
 use native.Mathlib.Omega.{arith}

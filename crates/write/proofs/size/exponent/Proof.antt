@@ -1,6 +1,6 @@
 -- `exponent` meets its contract: the characteristic that the word's size was found with. Assumes nothing.
 use mathlib.Core.Path.{_≡_, sym, _∙_, subst}
-use Prim.Native.Nat.{ℕ, _-_, _*_, _^_, _≤_}
+use Prim.Native.Nat.{_-_, _*_, _^_, _≤_}
 use borrow.Author.Needs.{needs, sfits-of}
 use lib.IntN.{ℤ}
 use lib.Signed.{mag}

@@ -1,10 +1,9 @@
 -- `nearest_inside` meets its contract: the cut of the first bits is the word at or below, and the side of the midpoint decides. Assumes nothing.
-use mathlib.Core.Path.{_≡_, refl, sym, ap, _∙_, subst}
-use Prim.Native.Nat.{ℕ, zero, suc, _+_, _-_, _/_, _%_, _^_, _≤_, _<_}
+use mathlib.Core.Path.{_≡_, sym, ap, _∙_, subst}
+use Prim.Native.Nat.{ℕ, zero, _+_, _-_, _/_, _^_, _≤_, _<_}
 use native.Mathlib.Omega.{arith}
 use native.Mathlib.Nat.{pos-of-ne-zero, lt-of-lt-of-le}
 use borrow.Author.Needs.{needs}
-use lib.Signed.{mag}
 use lib.Pow.{pow-mono}
 use lib.IntN.{ℤ}
 use mir.Facts.{toZ-ofZ}
@@ -12,7 +11,6 @@ use Rattle.word.specs.Refusals.{IsWord}
 use Rattle.write.proofs.Hub.{start-lt, below-end, at-zero, at-end, by-side}
 use Rattle.write.proofs.Sides.{Given, fine-cut, lower-lt, gap-le, upper-small, under-upper, coarse-tells}
 use Rattle.write.proofs.Exponents.{raise, raised-same, raised-inj}
-use Rattle.write.specs.declared.size.Start.{Start}
 use Rattle.write.specs.Offers.{Begins, firstBits, IsRaised, TellsPowers}
 use Rattle.write.proofs.size.nearest_inside.Statement.{statement}
 use Rattle.write.proofs.size.nearest_inside.Tie as tie

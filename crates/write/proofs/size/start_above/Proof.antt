@@ -1,14 +1,13 @@
 -- `start_above` meets its contract: leading zeros give the logarithm, and the bits are those of the tested rule. Assumes nothing.
 use mathlib.Core.Path.{sym, subst}
-use Prim.Native.Nat.{ℕ, zero, _+_, _-_, _*_, _^_, _≤_, _<_}
+use Prim.Native.Nat.{ℕ, zero, _+_, _-_, _≤_, _<_}
 use native.Mathlib.Omega.{arith}
 use native.Mathlib.Nat.{lt-of-le-of-lt, le-of-suc-le-suc}
 use borrow.Author.Needs.{needs}
 use lib.Dec.{lit<}
-use lib.IntN.{pos, negsuc}
+use lib.IntN.{pos}
 use lib.Count.{leadingZeros}
 use Rattle.word.proofs.Powers.{Log, leading-log}
-use Rattle.write.specs.declared.size.Start.{Start}
 use Rattle.write.specs.Offers.{Begins}
 use Rattle.write.proofs.Starts.{upper-begins, shifted-upper, upper-small}
 use Rattle.write.proofs.size.start_above.Statement.{statement}

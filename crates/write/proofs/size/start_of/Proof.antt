@@ -1,12 +1,11 @@
 -- `start_of` meets its contract: a characteristic and its size without a sign. Assumes nothing.
-use mathlib.Core.Path.{_≡_, sym, ap, _∙_, subst}
-use Prim.Native.Nat.{ℕ, _+_, _-_, _≤_, _<_}
+use mathlib.Core.Path.{sym, ap, _∙_, subst}
+use Prim.Native.Nat.{ℕ, _+_, _-_}
 use native.Mathlib.Omega.{arith}
 use native.Mathlib.Nat.{add-sub-cancel}
 use lib.Signed.{mag}
 use lib.IntN.{ℤ, pos, negsuc}
 use mir.Syntax.{w32}
-use Rattle.write.specs.declared.size.Start.{Start}
 use Rattle.word.proofs.Casts.{not-negative, is-negative, tested, plain-cast, plain-value, complement-fits, complement-cast, complement-more, complement-value}
 use Rattle.write.specs.Offers.{Begins}
 use Rattle.write.proofs.size.start_of.Statement.{statement}

@@ -1,7 +1,7 @@
 -- `by_rule` meets its contract: the nearest positive word, its sign, and the strict rule's test. Assumes nothing.
 use mathlib.Core.Bool.{Bool, true, false}
 use mathlib.Core.Path.{_≡_, sym, ap, subst, subst₂}
-use Prim.Native.Nat.{ℕ, _-_, _^_, _≤_, _<_}
+use Prim.Native.Nat.{_-_, _^_, _<_}
 use lib.IntN.{ℤ}
 use mir.Facts.{toZ-ofZ}
 use Rattle.word.specs.declared.answer.Answer.{Answer}

@@ -1,28 +1,26 @@
 -- `write` meets its contract: the width, zero, and any other value with its top bit moved to 2^63. Assumes nothing.
-use mathlib.Core.Path.{_≡_, refl, sym, ap, ap₂, _∙_, subst, subst₂}
-use Prim.Native.Nat.{ℕ, zero, suc, _-_, _*_, _%_, _^_, _≤_, _<_}
+use mathlib.Core.Path.{_≡_, refl, sym, ap, ap₂, _∙_, subst}
+use Prim.Native.Nat.{ℕ, zero, _-_, _*_, _%_, _^_, _≤_, _<_}
 use native.Mathlib.Nat.{pos-of-ne-zero, zero-mul, lt-of-le-of-lt, mul-pos}
 use native.Mathlib.Omega.{arith}
 use borrow.Author.Needs.{needs}
 use borrow.Author.Needs.{sfits-of}
-use lib.Signed.{mag}
 use lib.Dec.{lit<}
 use lib.Count.{leadingZeros}
 use lib.IntN.{ℤ, pos, _+ℤ_}
-use mir.Val.{Fits, SFits, toZ, ofZ}
+use mir.Val.{SFits, toZ, ofZ}
 use mir.Syntax.{w32, w64}
 use mir.Facts.{toZ-ofZ, toZ-pos}
 use Rattle.word.proofs.Signed.{add-mag}
 use Rattle.write.proofs.Normal.{zeros-le, shifted-full, shifted-offer}
-use Rattle.write.specs.Writes.{Writes, IsWritten}
+use Rattle.write.specs.Writes.{Writes}
 use Rattle.write.proofs.Exponents.{unit-some}
 use Rattle.word.specs.declared.refusal.Verdict.{Verdict}
 use Rattle.word.proofs.Verdicts.{width-through}
 use Rattle.word.specs.Refusals.{widthTest, through, refused}
 use Rattle.write.specs.Offers.{WritesSize}
 use Rattle.write.proofs.Rules.{zero-written}
-use Rattle.word.specs.declared.answer.Answer.{Answer}
-use Rattle.word.specs.Reads.{num, den, signedSize}
+use Rattle.word.specs.Reads.{num}
 use Rattle.write.proofs.writing.write.Statement.{statement}
 use Rattle.write.proofs.writing.write.Tie as tie
 

@@ -1,0 +1,91 @@
+-- What the letter demands of whole numbers, and what is promised of binary64, as statements about what the public contracts allow.
+use mathlib.Core.Path.{_≡_}
+use mathlib.Core.Bool.{Bool, false}
+use Prim.Native.Nat.{ℕ, _+_, _*_, _^_, _≤_}
+use lib.Dec.{T}
+use lib.IntN.{ℤ, pos, negsuc, natAbs}
+use lib.Ieee.{Float, nan, inf, fin, neg, lt, le}
+use lib.Ieee.Exact as Ieee
+use Rattle.word.specs.declared.answer.Answer.{Answer}
+use Rattle.word.specs.declared.refusal.Refusal.{Refusal}
+use Rattle.word.specs.declared.refusal.Verdict.{Verdict}
+use Rattle.word.specs.declared.width.Limit.{Limit}
+use Rattle.word.specs.Takum.{real, takum}
+use Rattle.word.specs.Refusals.{IsWord}
+use Rattle.word.specs.Widths.{narWord, GivesLimit}
+use Rattle.word.specs.Orders.{signed, order, negated}
+use Rattle.write.specs.declared.value.Rule.{Rule}
+use Rattle.write.specs.Writes.{HasValue, isNegative}
+use Rattle.whole.specs.declared.taking.Taking.{Taking}
+use Rattle.whole.specs.declared.taking.Whole.{Whole}
+use Rattle.whole.specs.Wholes.{overTest, WritesWhole, TakesWhole}
+use Rattle.binary64.specs.declared.taking.Binary64.{Binary64}
+use Rattle.binary64.specs.Takes.{TakesBinary64}
+use Rattle.binary64.specs.Writes.{WritesBinary64}
+
+-- the word w of n bits has the whole number x as its value
+unfoldable pub IsWhole : ℕ → ℤ → ℕ → Type 0
+IsWhole n x w = HasValue n (isNegative x) (natAbs x * 2 ^ 307) w
+
+-- ---- demand 3, the last sentence, with the limit that `Width::limit` answers
+-- every whole number from minus the limit to it has a word, and strict writing gives it
+unfoldable pub EveryWholeNumberUpToTheLimitIsWritten : Type 0
+EveryWholeNumberUpToTheLimitIsWritten = (n l : ℕ) (x : ℤ) (r : Answer) → GivesLimit n (Limit.Count l) → natAbs x ≤ l → WritesWhole n Rule.Strict x r → (w : ℕ) × (r ≡ Answer.Word w) × IsWhole n x w
+
+-- the limit plus one, of either sign, has none, and strict writing refuses it
+unfoldable pub TheLimitPlusOneIsRefused : Type 0
+TheLimitPlusOneIsRefused = (n l : ℕ) (x : ℤ) (r : Answer) → GivesLimit n (Limit.Count l) → natAbs x ≡ l + 1 → WritesWhole n Rule.Strict x r → (r ≡ Answer.Refused Refusal.Inexact) × ((w : ℕ) → IsWhole n x w → ⊥)
+
+-- ---- whole numbers in and out
+-- strict writing of a whole number keeps it
+unfoldable pub AWholeNumberIsKept : Type 0
+AWholeNumberIsKept = (n : ℕ) (x : ℤ) (w : ℕ) → WritesWhole n Rule.Strict x (Answer.Word w) → IsWhole n x w
+
+-- written strictly and taken out, a whole number inside signed 64 bits is itself, by either way of taking
+unfoldable pub AWholeNumberComesBack : Type 0
+AWholeNumberComesBack = (n : ℕ) (x : ℤ) (w : ℕ) (rule : Taking) (a : Whole) → overTest x ≡ Verdict.Through → WritesWhole n Rule.Strict x (Answer.Word w) → TakesWhole n rule w a → a ≡ Whole.Is x
+
+-- taken out strictly and written, a word is itself, by either rule
+unfoldable pub AWordComesBackFromItsWholeNumber : Type 0
+AWordComesBackFromItsWholeNumber = (n w : ℕ) (x : ℤ) (rule : Rule) (r : Answer) → TakesWhole n Taking.Strict w (Whole.Is x) → WritesWhole n rule x r → r ≡ Answer.Word w
+
+-- the greater word has no smaller whole number
+unfoldable pub TakingWholeNumbersKeepsOrder : Type 0
+TakingWholeNumbersKeepsOrder = (n : ℕ) (rule rule' : Taking) (w w' : ℕ) (x y : ℤ) → TakesWhole n rule w (Whole.Is x) → TakesWhole n rule' w' (Whole.Is y) → (order (signed n w) (signed n w') ≡ pos 1 → ⊥) → order x y ≡ pos 1 → ⊥
+
+-- ---- binary64
+-- up to width 57 the number out is exactly the word's value z * 2^-307
+unfoldable pub UpTo57TheNumberIsExact : Type 0
+UpTo57TheNumberIsExact = (n w : ℕ) (x : Float) → n ≤ 57 → TakesBinary64 n w (Binary64.Number x) → (z : ℤ) × (takum n w ≡ real z) × Ieee.HasValue x (isNegative z) (natAbs z) (2 ^ 307)
+
+-- and written again, by either rule, it is the word
+unfoldable pub UpTo57OutThenInIsTheWord : Type 0
+UpTo57OutThenInIsTheWord = (n w : ℕ) (rule : Rule) (x : Float) (r : Answer) → n ≤ 57 → TakesBinary64 n w (Binary64.Number x) → WritesBinary64 n rule x r → r ≡ Answer.Word w
+
+-- the order of words is never reversed, and up to width 57 it stays strict
+unfoldable pub TakingBinary64KeepsOrder : Type 0
+TakingBinary64KeepsOrder = (n v w : ℕ) (x y : Float) → TakesBinary64 n v (Binary64.Number x) → TakesBinary64 n w (Binary64.Number y) → order (signed n v) (signed n w) ≡ negsuc 0 → T (le x y) × (n ≤ 57 → T (lt x y))
+
+-- the negated word goes out as the negated number, and zero as positive zero
+unfoldable pub TheNegatedWordGoesOutNegated : Type 0
+TheNegatedWordGoesOutNegated = (n w : ℕ) (x : Float) (a : Binary64) → (w ≡ 0 → ⊥) → TakesBinary64 n w (Binary64.Number x) → TakesBinary64 n (negated n w) a → a ≡ Binary64.Number (neg x)
+
+unfoldable pub ZeroGoesOutPositive : Type 0
+ZeroGoesOutPositive = (n : ℕ) (x : Float) → TakesBinary64 n 0 (Binary64.Number x) → x ≡ fin false 0 (pos 0)
+
+-- NaN and both infinities give NaR, both zeros the zero word
+pub record SpecialNumbersAreWritten (n : ℕ) (rule : Rule) (r : Answer) : Type 0 where
+  pub not-a-number : WritesBinary64 n rule nan r → r ≡ Answer.Word (narWord n)
+  pub infinity : (s : Bool) → WritesBinary64 n rule (inf s) r → r ≡ Answer.Word (narWord n)
+  pub zero : (s : Bool) (e : ℤ) → WritesBinary64 n rule (fin s 0 e) r → r ≡ Answer.Word 0
+
+unfoldable pub SpecialNumbers : Type 0
+SpecialNumbers = (n : ℕ) (rule : Rule) (r : Answer) → 2 ≤ n → n ≤ 64 → SpecialNumbersAreWritten n rule r
+
+-- NaR goes out as no number
+unfoldable pub NaRGoesOutAsNone : Type 0
+NaRGoesOutAsNone = (n w : ℕ) (a : Binary64) → IsWord n w → w ≡ narWord n → TakesBinary64 n w a → a ≡ Binary64.NotReal
+
+-- a binary64 number that is the whole number x is written as x is, by either rule
+unfoldable pub Binary64AgreesWithWhole : Type 0
+Binary64AgreesWithWhole = (n : ℕ) (rule : Rule) (x : ℤ) (f : Float) (r r' : Answer) → Ieee.HasValue f (isNegative x) (natAbs x) 1 → WritesBinary64 n rule f r → WritesWhole n rule x r' → r ≡ r'

@@ -40,34 +40,35 @@ shifted-mirror nar w u some = ap (λ (b : Bool). cond b (w * u) (nar * u + nar *
 nar-shifted : (n : ℕ) → 2 ≤ n → n ≤ 64 → 2 ^ (n - 1) * 2 ^ (64 - n) ≡ 2 ^ 63
 nar-shifted n lo hi = pow-sum (n - 1) (64 - n) 63 (omega (arith, lo, hi))
 
-module _ (n w : ℕ) (i : IsWord n w) (some : zero < w) (other : w ≡ 2 ^ (n - 1) → ⊥) where
-  -- the word without its sign, there
-  plain : ℕ
+module _ (n w : ℕ) (i : IsWord n w) where
+  -- the word without its sign, at the top
+  pub plain : ℕ
   plain = withoutSign (2 ^ (n - 1)) w
 
-  at-top : withoutSign (2 ^ 63) (w * 2 ^ (64 - n)) ≡ plain * 2 ^ (64 - n)
+  pub at-top : withoutSign (2 ^ 63) (w * 2 ^ (64 - n)) ≡ plain * 2 ^ (64 - n)
   unfolding plain
   at-top = ap (λ (x : ℕ). withoutSign x (w * 2 ^ (64 - n))) (sym (nar-shifted n (i .least) (i .most))) ∙ shifted-mirror (2 ^ (n - 1)) w (2 ^ (64 - n)) (pow-pos (64 - n))
 
   sign-at-top : ltb (2 ^ 63) (w * 2 ^ (64 - n)) ≡ ltb (2 ^ (n - 1)) w
   sign-at-top = ap (λ (x : ℕ). ltb x (w * 2 ^ (64 - n))) (sym (nar-shifted n (i .least) (i .most))) ∙ scaled-test (2 ^ (n - 1)) w (2 ^ (64 - n)) (pow-pos (64 - n))
 
-  positive : IsWord n plain × (zero < plain) × (plain < 2 ^ (n - 1))
-  unfolding plain
-  positive = unsigned-word n (i .least) (i .most) w i some other
+  module _ (some : zero < w) (other : w ≡ 2 ^ (n - 1) → ⊥) where
+    positive : IsWord n plain × (zero < plain) × (plain < 2 ^ (n - 1))
+    unfolding plain
+    positive = unsigned-word n (i .least) (i .most) w i some other
 
-  pub sized : (s : Size) → Sizes (w * 2 ^ (64 - n)) s → (v : ℕ) × (takum n w ≡ real (signedSize (s .negative) v)) × (2 ^ 63 ≤ s .m) × IsSize (s .m) (s .h -ℤ pos 63) v
-  unfolding plain
-  sized s x =
-      let y = has-size n plain (positive .0) (positive .1) (positive .2) in
-      let m = x .significand ∙ ap (λ (t : ℕ). 2 ^ 63 + F 64 t * 2 ^ (63 - p 64 t)) at-top ∙ significand n plain (positive .0) (positive .1) (positive .2) in
-      let h = x .characteristic ∙ ap (c 64) at-top in
-      (
-        y .0,
-        unsigned-value n (i .least) (i .most) w (y .0) i some other (y .1) ∙ ap (λ (b : Bool). real (signedSize b (y .0))) (sym (x .sign ∙ sign-at-top)),
-        subst (λ (k : ℕ). 2 ^ 63 ≤ k) (sym m) (y .2),
-        subst₂ (λ (k : ℕ) (z : ℤ). IsSize k (z -ℤ pos 63) (y .0)) (sym m) (sym h) (y .3),
-      )
+    pub sized : (s : Size) → Sizes (w * 2 ^ (64 - n)) s → (v : ℕ) × (takum n w ≡ real (signedSize (s .negative) v)) × (2 ^ 63 ≤ s .m) × IsSize (s .m) (s .h -ℤ pos 63) v
+    unfolding plain
+    sized s x =
+        let y = has-size n plain (positive .0) (positive .1) (positive .2) in
+        let m = x .significand ∙ ap (λ (t : ℕ). 2 ^ 63 + F 64 t * 2 ^ (63 - p 64 t)) at-top ∙ significand n plain (positive .0) (positive .1) (positive .2) in
+        let h = x .characteristic ∙ ap (c 64) at-top in
+        (
+          y .0,
+          unsigned-value n (i .least) (i .most) w (y .0) i some other (y .1) ∙ ap (λ (b : Bool). real (signedSize b (y .0))) (sym (x .sign ∙ sign-at-top)),
+          subst (λ (k : ℕ). 2 ^ 63 ≤ k) (sym m) (y .2),
+          subst₂ (λ (k : ℕ) (z : ℤ). IsSize k (z -ℤ pos 63) (y .0)) (sym m) (sym h) (y .3),
+        )
 
 -- the same as the machine has it: a word that is shifted to the top loses nothing
 module _ (n w : ℕ) (i : IsWord n w) where

@@ -62,11 +62,11 @@ module _ (n : ℕ) (lo : 2 ≤ n) (hi : n ≤ 64) (h : ℤ) (m w : ℕ) where
   pub strict-refusal : TellsSize n w h m false → Settles n Rule.Strict h m w (Answer.Refused Refusal.Inexact)
   unfolding Settles RoundsSize WritesSize IsWritten TellsSize
   strict-refusal inexact s near = λ a b nonzero some offered. (
-      refl,
-      λ w' y.
-      let same = nearest-one n lo hi s a b w' w some (exact-nearest n lo hi a b nonzero some s w' y) (near a b some offered) in
-      inexact s (y .z) a b (exact-some n lo hi a b nonzero some (y .z) (y .same)) (subst (HasValue n s (y .z)) same (y .is)) some offered (y .same)
-    )
+    refl,
+    λ w' y.
+        let same = nearest-one n lo hi s a b w' w some (exact-nearest n lo hi a b nonzero some s w' y) (near a b some offered) in
+        inexact s (y .z) a b (exact-some n lo hi a b nonzero some (y .z) (y .same)) (subst (HasValue n s (y .z)) same (y .is)) some offered (y .same),
+  )
 
 -- a size that isn't nothing, in any unit
 pub size-some : (m v : ℕ) (e : ℤ) → 0 < m → m * num e ≡ v * den e → 0 < v

@@ -62,8 +62,7 @@ module _ (n w : ℕ) (i : IsWord n w) where
     sized s x =
         let y = has-size n plain (positive .0) (positive .1) (positive .2) in
         let m = x .significand ∙ ap (λ (t : ℕ). 2 ^ 63 + F 64 t * 2 ^ (63 - p 64 t)) at-top ∙ significand n plain (positive .0) (positive .1) (positive .2) in
-        let h = x .characteristic ∙ ap (c 64) at-top in
-        (
+        let h = x .characteristic ∙ ap (c 64) at-top in (
           y .0,
           unsigned-value n (i .least) (i .most) w (y .0) i some other (y .1) ∙ ap (λ (b : Bool). real (signedSize b (y .0))) (sym (x .sign ∙ sign-at-top)),
           subst (λ (k : ℕ). 2 ^ 63 ≤ k) (sym m) (y .2),

@@ -5,6 +5,7 @@ use word::size::size_of;
 use word::width::Width;
 ghost use mathlib.Core.Path.{_≡_};
 ghost use Prim.Native.Nat.{_^_, _≤_, _<_};
+ghost use lib.IntN.{pos};
 ghost use Rattle.word.specs.Reads.{signedSize};
 ghost use Rattle.whole.specs.Wholes.{TakesWhole};
 ghost use Rattle.whole.specs.Parts.{greatestSize, byRule, TakesSize};
@@ -28,31 +29,28 @@ pub fn take_whole(width: Width, rule: Taking, word: u64) -> Whole
     if let Verdict::Refused(q) = verdict {
         return Whole::Refused(q);
     }
-    if word == 0 {
-        return Whole::Is(0);
-    }
     let string = word << (64 - width.bits);
     if string == 1 << 63 {
         return Whole::Refused(Refusal::NotReal);
     }
     let size = size_of(string);
-    take_size(rule, size.negative, size.h, size.m)
+    // Below one the whole part is zero, and only zero itself has no fraction.
+    if size.h < 0 {
+        return by_rule(rule, word == 0, 0);
+    }
+    take_size(rule, size.negative, size.h as u32, size.m)
 }
 
 // The whole part of the size m * 2^(h - 63) with its sign, m having its top bit set.
-fn take_size(rule: Taking, negative: bool, h: i32, m: u64) -> Whole
+fn take_size(rule: Taking, negative: bool, h: u32, m: u64) -> Whole
     requires { ⌜ 2 ^ 63 ≤ m ⌝ }
-    ensures { λ a. ⌜ TakesSize rule negative h m a ⌝ }
+    ensures { λ a. ⌜ TakesSize rule negative (pos h) m a ⌝ }
 {
-    // Below one the whole part is zero.
-    if h < 0 {
-        return by_rule(rule, false, 0);
-    }
     if 63 < h {
         return Whole::Refused(Refusal::Over);
     }
     // The lowest 63 - h bits are the fraction.
-    let fraction = 63 - h as u32;
+    let fraction = 63 - h;
     let size = m >> fraction;
     if greatest_size(negative) < size {
         return Whole::Refused(Refusal::Over);

@@ -1,13 +1,17 @@
-// The plain Rust that the library is timed against: rounded writing and moving, every width from 2 to 64, the same refusals.
-// No loop and no table. The paper's letters: n the width, r the regime, c the characteristic.
+// The plain Rust that the library is timed against: rounded writing and moving, whole numbers and binary64 in and out, every width from
+// 2 to 64, the same refusals. No loop and no table. The paper's letters: n the width, r the regime, c the characteristic.
+pub mod binary64;
+pub mod whole;
 
 pub const WIDTH: u32 = 1;
 pub const STRAY: u32 = 2;
+pub const NAR: u32 = 3;
+pub const OVER: u32 = 5;
 
 const TOP: u64 = 1 << 63;
 
 // Plus or minus m * 2^k as a word.
-#[inline]
+#[inline(always)]
 pub fn write(n: u32, negative: bool, m: u64, k: i32) -> Result<u64, u32> {
     if !(2..=64).contains(&n) {
         return Err(WIDTH);
@@ -25,20 +29,34 @@ pub fn move_word(from: u32, to: u32, word: u64) -> Result<u64, u32> {
     if !(2..=64).contains(&from) || !(2..=64).contains(&to) {
         return Err(WIDTH);
     }
-    if from < 64 && word >> from != 0 {
-        return Err(STRAY);
-    }
-    // The sign at the top: zero bits follow on the right, as the format wants below 12 bits.
-    let string = word << (64 - from);
+    let string = string_of(from, word)?;
     if string == 0 {
         return Ok(0);
     }
     if string == TOP {
         return Ok(1 << (to - 1));
     }
-    let negative = string >= TOP;
-    let (h, m) = read_positive(if negative { string.wrapping_neg() } else { string });
+    let (negative, h, m) = read(string);
     Ok(with_sign(to, negative, nearest(to, h as i64, m)))
+}
+
+// A word with its sign at the top of 64 bits: zero bits follow on the right, as the format wants below 12 bits.
+#[inline]
+fn string_of(n: u32, word: u64) -> Result<u64, u32> {
+    if !(2..=64).contains(&n) {
+        return Err(WIDTH);
+    }
+    if n < 64 && word >> n != 0 {
+        return Err(STRAY);
+    }
+    Ok(word << (64 - n))
+}
+
+// The sign and the size of a string that is neither zero nor NaR.
+#[inline]
+fn read(string: u64) -> (bool, i32, u64) {
+    let (h, m) = read_positive((string as i64).unsigned_abs());
+    (string >= TOP, h, m)
 }
 
 // The size of a positive string is m * 2^(h - 63), m having its top bit set.
@@ -54,7 +72,7 @@ fn read_positive(string: u64) -> (i32, u64) {
 }
 
 // The positive word nearest to m * 2^(h - 63), m having its top bit set.
-#[inline]
+#[inline(always)]
 fn nearest(n: u32, h: i64, m: u64) -> u64 {
     let last = (1u64 << (n - 1)) - 1;
     if h > 254 {
@@ -103,7 +121,9 @@ fn nearest_narrow(n: u32, h: i32, m: u64, low: u64, last: u64) -> u64 {
     low + (beyond > half || (beyond == half && low & 1 == 1)) as u64
 }
 
+// Without a branch, since nobody can foretell the sign.
 #[inline]
 fn with_sign(n: u32, negative: bool, word: u64) -> u64 {
-    if negative { word.wrapping_neg() & (u64::MAX >> (64 - n)) } else { word }
+    let flip = (negative as u64).wrapping_neg();
+    (word ^ flip).wrapping_sub(flip) & (u64::MAX >> (64 - n))
 }

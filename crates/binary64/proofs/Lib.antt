@@ -12,6 +12,7 @@ pub mod Patterns
 pub mod Raised
 pub mod RoundTrip
 pub mod Scaling
+pub mod Short
 pub mod Signs
 pub mod Specials
 pub mod Taken

@@ -2,9 +2,9 @@
 use mathlib.Core.Path.{_≡_, sym, ap, _∙_, subst}
 use mathlib.Core.Bool.{Bool}
 use Prim.Native.Nat.{ℕ, _+_, _-_, _*_, _^_, _≤_, _<_}
-use native.Mathlib.Nat.{mul-assoc, mul-comm, mul-right-comm}
+use native.Mathlib.Nat.{add-zero, mul-assoc, mul-comm, mul-right-comm}
 use native.Mathlib.Omega.{arith}
-use lib.IntN.{pos, _+ℤ_, _-ℤ_, +ℤ-assoc}
+use lib.IntN.{pos, negsuc, _+ℤ_, _-ℤ_, +ℤ-assoc}
 use lib.Pow.{pow-add, pow-pos}
 use lib.Ieee.{Float, nan, inf, fin, binary64, up, down, ofBits}
 use lib.Ieee.Exact.{HasValue}
@@ -44,7 +44,7 @@ module _ (n : ℕ) (rule : Rule) (r : Answer) where
       count : x + (1 - l) + 1381 - 1075 ≡ x - l + 307
       count = omega (arith, h, g)
 
-  pub pattern-written : (b : ℕ) → (field b ≡ 2047 → ⊥) → IsWritten n rule (signBit b) ((digits b + lead (field b) * 2 ^ 52) * num (pos (field b + (1 - lead (field b))) -ℤ pos 1075 +ℤ pos 307)) (den (pos (field b + (1 - lead (field b))) -ℤ pos 1075 +ℤ pos 307)) r → IsWrittenBinary64 n rule (ofBits binary64 b) r
+  pattern-written : (b : ℕ) → (field b ≡ 2047 → ⊥) → IsWritten n rule (signBit b) ((digits b + lead (field b) * 2 ^ 52) * num (pos (field b + (1 - lead (field b))) -ℤ pos 1075 +ℤ pos 307)) (den (pos (field b + (1 - lead (field b))) -ℤ pos 1075 +ℤ pos 307)) r → IsWrittenBinary64 n rule (ofBits binary64 b) r
   pattern-written b h x =
       let l = lead (field b) in
       let m = digits b + l * 2 ^ 52 in
@@ -57,3 +57,11 @@ module _ (n : ℕ) (rule : Rule) (r : Answer) where
       ∙ sym (mul-assoc m (2 ^ (t + 307)) (den k))
       ∙ ap (λ (z : ℕ). z * den k) (ap (λ (z : ℕ). m * z) (pow-add 2 t 307) ∙ sym (mul-assoc m (2 ^ t) (2 ^ 307))))
       rule r x)
+
+  -- the same by whether the pattern has a leading digit
+  module _ (b : ℕ) (bounded : field b ≡ 2047 → ⊥) where
+    pub with-lead : lead (field b) ≡ 1 → IsWritten n rule (signBit b) ((digits b + 2 ^ 52) * num (pos (field b) -ℤ pos 1075 +ℤ pos 307)) (den (pos (field b) -ℤ pos 1075 +ℤ pos 307)) r → IsWrittenBinary64 n rule (ofBits binary64 b) r
+    with-lead q x = pattern-written b bounded (subst (λ (l : ℕ). IsWritten n rule (signBit b) ((digits b + l * 2 ^ 52) * num (pos (field b + (1 - l)) -ℤ pos 1075 +ℤ pos 307)) (den (pos (field b + (1 - l)) -ℤ pos 1075 +ℤ pos 307)) r) (sym q) (subst (λ (y : ℕ). IsWritten n rule (signBit b) ((digits b + 2 ^ 52) * num (pos y -ℤ pos 1075 +ℤ pos 307)) (den (pos y -ℤ pos 1075 +ℤ pos 307)) r) (sym (add-zero (field b))) x))
+
+    pub without-lead : field b ≡ 0 → IsWritten n rule (signBit b) (digits b * num (negsuc 1073 +ℤ pos 307)) (den (negsuc 1073 +ℤ pos 307)) r → IsWrittenBinary64 n rule (ofBits binary64 b) r
+    without-lead q x = pattern-written b bounded (subst (λ (f : ℕ). IsWritten n rule (signBit b) ((digits b + lead f * 2 ^ 52) * num (pos (f + (1 - lead f)) -ℤ pos 1075 +ℤ pos 307)) (den (pos (f + (1 - lead f)) -ℤ pos 1075 +ℤ pos 307)) r) (sym q) (subst (λ (y : ℕ). IsWritten n rule (signBit b) (y * num (negsuc 1073 +ℤ pos 307)) (den (negsuc 1073 +ℤ pos 307)) r) (sym (add-zero (digits b))) x))

@@ -1,7 +1,7 @@
 // Taking a word out as a binary64 number.
-use word::reading::Reading;
-use word::reading::read;
 use word::refusal::Refusal;
+use word::refusal::Verdict;
+use word::size::size_of;
 use word::width::Width;
 ghost use mathlib.Core.Path.{_≡_};
 ghost use mathlib.Core.Bool.{false};
@@ -20,14 +20,24 @@ pub enum Binary64 {
 pub fn take_binary64(width: Width, word: u64) -> Binary64
     ensures { λ a. ⌜ TakesBinary64 (width .bits) word a ⌝ }
 {
-    match read(width, word) {
-        Reading::Zero => Binary64::Number(0.0),
-        Reading::NotReal => Binary64::NotReal,
-        Reading::Number { negative, h, m, p } => {
-            Binary64::Number(number(negative, m, (h + 1023) as u64 - p as u64))
-        }
-        Reading::Refused(q) => Binary64::Refused(q),
+    let verdict = width.test().then(width.test_word(word));
+    if let Verdict::Refused(q) = verdict {
+        return Binary64::Refused(q);
     }
+    if word == 0 {
+        return Binary64::Number(0.0);
+    }
+    let string = word << (64 - width.bits);
+    if string == 1 << 63 {
+        return Binary64::NotReal;
+    }
+    let size = size_of(string);
+    let j = (size.h + 960) as u64;
+    // Up to width 57 a significand has at most 53 digits, and the lowest eleven bits here are zero.
+    if width.bits < 58 {
+        return Binary64::Number(number(size.negative, size.m >> 11, j + 11));
+    }
+    Binary64::Number(number(size.negative, size.m, j))
 }
 
 // The number m * 2^(j - 1023) with its sign. Scaling and the sign change nothing more: they are exact.
@@ -42,7 +52,7 @@ fn number(negative: bool, m: u64, j: u64) -> f64
     size
 }
 
-// The whole number m: exactly below 2^53, as every significand up to width 57 is, and with one rounding from there on.
+// The whole number m: exactly below 2^53, as the significands up to width 57 are, and with one rounding from there on.
 fn nearest(m: u64) -> f64
     ensures { λ r. ⌜ r ≡ round binary64 false m 1 ⌝ }
 {

@@ -5,8 +5,6 @@ use write::value::Rule;
 use write::value::Value;
 use write::writing::write;
 ghost use mathlib.Core.Path.{_≡_};
-ghost use mathlib.Core.Bool.{cond};
-ghost use lib.Dec.{eqb};
 ghost use lib.Ieee.{binary64, ofBits, toBits};
 ghost use Rattle.binary64.specs.Writes.{WritesBinary64};
 
@@ -36,21 +34,21 @@ fn write_bits(width: Width, rule: Rule, bits: u64) -> Answer
     if exponent == 0x7ff {
         return width.nar();
     }
-    let lead = leading_digit(exponent);
+    let negative = bits >> 63 != 0;
+    let digits = bits & 0xf_ffff_ffff_ffff;
+    // An exponent of 0 has no leading digit, and counts as an exponent of 1.
+    if exponent == 0 {
+        let small = Value {
+            negative,
+            m: digits,
+            k: -1074,
+        };
+        return write(width, rule, small);
+    }
     let value = Value {
-        negative: bits >> 63 != 0,
-        m: (bits & 0xf_ffff_ffff_ffff) + (lead << 52),
-        k: (exponent + (1 - lead)) as i32 - 1075,
+        negative,
+        m: digits + (1 << 52),
+        k: exponent as i32 - 1075,
     };
     write(width, rule, value)
-}
-
-// An exponent of 0 has no leading digit, and counts as an exponent of 1.
-fn leading_digit(exponent: u64) -> u64
-    ensures { λ r. ⌜ r ≡ cond (eqb exponent 0) 0 1 ⌝ }
-{
-    if exponent == 0 {
-        return 0;
-    }
-    1
 }

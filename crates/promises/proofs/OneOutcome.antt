@@ -1,4 +1,5 @@
 -- Two outcomes that a public contract allows are equal, for each public call. Assumes nothing.
+use mathlib.Core.Bool.{Bool}
 use mathlib.Core.Path.{_≡_, refl, sym, ap, ap₂, _∙_, subst}
 use mathlib.Core.List.{List, [], _∷_}
 use mathlib.Core.Logic.{inl, inr}
@@ -7,12 +8,14 @@ use native.Mathlib.Nat.{le-antisymm}
 use lib.IntN.{ℤ}
 use Rattle.word.specs.declared.answer.Answer.{Answer}
 use Rattle.word.specs.declared.fields.Fields.{Fields}
+use Rattle.word.specs.declared.size.Size.{Size}
 use Rattle.word.specs.declared.order.Comparison.{Comparison}
 use Rattle.word.specs.declared.reading.Reading.{Reading}
 use Rattle.word.specs.declared.width.Limit.{Limit}
 use Rattle.word.specs.declared.width.Made.{Made}
 use Rattle.word.specs.Takum.{takum, fractionBits}
 use Rattle.word.specs.Cuts.{Cuts}
+use Rattle.word.specs.Sizes.{Sizes}
 use Rattle.word.specs.Widths.{Greatest, greatest, none, IsLimit, Makes, GivesWord, GivesLimit}
 use Rattle.word.specs.Reads.{IsReading, Reads}
 use Rattle.word.specs.Orders.{signed, order, negated, Compares, Negates}
@@ -75,6 +78,12 @@ comes-back-one n w a b = decided-one Answer.Refused (λ z. z ≡ Answer.Word w) 
 -- the fields of a string
 pub cuts-one : (t : ℕ) (a b : Fields) → Cuts t a → Cuts t b → a ≡ b
 cuts-one t a b x y = ap₂ (λ (c : ℤ) (f : ℕ). record { c = c; f = f }) (x .characteristic ∙ sym (y .characteristic)) (x .fraction ∙ sym (y .fraction))
+
+-- its sign and size
+pub sizes-one : (t : ℕ) (a b : Size) → Sizes t a → Sizes t b → a ≡ b
+sizes-one t a b x y =
+    ap₂ (λ (s : Bool) (h : ℤ). record { negative = s; h = h; m = a .m }) (x .sign ∙ sym (y .sign)) (x .characteristic ∙ sym (y .characteristic))
+    ∙ ap (λ (m : ℕ). record { negative = b .negative; h = b .h; m = m }) (x .significand ∙ sym (y .significand))
 
 -- ---- a chain of strict moves
 goes-one : (home : ℕ) (ns : List ℕ) (n w : ℕ) (a b : Answer) → Goes home n w ns a → Goes home n w ns b → a ≡ b

@@ -1,4 +1,11 @@
 // The calls that bench/ times, one word each, as functions that Rust links; a refusal is given as 0.
+use binary64::taking::Binary64;
+use binary64::taking::take_binary64;
+use binary64::writing::write_binary64;
+use whole::taking::Taking;
+use whole::taking::Whole;
+use whole::taking::take_whole;
+use whole::writing::write_whole;
 use word::answer::Answer;
 use word::width::Width;
 use write::moving::move_word;
@@ -6,7 +13,7 @@ use write::value::Rule;
 use write::value::Value;
 use write::writing::write;
 ghost use mathlib.Core.Path.{_≡_};
-ghost use Rattle.speed.specs.Calls.{wordOr0, GivesWritten, GivesMoved};
+ghost use Rattle.speed.specs.Calls.{wordOr0, GivesWritten, GivesMoved, GivesWholeWritten, GivesWholeTaken, GivesBinary64Written, GivesBinary64Taken};
 
 // Plus or minus m * 2^k, written rounded.
 #[no_mangle]
@@ -28,6 +35,45 @@ pub extern "C" fn speed_move(from: u32, to: u32, word: u64) -> u64
         Rule::Rounded,
         word,
     ))
+}
+
+// A whole number, written rounded.
+#[no_mangle]
+pub extern "C" fn speed_write_whole(n: u32, x: i64) -> u64
+    ensures { λ w. ⌜ GivesWholeWritten n x w ⌝ }
+{
+    word_of(write_whole(Width { bits: n }, Rule::Rounded, x))
+}
+
+// The whole number of a word, cut.
+#[no_mangle]
+pub extern "C" fn speed_take_whole(n: u32, word: u64) -> i64
+    ensures { λ x. ⌜ GivesWholeTaken n word x ⌝ }
+{
+    match take_whole(Width { bits: n }, Taking::Cut, word) {
+        Whole::Is(x) => x,
+        Whole::Refused(_) => 0,
+    }
+}
+
+// A binary64 number, written rounded.
+#[no_mangle]
+pub extern "C" fn speed_write_binary64(n: u32, x: f64) -> u64
+    ensures { λ w. ⌜ GivesBinary64Written n x w ⌝ }
+{
+    word_of(write_binary64(Width { bits: n }, Rule::Rounded, x))
+}
+
+// The binary64 number of a word; "no reading" is given as 0 too.
+#[no_mangle]
+pub extern "C" fn speed_take_binary64(n: u32, word: u64) -> f64
+    ensures { λ x. ⌜ GivesBinary64Taken n word x ⌝ }
+{
+    match take_binary64(Width { bits: n }, word) {
+        Binary64::Number(x) => x,
+        Binary64::NotReal => 0.0,
+        Binary64::Refused(_) => 0.0,
+    }
 }
 
 fn word_of(answer: Answer) -> u64

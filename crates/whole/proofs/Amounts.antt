@@ -1,4 +1,4 @@
--- How much a number that was read counts in 2^-307: its significand with its top bit at 2^63 times a power of two, or less than one. Assumes nothing.
+-- How much a size counts in 2^-307: its significand times a power of two, or less than one. Assumes nothing.
 use mathlib.Core.Path.{_≡_, refl, sym, ap, _∙_, subst}
 use mathlib.Core.Bool.{Bool, true, false, cond}
 use Prim.Native.Nat.{ℕ, zero, suc, _+_, _-_, _*_, _^_, _≤_, _<_}
@@ -14,12 +14,9 @@ use Rattle.word.proofs.Powers.{pow-sum}
 use Rattle.word.proofs.Signed.{difference}
 
 -- from one up
-pub amount : (i m p v : ℕ) → p ≤ 63 → IsSize m (pos i -ℤ pos p) v → v ≡ m * 2 ^ (63 - p) * 2 ^ (i + 244)
+pub amount : (i m v : ℕ) → IsSize m (pos i -ℤ pos 63) v → v ≡ m * 2 ^ (i + 244)
 unfolding IsSize num den
-amount i m p v short h =
-    sym (subst (λ (z : ℤ). m * num z ≡ v * den z) (sub-add (pos i) (pos p) (pos 307) ∙ difference (i + 307) p (omega (arith, short))) h ∙ mul-one v)
-    ∙ ap (λ (x : ℕ). m * x) (sym (pow-sum (63 - p) (i + 244) (i + 307 - p) (omega (arith, short))))
-    ∙ sym (mul-assoc m (2 ^ (63 - p)) (2 ^ (i + 244)))
+amount i m v h = sym (subst (λ (z : ℤ). m * num z ≡ v * den z) (sub-add (pos i) (pos 63) (pos 307) ∙ difference (i + 307) 63 (omega arith) ∙ ap pos (omega arith)) h ∙ mul-one v)
 
 -- -(i + 1) less p
 less : (i p : ℕ) → negsuc i -ℤ pos p ≡ negsuc (i + p)
@@ -40,16 +37,16 @@ small m k t v = by (ltb t (suc k)) refl
         ∙ ap (λ (x : ℕ). m * x) (pow-sum (t - suc k) (suc k) t (omega (arith, ltb-false t (suc k) q)))
 
 -- below one
-pub under-one : (i m p v : ℕ) → 2 ^ p ≤ m → m < 2 ^ (p + 1) → IsSize m (negsuc i -ℤ pos p) v → (0 < v) × (v < 2 ^ 307)
+pub under-one : (i m v : ℕ) → 2 ^ 63 ≤ m → m < 2 ^ 64 → IsSize m (negsuc i -ℤ pos 63) v → (0 < v) × (v < 2 ^ 307)
 unfolding IsSize
-under-one i m p v low high h = by (2 ^ 307) (pow-pos 307) (small m (i + p) 307 v (subst (λ (z : ℤ). m * num (z +ℤ pos 307) ≡ v * den (z +ℤ pos 307)) (less i p) h))
+under-one i m v low high h = by (2 ^ 307) (pow-pos 307) (small m (i + 63) 307 v (subst (λ (z : ℤ). m * num (z +ℤ pos 307) ≡ v * den (z +ℤ pos 307)) (less i 63) h))
   where
-    room : m < 2 ^ suc (i + p)
-    room = lt-of-lt-of-le high (pow-mono {i = p + 1} {j = suc (i + p)} (omega arith))
+    room : m < 2 ^ suc (i + 63)
+    room = lt-of-lt-of-le high (pow-mono {i = 64} {j = suc (i + 63)} (omega arith))
 
-    by : (u : ℕ) → 0 < u → v * 2 ^ suc (i + p) ≡ m * u → (0 < v) × (v < u)
-    by u some q = (positive v q, lt-of-mul-lt-mul-right (2 ^ suc (i + p)) (subst (λ (x : ℕ). x < u * 2 ^ suc (i + p)) (sym q) (subst (λ (x : ℕ). m * u < x) (mul-comm (2 ^ suc (i + p)) u) (mul-lt-mul-of-pos-right room some))))
+    by : (u : ℕ) → 0 < u → v * 2 ^ suc (i + 63) ≡ m * u → (0 < v) × (v < u)
+    by u some q = (positive v q, lt-of-mul-lt-mul-right (2 ^ suc (i + 63)) (subst (λ (x : ℕ). x < u * 2 ^ suc (i + 63)) (sym q) (subst (λ (x : ℕ). m * u < x) (mul-comm (2 ^ suc (i + 63)) u) (mul-lt-mul-of-pos-right room some))))
       where
-        positive : (v : ℕ) → v * 2 ^ suc (i + p) ≡ m * u → 0 < v
-        positive zero q = absurd (omega (arith, q, zero-mul (2 ^ suc (i + p)), mul-pos (lt-of-lt-of-le (pow-pos p) low) some))
+        positive : (v : ℕ) → v * 2 ^ suc (i + 63) ≡ m * u → 0 < v
+        positive zero q = absurd (omega (arith, q, zero-mul (2 ^ suc (i + 63)), mul-pos (lt-of-lt-of-le (pow-pos 63) low) some))
         positive (suc v) q = omega arith

@@ -1,7 +1,6 @@
 -- The laws of whole numbers and of the exact-count limit, one idea a file.
 pub mod Amounts
 pub mod Answers
-pub mod ByReading
 pub mod Fractions
 pub mod InAndOut
 pub mod LimitBeyond

@@ -38,7 +38,7 @@ pub exact-value : (z x : ℤ) → IsWholePart z x → natAbs x * 2 ^ 307 ≡ nat
 exact-value z x part q = sym (ap valueOf (part .sign) ∙ signed-value (isNegative z) (natAbs x) ∙ ap (signedSize (isNegative z)) q ∙ rejoined z)
 
 -- where nothing is lost both rules answer alike
-exactly : (rule : Taking) (x : ℤ) → byRule rule true x ≡ Whole.Is x
+pub exactly : (rule : Taking) (x : ℤ) → byRule rule true x ≡ Whole.Is x
 unfolding byRule
 exactly Taking.Cut x = refl
 exactly Taking.Strict x = refl

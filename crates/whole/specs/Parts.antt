@@ -1,10 +1,11 @@
--- What the parts of taking out answer: the whole part of a number that was read, its range, its sign and the rule.
+-- What the parts of taking out answer: the whole part of a size, its range, its sign and the rule.
+use mathlib.Core.Path.{_≡_}
 use mathlib.Core.Bool.{Bool, cond}
 use Prim.Native.Nat.{ℕ, _-_, _^_}
-use lib.IntN.{ℤ}
+use lib.IntN.{ℤ, pos, _-ℤ_}
 use Rattle.word.specs.declared.refusal.Refusal.{Refusal}
-use Rattle.word.specs.Takum.{Takum}
-use Rattle.word.specs.Reads.{IsNumber}
+use Rattle.word.specs.Takum.{Takum, real}
+use Rattle.word.specs.Reads.{IsSize, signedSize}
 use Rattle.whole.specs.declared.taking.Taking.{Taking}
 use Rattle.whole.specs.declared.taking.Whole.{Whole}
 use Rattle.whole.specs.Wholes.{IsTaken}
@@ -18,6 +19,6 @@ unfoldable pub byRule : Taking → Bool → ℤ → Whole
 byRule Taking.Cut exactly x = Whole.Is x
 byRule Taking.Strict exactly x = cond exactly (Whole.Is x) (Whole.Refused Refusal.Inexact)
 
--- what is taken out of every word that means this number
-unfoldable pub TakesNumber : Taking → Bool → ℤ → ℕ → ℕ → Whole → Type 0
-TakesNumber rule negative h m p a = (t : Takum) (k : ℕ) → IsNumber t k negative h m p → IsTaken rule t a
+-- what is taken out of every word whose value has this sign and the size m * 2^(h - 63)
+unfoldable pub TakesSize : Taking → Bool → ℤ → ℕ → Whole → Type 0
+TakesSize rule negative h m a = (t : Takum) (v : ℕ) → t ≡ real (signedSize negative v) → IsSize m (h -ℤ pos 63) v → IsTaken rule t a

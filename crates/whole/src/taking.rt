@@ -1,13 +1,14 @@
 // A whole number out: the whole part of what a word means, cut or strict.
-use word::reading::Reading;
-use word::reading::read;
 use word::refusal::Refusal;
+use word::refusal::Verdict;
+use word::size::size_of;
 use word::width::Width;
 ghost use mathlib.Core.Path.{_≡_};
-ghost use Prim.Native.Nat.{_+_, _^_, _≤_, _<_};
+ghost use Prim.Native.Nat.{_^_, _≤_, _<_};
+ghost use lib.IntN.{pos};
 ghost use Rattle.word.specs.Reads.{signedSize};
 ghost use Rattle.whole.specs.Wholes.{TakesWhole};
-ghost use Rattle.whole.specs.Parts.{greatestSize, byRule, TakesNumber};
+ghost use Rattle.whole.specs.Parts.{greatestSize, byRule, TakesSize};
 
 // Cut drops the fraction toward zero, strict refuses a value that has one.
 pub enum Taking {
@@ -24,34 +25,37 @@ pub enum Whole {
 pub fn take_whole(width: Width, rule: Taking, word: u64) -> Whole
     ensures { λ a. ⌜ TakesWhole (width .bits) rule word a ⌝ }
 {
-    match read(width, word) {
-        Reading::Zero => Whole::Is(0),
-        Reading::NotReal => Whole::Refused(Refusal::NotReal),
-        Reading::Number { negative, h, m, p } => take_number(rule, negative, h, m, p),
-        Reading::Refused(q) => Whole::Refused(q),
+    let verdict = width.test().then(width.test_word(word));
+    if let Verdict::Refused(q) = verdict {
+        return Whole::Refused(q);
     }
+    let string = word << (64 - width.bits);
+    if string == 1 << 63 {
+        return Whole::Refused(Refusal::NotReal);
+    }
+    let size = size_of(string);
+    // Below one the whole part is zero, and only zero itself has no fraction.
+    if size.h < 0 {
+        return by_rule(rule, word == 0, 0);
+    }
+    take_size(rule, size.negative, size.h as u32, size.m)
 }
 
-// The whole part of the size m * 2^(h - p) with its sign, 2^p <= m < 2^(p + 1).
-fn take_number(rule: Taking, negative: bool, h: i32, m: u64, p: u32) -> Whole
-    requires { ⌜ (p ≤ 63) × (2 ^ p ≤ m) × (m < 2 ^ (p + 1)) ⌝ }
-    ensures { λ a. ⌜ TakesNumber rule negative h m p a ⌝ }
+// The whole part of the size m * 2^(h - 63) with its sign, m having its top bit set.
+fn take_size(rule: Taking, negative: bool, h: u32, m: u64) -> Whole
+    requires { ⌜ 2 ^ 63 ≤ m ⌝ }
+    ensures { λ a. ⌜ TakesSize rule negative (pos h) m a ⌝ }
 {
-    // Below one the whole part is zero.
-    if h < 0 {
-        return by_rule(rule, false, 0);
-    }
     if 63 < h {
         return Whole::Refused(Refusal::Over);
     }
-    // The size is full * 2^(h - 63), so the lowest 63 - h bits are the fraction.
-    let full = m << (63 - p);
-    let fraction = 63 - h as u32;
-    let size = full >> fraction;
+    // The lowest 63 - h bits are the fraction.
+    let fraction = 63 - h;
+    let size = m >> fraction;
     if greatest_size(negative) < size {
         return Whole::Refused(Refusal::Over);
     }
-    by_rule(rule, size << fraction == full, with_sign(negative, size))
+    by_rule(rule, size << fraction == m, with_sign(negative, size))
 }
 
 // The greatest size of a signed 64-bit number.

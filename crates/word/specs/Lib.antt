@@ -3,5 +3,6 @@ pub mod Cuts
 pub mod Orders
 pub mod Reads
 pub mod Refusals
+pub mod Sizes
 pub mod Takum
 pub mod Widths

@@ -5,4 +5,5 @@ pub mod fields;
 pub mod order;
 pub mod reading;
 pub mod refusal;
+pub mod size;
 pub mod width;

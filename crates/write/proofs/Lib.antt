@@ -16,6 +16,7 @@ pub mod Rules
 pub mod Scales
 pub mod Sides
 pub mod Signs
+pub mod Sized
 pub mod Starts
 pub mod Strings
 pub mod Tops

@@ -1,4 +1,4 @@
--- What each rule makes of the nearest positive word. Assumes nothing.
+-- The nearest word with its sign, and what each rule makes of it. Assumes nothing.
 use mathlib.Core.Path.{_≡_, refl, sym, ap, _∙_, subst, subst₂}
 use mathlib.Core.Bool.{Bool, true, false}
 use Prim.Native.Nat.{ℕ, zero, suc, _-_, _*_, _^_, _≤_, _<_}
@@ -9,17 +9,17 @@ use lib.IntN.{ℤ, pos, _+ℤ_, _-ℤ_}
 use lib.Pow.{pow-pos}
 use Rattle.word.specs.Takum.{Takum, real}
 use Rattle.word.specs.Reads.{num, den, IsSize, IsNumber, signedSize}
-use Rattle.word.specs.Refusals.{IsWord}
 use Rattle.word.specs.declared.answer.Answer.{Answer}
 use Rattle.word.specs.declared.refusal.Refusal.{Refusal}
 use Rattle.word.proofs.Words.{takum-zero}
 use Rattle.write.specs.declared.value.Rule.{Rule}
 use Rattle.write.specs.declared.size.Rest.{Rest}
 use Rattle.write.specs.Writes.{HasValue, Nearest, zero, other, IsWritten, isNegative, IsMoved}
-use Rattle.write.specs.Offers.{Amounts, IsOffered, IsNearest, TellsExact, withSign, WritesSize}
+use Rattle.write.specs.Offers.{Amounts, IsOffered, IsNearest, RoundsSize, TellsSize, withSign, WritesSize, Settles}
 use Rattle.write.proofs.Exponents.{unit-some}
+use Rattle.write.proofs.Places.{nearest-one}
 use Rattle.write.proofs.Scales.{plain-offer, written-times}
-use Rattle.write.proofs.Signs.{signed-nearest, nearest-positive, signed-exact, none-exact}
+use Rattle.write.proofs.Signs.{signed-nearest, nearest-positive, exact-some, exact-nearest}
 
 -- zero has no sign
 pub no-sign : (s : Bool) → signedSize s 0 ≡ pos 0
@@ -41,23 +41,32 @@ module _ (n : ℕ) (lo : 2 ≤ n) (hi : n ≤ 64) (h : ℤ) (m w : ℕ) (near : 
   unfolding IsNearest
   at-all = near (m * num (h -ℤ pos 63 +ℤ pos 307)) (den (h -ℤ pos 63 +ℤ pos 307)) (unit-some (h -ℤ pos 63 +ℤ pos 307) .1) (plain-offer m (h -ℤ pos 63))
 
-  pub is-word : IsWord n w
-  is-word = at-all .is .word
-
   pub is-positive : (0 < w) × (w < 2 ^ (n - 1))
   is-positive = nearest-positive n lo hi (m * num (h -ℤ pos 63 +ℤ pos 307)) (den (h -ℤ pos 63 +ℤ pos 307)) w at-all
 
-  pub rounded-word : (s : Bool) → WritesSize n Rule.Rounded s h m (Answer.Word (withSign n s w))
-  unfolding WritesSize IsWritten IsNearest
-  rounded-word s = λ a b nonzero some offered. other nonzero (signed-nearest n lo hi s a b w (near a b some offered))
+  pub signed-size : (s : Bool) → RoundsSize n s h m (withSign n s w)
+  unfolding RoundsSize IsNearest
+  signed-size s = λ a b some offered. signed-nearest n lo hi s a b w (near a b some offered)
 
-  pub strict-word : (s : Bool) → TellsExact n w h m true → WritesSize n Rule.Strict s h m (Answer.Word (withSign n s w))
-  unfolding WritesSize IsWritten TellsExact
-  strict-word s exact = λ a b nonzero some offered. signed-exact n lo hi a b nonzero some s w (exact a b some offered)
+-- ---- what each rule makes of it
+module _ (n : ℕ) (lo : 2 ≤ n) (hi : n ≤ 64) (h : ℤ) (m w : ℕ) where
+  pub rounded-word : Settles n Rule.Rounded h m w (Answer.Word w)
+  unfolding Settles RoundsSize WritesSize IsWritten
+  rounded-word s near = λ a b nonzero some offered. other nonzero (near a b some offered)
 
-  pub strict-refusal : (s : Bool) → TellsExact n w h m false → WritesSize n Rule.Strict s h m (Answer.Refused Refusal.Inexact)
-  unfolding WritesSize IsWritten TellsExact IsNearest
-  strict-refusal s inexact = λ a b nonzero some offered. (refl, none-exact n lo hi a b nonzero some w (near a b some offered) (inexact a b some offered) s)
+  pub strict-word : TellsSize n w h m true → Settles n Rule.Strict h m w (Answer.Word w)
+  unfolding Settles RoundsSize WritesSize IsWritten TellsSize
+  strict-word exact s near = λ a b nonzero some offered. let x = near a b some offered in
+      record { z = x .z; is = x .is; same = exact s (x .z) a b (x .some) (x .is) some offered }
+
+  pub strict-refusal : TellsSize n w h m false → Settles n Rule.Strict h m w (Answer.Refused Refusal.Inexact)
+  unfolding Settles RoundsSize WritesSize IsWritten TellsSize
+  strict-refusal inexact s near = λ a b nonzero some offered. (
+    refl,
+    λ w' y.
+        let same = nearest-one n lo hi s a b w' w some (exact-nearest n lo hi a b nonzero some s w' y) (near a b some offered) in
+        inexact s (y .z) a b (exact-some n lo hi a b nonzero some (y .z) (y .same)) (subst (HasValue n s (y .z)) same (y .is)) some offered (y .same),
+  )
 
 -- a size that isn't nothing, in any unit
 pub size-some : (m v : ℕ) (e : ℤ) → 0 < m → m * num e ≡ v * den e → 0 < v

@@ -11,12 +11,13 @@ use Rattle.word.specs.Takum.{takum, real}
 use Rattle.word.specs.Refusals.{IsWord}
 use Rattle.word.specs.Orders.{negated}
 use Rattle.word.specs.Reads.{signedSize}
+use Rattle.word.specs.Sizes.{withoutSign}
 use lib.Pow.{pow-pos}
 use Rattle.word.proofs.Powers.{pow-sum}
 use Rattle.word.proofs.Signed.{negated-other}
 use Rattle.word.proofs.Values.{grown, words-differ}
 use Rattle.write.specs.Writes.{HasValue, distance, Nearest, IsExact}
-use Rattle.write.specs.Offers.{withSign, withoutSign}
+use Rattle.write.specs.Offers.{withSign}
 use Rattle.write.proofs.Nearest.{distance-below, distance-above, either-side}
 use Rattle.write.proofs.Places.{twice, wordOf, Place, has-value, value-is, place-of, to-word, from-word, nearest-one}
 
@@ -80,25 +81,9 @@ module _ (n : ℕ) (lo : 2 ≤ n) (hi : n ≤ 64) where
 
   -- ---- exactly the value, which is not zero
   module _ (a b : ℕ) (nonzero : zero < a) (some : zero < b) where
-    size-some : (z : ℕ) → z * b ≡ a → zero < z
-    size-some zero q = absurd (omega (arith, nonzero, q, zero-mul b))
-    size-some (suc i) q = omega arith
-
-    exact-place : (s : Bool) (w : ℕ) (x : IsExact n s a b w) → Place n lo hi s (x .z) w
-    exact-place s w x = place-of n lo hi s (x .z) w (size-some (x .z) (x .same)) (x .is)
-
-    at-place : (s : Bool) (v : ℕ) → zero < v → v < 2 ^ (n - 1) → grown n v * b ≡ a → IsExact n s a b (wordOf n s v)
-    at-place s v h l q = record { z = grown n v; is = has-value n lo hi s v h l; same = q }
-
-    pub signed-exact : (s : Bool) (w : ℕ) → IsExact n false a b w → IsExact n s a b (withSign n s w)
-    signed-exact s w x =
-        let t = exact-place false w x in
-        subst (IsExact n s a b) (signed-word s (t .v) w (t .first) (t .last) (t .word-is)) (at-place s (t .v) (t .first) (t .last) (ap (λ (y : ℕ). y * b) (sym (t .size-is)) ∙ x .same))
-
-    pub unsigned-exact : (s : Bool) (w : ℕ) → IsExact n s a b w → (v : ℕ) × IsExact n false a b v
-    unsigned-exact s w x =
-        let t = exact-place s w x in
-        (wordOf n false (t .v), at-place false (t .v) (t .first) (t .last) (ap (λ (y : ℕ). y * b) (sym (t .size-is)) ∙ x .same))
+    pub exact-some : (z : ℕ) → z * b ≡ a → zero < z
+    exact-some zero q = absurd (omega (arith, nonzero, q, zero-mul b))
+    exact-some (suc i) q = omega arith
 
     -- two words with one value are the same word
     pub one-word : (s : Bool) (z w w' : ℕ) → HasValue n s z w → HasValue n s z w' → w ≡ w'
@@ -108,7 +93,7 @@ module _ (n : ℕ) (lo : 2 ≤ n) (hi : n ≤ 64) where
     exact-nearest s w x =
         record {
           z = x .z;
-          some = size-some (x .z) (x .same);
+          some = exact-some (x .z) (x .same);
           is = x .is;
           nearest = λ z' w' h y. le-trans (le-of-eq none) zero-le;
           even = λ z' w' h y q. inl (one-word s (x .z) w' w (subst (λ (z : ℕ). HasValue n s z w') (same-size z' (sym q ∙ none)) y) (x .is));
@@ -119,9 +104,3 @@ module _ (n : ℕ) (lo : 2 ≤ n) (hi : n ≤ 64) where
 
         same-size : (z' : ℕ) → distance a (z' * b) ≡ 0 → z' ≡ x .z
         same-size z' q = eq-of-mul-eq-mul-right b some z' (x .z) (no-distance a (z' * b) q ∙ sym (x .same))
-
-    -- where the nearest word hasn't the value, no word has
-    pub none-exact : (w : ℕ) → Nearest n false a b w → (IsExact n false a b w → ⊥) → (s : Bool) (w' : ℕ) → IsExact n s a b w' → ⊥
-    none-exact w x f s w' y =
-        let t = unsigned-exact s w' y in
-        f (subst (IsExact n false a b) (nearest-one n lo hi false a b (t .0) w some (exact-nearest false (t .0) (t .1)) x) (t .1))

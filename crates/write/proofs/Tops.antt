@@ -1,8 +1,8 @@
 -- A positive word at the top of 64 bits: its characteristic and its fraction there give its size in the normal form. Assumes nothing.
-use mathlib.Core.Path.{_≡_, refl, sym, ap, ap₂, _∙_, subst}
+use mathlib.Core.Path.{_≡_, refl, sym, ap, _∙_, subst}
 use mathlib.Core.Bool.{false}
-use Prim.Native.Nat.{ℕ, zero, _+_, _-_, _*_, _/_, _^_, _≤_, _<_}
-use native.Mathlib.Nat.{mul-one, mul-assoc, add-mul, mul-div-cancel, div-eq-of-lt, le-add-right, le-trans, le-of-eq, zero-lt-suc}
+use Prim.Native.Nat.{ℕ, zero, _+_, _-_, _*_, _^_, _≤_, _<_}
+use native.Mathlib.Nat.{mul-one, add-mul, div-eq-of-lt, le-add-right, le-trans, le-of-eq}
 use native.Mathlib.Omega.{arith}
 use lib.Dec.{lit≤}
 use lib.IntN.{ℤ, pos, _-ℤ_}
@@ -41,16 +41,9 @@ module _ (n w : ℕ) (i : IsWord n w) (some : zero < w) (half : w < 2 ^ (n - 1))
   pub full : ℕ
   full = (2 ^ p 64 top + F 64 top) * 2 ^ (63 - p 64 top)
 
-  pub significand : 2 ^ 63 + F 64 (w * 2 ^ (64 - n)) * 2 ^ (64 - p 64 (w * 2 ^ (64 - n))) / 2 ≡ full
+  pub significand : 2 ^ 63 + F 64 (w * 2 ^ (64 - n)) * 2 ^ (63 - p 64 (w * 2 ^ (64 - n))) ≡ full
   unfolding full top
-  significand =
-      ap₂ (λ (x y : ℕ). x + y) (sym (pow-sum (p 64 top) (63 - p 64 top) 63 (omega (arith, few)))) (halved (F 64 top) (p 64 top) (omega (arith, few)))
-      ∙ sym (add-mul (2 ^ p 64 top) (F 64 top) (2 ^ (63 - p 64 top)))
-    where
-      halved : (f k : ℕ) → k ≤ 63 → f * 2 ^ (64 - k) / 2 ≡ f * 2 ^ (63 - k)
-      halved f k h =
-          ap (λ (x : ℕ). f * x / 2) (sym (pow-sum (63 - k) 1 (64 - k) (omega (arith, h)))) ∙ ap (λ (x : ℕ). x / 2) (sym (mul-assoc f (2 ^ (63 - k)) 2))
-          ∙ mul-div-cancel (f * 2 ^ (63 - k)) (zero-lt-suc 1)
+  significand = ap (λ (x : ℕ). x + F 64 top * 2 ^ (63 - p 64 top)) (sym (pow-sum (p 64 top) (63 - p 64 top) 63 (omega (arith, few)))) ∙ sym (add-mul (2 ^ p 64 top) (F 64 top) (2 ^ (63 - p 64 top)))
 
   pub has-size : (v : ℕ) × HasValue n false v w × (2 ^ 63 ≤ full) × IsSize full (c 64 (w * 2 ^ (64 - n)) -ℤ pos 63) v
   unfolding full top

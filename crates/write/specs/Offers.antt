@@ -2,18 +2,16 @@
 use mathlib.Core.Path.{_≡_}
 use mathlib.Core.Bool.{Bool, true, false, cond}
 use Prim.Native.Nat.{ℕ, _+_, _-_, _*_, _/_, _%_, _^_, _≤_, _<_}
-use lib.Dec.{ltb}
 use lib.IntN.{ℤ, pos, _+ℤ_, _-ℤ_}
 use Rattle.word.specs.Takum as Takum
 use Rattle.word.specs.Orders.{negated}
-use Rattle.word.specs.Reads.{num, den, IsSize}
+use Rattle.word.specs.Reads.{num, den}
 use Rattle.word.specs.declared.answer.Answer.{Answer}
 use Rattle.write.specs.declared.value.Rule.{Rule}
 use Rattle.write.specs.declared.size.Rest.{Rest}
 use Rattle.write.specs.declared.size.Side.{Side}
-use Rattle.write.specs.declared.size.Size.{Size}
 use Rattle.write.specs.declared.size.Start.{Start}
-use Rattle.write.specs.Writes.{HasValue, Nearest, IsExact, IsWritten}
+use Rattle.write.specs.Writes.{HasValue, Nearest, IsWritten}
 
 -- a is (m + rest) * unit
 unfoldable pub Amounts : ℕ → Rest → ℕ → ℕ → Type 0
@@ -30,22 +28,14 @@ IsOffered m rest k a b = Amounts m rest (a * den (k +ℤ pos 307)) (num (k +ℤ 
 unfoldable pub IsNearest : ℕ → ℤ → ℕ → Rest → ℕ → Type 0
 IsNearest n h m rest w = (a b : ℕ) → 0 < b → IsOffered m rest (h -ℤ pos 63) a b → Nearest n false a b w
 
--- whether a positive word has exactly the size that is offered
-unfoldable pub TellsExact : ℕ → ℕ → ℤ → ℕ → Bool → Type 0
-TellsExact n w h m true = (a b : ℕ) → 0 < b → IsOffered m Rest.Nothing (h -ℤ pos 63) a b → IsExact n false a b w
-TellsExact n w h m false = (a b : ℕ) → 0 < b → IsOffered m Rest.Nothing (h -ℤ pos 63) a b → IsExact n false a b w → ⊥
+-- the word of the sign that is nearest to every exact size that is so offered, with nothing below its last unit
+unfoldable pub RoundsSize : ℕ → Bool → ℤ → ℕ → ℕ → Type 0
+RoundsSize n negative h m w = (a b : ℕ) → 0 < b → IsOffered m Rest.Nothing (h -ℤ pos 63) a b → Nearest n negative a b w
 
--- a positive word's characteristic as it stands at the top of 64 bits, and its size m * 2^(h - 63), which is v * 2^-307
-pub record IsSizeOf (n w : ℕ) (s : Size) : Type 0 where
-  pub v : ℕ
-  pub value : HasValue n false v w
-  pub characteristic : s .h ≡ Takum.c 64 (w * 2 ^ (64 - n))
-  pub full : 2 ^ 63 ≤ s .m
-  pub size : IsSize (s .m) (s .h -ℤ pos 63) v
-
--- a word that lies above NaR mirrored to below it
-unfoldable pub withoutSign : ℕ → ℕ → ℕ
-withoutSign nar w = cond (ltb w nar) w (nar + nar - w)
+-- whether the size z of a word is the one that is offered
+unfoldable pub TellsSize : ℕ → ℕ → ℤ → ℕ → Bool → Type 0
+TellsSize n w h m true = (negative : Bool) (z a b : ℕ) → 0 < z → HasValue n negative z w → 0 < b → IsOffered m Rest.Nothing (h -ℤ pos 63) a b → z * b ≡ a
+TellsSize n w h m false = (negative : Bool) (z a b : ℕ) → 0 < z → HasValue n negative z w → 0 < b → IsOffered m Rest.Nothing (h -ℤ pos 63) a b → z * b ≡ a → ⊥
 
 -- the word with the sign
 unfoldable pub withSign : ℕ → Bool → ℕ → ℕ
@@ -105,3 +95,7 @@ TellsMidpoint n low e m rest side =
 -- what is written for the size m * 2^(h - 63) with its sign
 unfoldable pub WritesSize : ℕ → Rule → Bool → ℤ → ℕ → Answer → Type 0
 WritesSize n rule negative h m r = (a b : ℕ) → 0 < a → 0 < b → IsOffered m Rest.Nothing (h -ℤ pos 63) a b → IsWritten n rule negative a b r
+
+-- what the rule makes of the nearest word
+unfoldable pub Settles : ℕ → Rule → ℤ → ℕ → ℕ → Answer → Type 0
+Settles n rule h m w r = (negative : Bool) → RoundsSize n negative h m w → WritesSize n rule negative h m r

@@ -6,7 +6,7 @@ ghost use lib.IntN.{pos, negsuc};
 ghost use lib.Signed.{mag};
 ghost use Rattle.word.specs.Takum as Takum;
 ghost use Rattle.word.specs.Refusals.{IsWord};
-ghost use Rattle.write.specs.Offers.{IsNearest, IsSizeOf, Begins, firstBits, IsRaised, TellsHalf, TellsPowers, chosenOf, marginOf, ChoosesByCut};
+ghost use Rattle.write.specs.Offers.{IsNearest, Begins, firstBits, IsRaised, TellsHalf, TellsPowers, chosenOf, marginOf, ChoosesByCut};
 
 // What lies below the last unit of a significand.
 pub(crate) enum Rest {
@@ -21,12 +21,6 @@ pub(crate) enum Side {
     Under,
     Midway,
     Over,
-}
-
-// The size m * 2^(h - 63), m having its top bit set.
-pub(crate) struct Size {
-    pub(crate) h: i32,
-    pub(crate) m: u64,
 }
 
 // How every string of a characteristic begins after its sign: direction, regime and characteristic bits, and the regime.
@@ -50,7 +44,7 @@ pub(crate) fn nearest(n: u32, h: i64, m: u64, rest: Rest) -> u64
 }
 
 // The same where h is a characteristic.
-pub(crate) fn nearest_inside(n: u32, h: i32, m: u64, rest: Rest) -> u64
+fn nearest_inside(n: u32, h: i32, m: u64, rest: Rest) -> u64
     requires { ⌜ (2 ≤ n) × (n ≤ 64) × (2 ^ 63 ≤ m) × (mag h ≤ 254) ⌝ }
     ensures { λ w. ⌜ IsNearest n h m rest w ⌝ }
 {
@@ -205,19 +199,7 @@ fn exponent(n: u32, word: u64) -> u32
     requires { ⌜ IsWord n word × (0 < word) × (word < 2 ^ (n - 1)) ⌝ }
     ensures { λ e. ⌜ IsRaised (Takum.c 64 (word * 2 ^ (64 - n))) e ⌝ }
 {
-    raised(size_of(n, word).h)
-}
-
-// The size of a positive word, from the fields of the word at the top of 64 bits.
-pub(crate) fn size_of(n: u32, word: u64) -> Size
-    requires { ⌜ IsWord n word × (0 < word) × (word < 2 ^ (n - 1)) ⌝ }
-    ensures { λ s. ⌜ IsSizeOf n word s ⌝ }
-{
-    let fields = cut(word << (64 - n));
-    Size {
-        h: fields.c,
-        m: (1 << 63) + (fields.f >> 1),
-    }
+    raised(cut(word << (64 - n)).c)
 }
 
 fn raised(h: i32) -> u32

@@ -1,18 +1,16 @@
 // Writing a value offered as a word.
 use crate::size::Rest;
 use crate::size::nearest;
-use crate::size::size_of;
 use crate::value::Rule;
 use crate::value::Value;
 use word::answer::Answer;
 use word::refusal::Refusal;
 use word::refusal::Verdict;
+use word::size::size_of;
 use word::width::Width;
 ghost use mathlib.Core.Path.{_≡_};
 ghost use Prim.Native.Nat.{_-_, _^_, _≤_, _<_};
-ghost use Rattle.word.specs.Refusals.{IsWord};
-ghost use Rattle.write.specs.declared.size.Rest.{Rest};
-ghost use Rattle.write.specs.Offers.{IsNearest, TellsExact, withSign, WritesSize};
+ghost use Rattle.write.specs.Offers.{RoundsSize, Settles, TellsSize, withSign};
 ghost use Rattle.write.specs.Writes.{Writes};
 
 // The word for a value: the nearest, or exactly that value or INEXACT.
@@ -30,28 +28,29 @@ pub fn write(width: Width, rule: Rule, value: Value) -> Answer
     let zeros = u64::leading_zeros(m);
     let h = value.k as i64 + (63 - zeros) as i64;
     let full = m << zeros;
-    let positive = nearest(width.bits, h, full, Rest::Nothing);
-    by_rule(width, rule, value.negative, h, full, positive)
+    let word = rounded(width.bits, value.negative, h, full);
+    by_rule(width, rule, h, full, word)
 }
 
-// The positive word that is nearest to m * 2^(h - 63), with its sign; by the strict rule only where it has that size.
-// Whoever has the nearest word calls this: so `nearest` is compiled once, and the rule where it is known.
-pub(crate) fn by_rule(
-    width: Width,
-    rule: Rule,
-    negative: bool,
-    h: i64,
-    m: u64,
-    positive: u64,
-) -> Answer
-    requires { ⌜ (2 ≤ width .bits) × (width .bits ≤ 64) × (2 ^ 63 ≤ m) × IsNearest (width .bits) h m Rest.Nothing positive ⌝ }
-    ensures { λ r. ⌜ WritesSize (width .bits) rule negative h m r ⌝ }
+// The word that is nearest to the size m * 2^(h - 63) with its sign. Whoever writes calls this and then `by_rule`: so this is compiled
+// once, and the rule where it is known.
+pub(crate) fn rounded(n: u32, negative: bool, h: i64, m: u64) -> u64
+    requires { ⌜ (2 ≤ n) × (n ≤ 64) × (2 ^ 63 ≤ m) ⌝ }
+    ensures { λ w. ⌜ RoundsSize n negative h m w ⌝ }
+{
+    with_sign(n, negative, nearest(n, h, m, Rest::Nothing))
+}
+
+// The nearest word by the rule: by the strict one only where it has the size m * 2^(h - 63).
+pub(crate) fn by_rule(width: Width, rule: Rule, h: i64, m: u64, word: u64) -> Answer
+    requires { ⌜ (2 ≤ width .bits) × (width .bits ≤ 64) × (2 ^ 63 ≤ m) ⌝ }
+    ensures { λ r. ⌜ Settles (width .bits) rule h m word r ⌝ }
 {
     match rule {
-        Rule::Rounded => Answer::Word(with_sign(width.bits, negative, positive)),
+        Rule::Rounded => Answer::Word(word),
         Rule::Strict => {
-            if has_size(width.bits, positive, h, m) {
-                return Answer::Word(with_sign(width.bits, negative, positive));
+            if has_size(width.bits, word, h, m) {
+                return Answer::Word(word);
             }
             Answer::Refused(Refusal::Inexact)
         }
@@ -70,12 +69,12 @@ fn with_sign(n: u32, negative: bool, word: u64) -> u64
     word
 }
 
-// Whether a positive word has the size m * 2^(h - 63).
+// Whether a word has the size m * 2^(h - 63), whichever its sign.
 fn has_size(n: u32, word: u64, h: i64, m: u64) -> bool
-    requires { ⌜ IsWord n word × (0 < word) × (word < 2 ^ (n - 1)) × (2 ^ 63 ≤ m) ⌝ }
-    ensures { λ r. ⌜ TellsExact n word h m r ⌝ }
+    requires { ⌜ (2 ≤ n) × (n ≤ 64) × (2 ^ 63 ≤ m) ⌝ }
+    ensures { λ r. ⌜ TellsSize n word h m r ⌝ }
 {
-    let size = size_of(n, word);
+    let size = size_of(word << (64 - n));
     if size.h as i64 != h {
         return false;
     }

@@ -1,135 +1,184 @@
--- `take_binary64` meets its contract: each reading gives its answer, a number with its exponent raised. Assumes nothing.
-use mathlib.Core.Path.{_≡_, sym, ap, _∙_, subst}
-use Prim.Native.Nat.{ℕ, _+_, _-_, _≤_, _<_}
-use native.Mathlib.Nat.{le-trans, le-of-eq, lt-of-lt-of-le}
+-- `take_binary64` meets its contract: the refusals, zero and NaR, and the size of any other word with its exponent raised. Assumes nothing.
+use mathlib.Core.Path.{_≡_, refl, sym, ap, _∙_, subst}
+use Prim.Native.Nat.{ℕ, _+_, _*_, _/_, _^_, _≤_, _<_}
+use native.Mathlib.Nat.{le-trans, pos-of-ne-zero, mul-assoc}
 use native.Mathlib.Omega.{arith}
 use borrow.Author.Needs.{needs, sfits-of}
-use lib.Dec.{T}
+use lib.Dec.{T, lit≤}
 use lib.IntN.{ℤ, pos, natAbs, _+ℤ_}
-use lib.Pow.{pow-pos}
-use lib.Signed.{nonNeg}
-use lib.Ieee.{Float}
+use lib.Signed.{nonNeg, mag}
+use lib.Ieee.{Float, binary64, round}
 use mir.Facts.{toZ-ofZ}
 use mir.Syntax.{w32}
 use mir.Val.{SFits, toZ, ofZ}
+use Rattle.word.specs.declared.refusal.Verdict.{Verdict}
+use Rattle.word.specs.declared.size.Size.{Size}
+use Rattle.word.specs.Refusals.{widthTest, strayTest, _then_, IsWord, through, refused}
+use Rattle.word.specs.Takum.{Takum, takum}
 use Rattle.word.specs.Reads.{IsNumber}
-use Rattle.word.specs.Refusals.{IsWord}
-use Rattle.word.specs.Takum.{takum, fractionBits}
-use Rattle.word.proofs.Readings.{exponent-small, fraction-bits-most}
+use Rattle.word.specs.Sizes.{Sizes}
+use Rattle.word.proofs.Numbers.{characteristic-of-string}
+use Rattle.word.proofs.Powers.{pow-sum}
+use Rattle.word.proofs.Verdicts.{told-word, word-through}
+use Rattle.word.proofs.Words.{takum-zero, takum-NaR}
+use Rattle.write.proofs.Sized.{shifted-is, NaR-at-top, word-sized}
 use Rattle.binary64.specs.declared.taking.Binary64.{Binary64}
-use Rattle.binary64.specs.Takes.{TakesBinary64}
-use Rattle.binary64.proofs.Taken.{taken-zero, taken-NaR, taken-refused, taken-number, number-read}
-use Rattle.binary64.proofs.Raised.{raise}
+use Rattle.binary64.specs.Takes.{IsTaken, TakesBinary64}
+use Rattle.binary64.proofs.Raised.{raise-less}
+use Rattle.binary64.proofs.Short.{lowest-zero}
+use Rattle.binary64.proofs.Taken.{zero-taken, number-taken}
 use Rattle.binary64.proofs.taking.take_binary64.Statement.{statement}
 use Rattle.binary64.proofs.taking.take_binary64.Tie as tie
 
--- the number that was read, and its exponent as the machine raises it
-module _ (c : tie.After-known-told) where
+-- the verdict as the tests in their order
+told : (c : tie.After-then) {u : Verdict} → c .then .result ≡ u → widthTest (c .before .before .before .args .width .bits) then strayTest (c .before .before .before .args .width .bits) (c .before .before .before .args .word) ≡ u
+told c h = told-word _ _ (c .before .before .test .ensures) (c .before .test-word .ensures) (c .then .ensures) h
+
+-- a word that was let through
+module _ (g : tie.After-enum-told) where
   abbrev n : ℕ
-  n = c .before .before .before .before .args .width .bits
+  n = g .before .before .before .before .before .args .width .bits
 
   abbrev word : ℕ
-  word = c .before .before .before .before .args .word
+  word = g .before .before .before .before .before .args .word
 
-  abbrev h : ℤ
-  h = c .before .negative .given .0 .1 .0
+  let-through : widthTest n then strayTest n word ≡ Verdict.Through
+  let-through = told (g .before .before) (g .enum-told .given .1)
 
-  abbrev m : ℕ
-  m = c .before .negative .given .0 .1 .1 .0
+  is-word : IsWord n word
+  is-word = word-through n word let-through
 
-  abbrev p : ℕ
-  p = c .before .negative .given .0 .1 .1 .1 .0
+-- a word that is neither zero nor NaR, its size, and its exponent as the machine raises it
+module _ (c : tie.After-struct-told) where
+  abbrev k : tie.After-size-of
+  k = c .before .before
 
-  read-as : IsWord n word × IsNumber (takum n word) (fractionBits n word) (c .before .negative .given .0 .0) h m p
-  read-as = number-read n word (c .before .before .before .read .ensures) (c .before .negative .given .1)
+  abbrev g : tie.After-enum-told
+  g = k .before .before .before .before
 
-  few : p ≤ 59
-  few = le-trans (le-of-eq (read-as .1 .count)) (fraction-bits-most n word (read-as .0))
+  abbrev size : Size
+  size = k .size-of .result
 
-  some : 0 < m
-  some = lt-of-lt-of-le (pow-pos p) (read-as .1 .low)
+  number : IsNumber (takum (n g) (word g)) 63 (size .negative) (size .h) (size .m) 63
+  number =
+      let x = word-sized (n g) (word g) (is-word g) (pos-of-ne-zero (k .before .before .before .if1 .left)) (k .before .if2 .left) size (k .size-of .ensures) in
+      record { v = x .0; means = x .1; size = x .3; count = refl; low = x .2; high = c .struct-told .given .1 .1 .0 .1 }
 
-  up : (g : ℕ) × (h +ℤ pos 1023 ≡ pos g) × (767 ≤ g) × (g ≤ 1278)
-  up = raise h (exponent-small n word (read-as .0) (read-as .1))
+  up : (j : ℕ) × (size .h +ℤ pos 960 ≡ pos j) × (size .h +ℤ pos 1023 ≡ pos (j + 63)) × (704 ≤ j) × (j ≤ 1215)
+  up = raise-less (size .h) (subst (λ (z : ℤ). mag z ≤ 255) (sym (k .size-of .ensures .characteristic)) (le-trans (characteristic-of-string 64 _) (lit≤ tt)))
 
-  h-fits : SFits w32 h
-  h-fits = sfits-of (c .known-told .given .1 .0 .1)
+  h-fits : SFits w32 (size .h)
+  h-fits = sfits-of (c .struct-told .given .1 .0 .1)
 
-  sum : toZ w32 (ofZ w32 h) +ℤ pos 1023 ≡ pos (up .0)
-  sum = ap (λ (z : ℤ). z +ℤ pos 1023) (toZ-ofZ h-fits) ∙ up .1
+  sum : toZ w32 (ofZ w32 (size .h)) +ℤ pos 960 ≡ pos (up .0)
+  sum = ap (λ (z : ℤ). z +ℤ pos 960) (toZ-ofZ h-fits) ∙ up .1
 
   sum-fits : SFits w32 (pos (up .0))
-  sum-fits = record { sfits = omega (arith, up .3) }
+  sum-fits = record { sfits = omega (arith, up .4) }
 
-  held : toZ w32 (ofZ w32 (toZ w32 (ofZ w32 h) +ℤ pos 1023)) ≡ pos (up .0)
+  held : toZ w32 (ofZ w32 (toZ w32 (ofZ w32 (size .h)) +ℤ pos 960)) ≡ pos (up .0)
   held = ap (λ (z : ℤ). toZ w32 (ofZ w32 z)) sum ∙ toZ-ofZ sum-fits
 
-  raised : natAbs (toZ w32 (ofZ w32 (toZ w32 (ofZ w32 h) +ℤ pos 1023))) ≡ up .0
+  raised : natAbs (toZ w32 (ofZ w32 (toZ w32 (ofZ w32 (size .h)) +ℤ pos 960))) ≡ up .0
   raised = ap natAbs held
 
-  back : natAbs (toZ w32 (ofZ w32 (toZ w32 (ofZ w32 h) +ℤ pos 1023))) - p + p ≡ up .0
-  back = omega (arith, raised, few, up .2)
+  taken : (x : Float) → x ≡ round binary64 (size .negative) (size .m * 2 ^ up .0) (2 ^ 1023) → TakesBinary64 (n g) (word g) (Binary64.Number x)
+  unfolding TakesBinary64
+  taken x q = through (let-through g) (subst (λ (x : Float). IsTaken (takum (n g) (word g)) (Binary64.Number x)) (sym q) (number-taken number (up .0) (up .2)))
 
-read-requires : tie.Need-read-requires
-read-requires c κs = search needs
+  -- without its lowest eleven bits
+  short : n g < 58 → size .m / 2 ^ 11 * 2 ^ (up .0 + 11) ≡ size .m * 2 ^ up .0
+  short h =
+      ap (λ (y : ℕ). size .m / 2 ^ 11 * y) (sym (pow-sum 11 (up .0) (up .0 + 11) (omega arith))) ∙ sym (mul-assoc (size .m / 2 ^ 11) (2 ^ 11) (2 ^ up .0))
+      ∙ ap (λ (m : ℕ). m * 2 ^ up .0) (lowest-zero (n g) (word g) (is-word g) (omega (arith, h)) size (subst (λ (t : ℕ). Sizes t size) (shifted-is (n g) (word g) (is-word g)) (k .size-of .ensures)))
+
+test-requires : tie.Need-test-requires
+test-requires c κs = search needs
+
+test-word-requires : tie.Need-test-word-requires
+test-word-requires c κs = search needs
+
+then-requires : tie.Need-then-requires
+then-requires c κs = search needs
+
+enum-known-verdict : tie.Need-enum-known-verdict
+enum-known-verdict c = search needs
+
+returns : tie.Need-returns
+unfolding TakesBinary64
+returns c = refused (told (c .before .before .before) (c .before .verdict .given .1)) refl
 
 enum-told : tie.Need-enum-told
 enum-told c = search needs
 
-enum-told-2 : tie.Need-enum-told-2
-enum-told-2 c = search needs
-
-enum-known-negative : tie.Need-enum-known-negative
-enum-known-negative c = search needs
-
-add-number : tie.Need-add-number
-add-number c = subst (λ (z : ℤ). SFits w32 z) (sym (sum c)) (sum-fits c)
-
-cast-number : tie.Need-cast-number
-cast-number c = (subst (λ (z : ℤ). T (nonNeg z)) (sym (held c)) tt, record { fits = omega (arith, raised c, up c .3) })
-
-cast-number-2 : tie.Need-cast-number-2
-cast-number-2 c = search needs
-
-sub-number : tie.Need-sub-number
-sub-number c = omega (arith, raised c, few c, up c .2)
-
-number-requires : tie.Need-number-requires
-number-requires c κs = (some c, omega (arith, raised c, few c, up c .2), omega (arith, raised c, up c .3))
-
-enum-known-q : tie.Need-enum-known-q
-enum-known-q c = search needs
-
-returns : tie.Need-returns
-returns c = taken-zero _ _ (c .before .before .read .ensures) (c .enum-told .given .1)
-
 returns-2 : tie.Need-returns-2
-returns-2 c = taken-NaR _ _ (c .before .before .read .ensures) (c .enum-told2 .given .1)
+unfolding TakesBinary64
+returns-2 c = let g = c .before in
+    through (let-through g) (zero-taken _ (ap (takum (n g)) (c .if1 .taken) ∙ takum-zero (n g)))
+
+sub-string : tie.Need-sub-string
+sub-string c = is-word (c .before .before) .most
+
+cast-string : tie.Need-cast-string
+cast-string c = search needs
+
+shl-string : tie.Need-shl-string
+shl-string c = omega (arith, is-word (c .before .before) .least)
 
 returns-3 : tie.Need-returns-3
-returns-3 c =
-    let k = c .before in
-    subst (λ (x : Float). TakesBinary64 (n k) (word k) (Binary64.Number x)) (sym (c .number .ensures))
-    (taken-number _ _ (k .before .before .before .read .ensures) (k .before .negative .given .1) _ (up k .1 ∙ ap pos (sym (back k))))
+unfolding TakesBinary64 IsTaken
+returns-3 c = let g = c .before .before .before in
+    through (let-through g)
+    (subst (λ (t : Takum). IsTaken t Binary64.NotReal) (sym (takum-NaR (n g) (word g) (is-word g .least) (is-word g .most) (NaR-at-top (n g) (word g) (is-word g) (c .if2 .taken)))) refl)
+
+size-of-requires : tie.Need-size-of-requires
+size-of-requires c κs = search needs
+
+add-j : tie.Need-add-j
+add-j c = subst (λ (z : ℤ). SFits w32 z) (sym (sum c)) (sum-fits c)
+
+cast-j : tie.Need-cast-j
+cast-j c = (subst (λ (z : ℤ). T (nonNeg z)) (sym (held c)) tt, record { fits = omega (arith, raised c, up c .4) })
+
+add-number : tie.Need-add-number
+add-number c = let k = c .before .before .before in record { fits = omega (arith, raised k, up k .4) }
+
+number-requires : tie.Need-number-requires
+number-requires c κs = let k = c .before .before .before in
+    (omega (arith, number k .low), omega (arith, raised k, up k .3), omega (arith, raised k, up k .4))
 
 returns-4 : tie.Need-returns-4
-returns-4 c = taken-refused _ _ (c .before .before .before .read .ensures) (c .before .q .given .1)
+returns-4 c = let k = c .before .before .before .before in
+    taken k (c .number .result) (c .number .ensures ∙ ap (λ (j : ℕ). round binary64 (size k .negative) (size k .m / 2 ^ 11 * 2 ^ (j + 11)) (2 ^ 1023)) (raised k) ∙ ap (λ (a : ℕ). round binary64 (size k .negative) a (2 ^ 1023)) (short k (c .before .before .if3 .taken)))
+
+number-requires-2 : tie.Need-number-requires-2
+number-requires-2 c κs = let k = c .before .before in
+    (omega (arith, number k .low), omega (arith, raised k, up k .3), omega (arith, raised k, up k .4))
+
+returns-5 : tie.Need-returns-5
+returns-5 c = let k = c .before .before .before in
+    taken k (c .number2 .result) (c .number2 .ensures ∙ ap (λ (j : ℕ). round binary64 (size k .negative) (size k .m * 2 ^ j) (2 ^ 1023)) (raised k))
 
 pub take-binary64-spec : {M : Type 1} → statement M
 take-binary64-spec =
     tie.close
     (tie.spec
-    read-requires
-    enum-told
-    enum-told-2
-    enum-known-negative
-    add-number
-    cast-number
-    cast-number-2
-    sub-number
-    number-requires
-    enum-known-q
+    test-requires
+    test-word-requires
+    then-requires
+    enum-known-verdict
     returns
+    enum-told
     returns-2
+    sub-string
+    cast-string
+    shl-string
     returns-3
-    returns-4)
+    size-of-requires
+    add-j
+    cast-j
+    add-number
+    number-requires
+    returns-4
+    number-requires-2
+    returns-5)

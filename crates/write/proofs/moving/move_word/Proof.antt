@@ -1,13 +1,11 @@
--- `move_word` meets its contract: the size of the word without its sign is written at the other width. Assumes nothing.
-use mathlib.Core.Path.{_≡_, refl, sym, ap, _∙_, subst, subst₂}
+-- `move_word` meets its contract: the word's size is written at the other width, with its sign. Assumes nothing.
+use mathlib.Core.Path.{_≡_, refl, sym, ap, _∙_, subst}
 use mathlib.Core.Bool.{false}
-use Prim.Native.Nat.{ℕ, zero, _-_, _*_, _%_, _^_, _≤_, _<_}
+use Prim.Native.Nat.{ℕ, _^_, _≤_}
 use native.Mathlib.Omega.{arith}
 use native.Mathlib.Nat.{pos-of-ne-zero}
-use borrow.Author.Needs.{needs}
-use lib.Dec.{ltb}
-use lib.IntN.{ℤ}
-use lib.Signed.{mag}
+use borrow.Author.Needs.{needs, sfits-of}
+use lib.IntN.{ℤ, pos, _-ℤ_}
 use mir.Facts.{toZ-ofZ}
 use mir.Syntax.{w32, w64}
 use mir.Val.{SFits, toZ, ofZ}
@@ -15,17 +13,14 @@ use Rattle.word.specs.declared.answer.Answer.{Answer}
 use Rattle.word.specs.declared.refusal.Verdict.{Verdict}
 use Rattle.word.specs.Refusals.{widthTest, strayTest, _then_, IsWord, through, refused}
 use Rattle.word.specs.Takum.{Takum, real, NaR, takum}
-use Rattle.word.specs.Reads.{signedSize}
+use Rattle.word.specs.Reads.{IsSize, signedSize}
 use Rattle.word.specs.Widths.{GivesWord}
-use Rattle.word.proofs.Numbers.{characteristic-of-string}
-use Rattle.word.proofs.Powers.{pow-sum, one-shl}
 use Rattle.word.proofs.Verdicts.{told-three, move-through, width-through, answered}
 use Rattle.word.proofs.Words.{takum-zero, takum-NaR}
-use Rattle.write.specs.declared.size.Rest.{Rest}
-use Rattle.write.specs.Writes.{HasValue, isNegative, IsMoved, Moves}
-use Rattle.write.specs.Offers.{IsNearest, withoutSign, WritesSize}
+use Rattle.write.specs.Writes.{isNegative, IsMoved, Moves}
+use Rattle.write.specs.Offers.{WritesSize, Settles}
 use Rattle.write.proofs.Rules.{zero-written, size-moved}
-use Rattle.write.proofs.Signs.{unsigned-word, unsigned-value}
+use Rattle.write.proofs.Sized.{NaR-at-top, word-sized}
 use Rattle.write.proofs.moving.move_word.Statement.{statement}
 use Rattle.write.proofs.moving.move_word.Tie as tie
 
@@ -40,61 +35,42 @@ let-through c = told (c .before .before) (c .enum-told .given .1)
 open-row : (c : tie.After-enum-told) → IsWord (c .before .before .before .before .before .before .before .args .from .bits) (c .before .before .before .before .before .before .before .args .word) × (widthTest (c .before .before .before .before .before .before .before .args .to .bits) ≡ Verdict.Through)
 open-row c = move-through _ _ _ (let-through c)
 
--- the width of the source, and NaR's word there
+-- the word at the top, which loses nothing there
 module _ (g : tie.After-enum-told) where
   abbrev from : ℕ
   from = g .before .before .before .before .before .before .before .args .from .bits
 
-  is-word : IsWord from (g .before .before .before .before .before .before .before .args .word)
-  is-word = open-row g .0
-
-  nar-is : 1 * 2 ^ (from - 1) % 2 ^ 64 ≡ 2 ^ (from - 1)
-  nar-is = one-shl 64 (from - 1) (omega (arith, is-word .most))
-
--- a word that is neither zero nor NaR
-module _ (b : tie.Else2) where
-  abbrev g : tie.After-enum-told
-  g = b .before .before .before
-
   abbrev word : ℕ
   word = g .before .before .before .before .before .before .before .args .word
 
-  some : zero < word
-  some = pos-of-ne-zero (b .before .before .if1 .left)
+  is-word : IsWord from word
+  is-word = open-row g .0
 
-  other : word ≡ 2 ^ (from g - 1) → ⊥
-  other q = b .if2 .left (q ∙ sym (nar-is g))
-
-  unsigned : IsWord (from g) (withoutSign (2 ^ (from g - 1)) word) × (zero < withoutSign (2 ^ (from g - 1)) word) × (withoutSign (2 ^ (from g - 1)) word < 2 ^ (from g - 1))
-  unsigned = unsigned-word (from g) (is-word g .least) (is-word g .most) word (is-word g) some other
-
--- the word without its sign, and its size
-without-is : (c : tie.After-without-sign) → c .without-sign .result ≡ withoutSign (2 ^ (from (g (c .before)) - 1)) (word (c .before))
-without-is c = c .without-sign .ensures ∙ ap (λ (x : ℕ). withoutSign x (word (c .before))) (nar-is (g (c .before)))
-
-module _ (k : tie.After-size-of) where
+-- a word that is neither zero nor NaR, and its size
+module _ (k : tie.After-struct-told) where
   abbrev b : tie.Else2
-  b = k .before .before
+  b = k .before .before .before
+
+  abbrev g : tie.After-enum-told
+  g = b .before .before .before
 
   abbrev h : ℤ
-  h = k .size-of .result .h
+  h = k .before .before .size-of .result .h
 
-  small : mag h ≤ 254
-  small = subst (λ (z : ℤ). mag z ≤ 254) (sym (k .size-of .ensures .characteristic)) (characteristic-of-string _ _)
+  sized : (v : ℕ) × (takum (from g) (word g) ≡ real (signedSize (k .before .before .size-of .result .negative) v)) × (2 ^ 63 ≤ k .before .before .size-of .result .m) × IsSize (k .before .before .size-of .result .m) (h -ℤ pos 63) v
+  sized = word-sized (from g) (word g) (is-word g) (pos-of-ne-zero (b .before .before .if1 .left)) (b .if2 .left) _ (k .before .before .size-of .ensures)
 
   h-fits : SFits w32 h
-  h-fits = record { sfits = omega (arith, small) }
+  h-fits = sfits-of (k .struct-told .given .1 .0 .1)
 
   wide-fits : SFits w64 h
-  wide-fits = record { sfits = omega (arith, small) }
+  wide-fits = record { sfits = omega (arith, h-fits .sfits) }
 
   held : toZ w64 (ofZ w64 (toZ w32 (ofZ w32 h))) ≡ h
   held = ap (λ (z : ℤ). toZ w64 (ofZ w64 z)) (toZ-ofZ h-fits) ∙ toZ-ofZ wide-fits
 
-  means : takum (from (g b)) (word b) ≡ real (signedSize (ltb (2 ^ (from (g b) - 1)) (word b)) (k .size-of .ensures .v))
-  means =
-      unsigned-value (from (g b)) (is-word (g b) .least) (is-word (g b) .most) (word b) _ (is-word (g b)) (some b) (other b)
-      (subst (λ (w : ℕ). HasValue (from (g b)) false (k .size-of .ensures .v) w) (without-is (k .before)) (k .size-of .ensures .value))
+  to-bounds : (2 ≤ g .before .before .before .before .before .before .before .args .to .bits) × (g .before .before .before .before .before .before .before .args .to .bits ≤ 64)
+  to-bounds = let t = width-through _ (open-row g .1) in (t .0, t .1)
 
 test-requires : tie.Need-test-requires
 test-requires c κs = search needs
@@ -128,14 +104,14 @@ returns-2 c = let g = c .before in
     let t = width-through _ (open-row g .1) in
     through (let-through g) (subst (λ (t : Takum). IsMoved (s .args .to .bits) (s .args .rule) t (Answer.Word 0)) (sym (ap (takum (from g)) (c .if1 .taken) ∙ takum-zero (from g))) (zero-written (s .args .to .bits) (t .0) (t .1) (s .args .rule) false 0 1 refl))
 
-sub-nar : tie.Need-sub-nar
-sub-nar c = omega (arith, is-word (c .before .before) .least)
+sub-string : tie.Need-sub-string
+sub-string c = is-word (c .before .before) .most
 
-cast-nar : tie.Need-cast-nar
-cast-nar c = search needs
+cast-string : tie.Need-cast-string
+cast-string c = search needs
 
-shl-nar : tie.Need-shl-nar
-shl-nar c = omega (arith, is-word (c .before .before) .most)
+shl-string : tie.Need-shl-string
+shl-string c = omega (arith, is-word (c .before .before) .least)
 
 nar-requires : tie.Need-nar-requires
 nar-requires c κs = search needs
@@ -144,34 +120,30 @@ returns-3 : tie.Need-returns-3
 unfolding Moves IsMoved GivesWord
 returns-3 c = let g = c .before .before .before .before in
     let s = g .before .before .before .before .before .before .before in
-    through (let-through g) (subst (λ (t : Takum). IsMoved (s .args .to .bits) (s .args .rule) t (c .nar .result)) (sym (takum-NaR (from g) (s .args .word) (is-word g .least) (is-word g .most) (c .before .if2 .taken ∙ nar-is g))) (answered (open-row g .1) (c .nar .ensures)))
-
-without-sign-requires : tie.Need-without-sign-requires
-without-sign-requires c κs = omega (arith, nar-is (g c), is-word (g c) .fits, pow-sum (from (g c) - 1) 1 (from (g c)) (omega (arith, is-word (g c) .least)))
+    through (let-through g)
+    (subst (λ (t : Takum). IsMoved (s .args .to .bits) (s .args .rule) t (c .nar .result)) (sym (takum-NaR (from g) (word g) (is-word g .least) (is-word g .most) (NaR-at-top (from g) (word g) (is-word g) (c .before .if2 .taken)))) (answered (open-row g .1) (c .nar .ensures)))
 
 size-of-requires : tie.Need-size-of-requires
-size-of-requires c κs = subst (λ (w : ℕ). IsWord (from (g (c .before))) w × (zero < w) × (w < 2 ^ (from (g (c .before)) - 1))) (sym (without-is c)) (unsigned (c .before))
+size-of-requires c κs = search needs
 
-nearest-inside-requires : tie.Need-nearest-inside-requires
-nearest-inside-requires c κs = let t = width-through _ (open-row (g (b (c .before))) .1) in
-    (t .0, t .1, c .before .size-of .ensures .full, subst (λ (z : ℤ). mag z ≤ 254) (sym (toZ-ofZ (h-fits (c .before)))) (small (c .before)))
+cast-h : tie.Need-cast-h
+cast-h c = subst (λ (z : ℤ). SFits w64 z) (sym (toZ-ofZ (h-fits c))) (wide-fits c)
 
-cast-by-rule : tie.Need-cast-by-rule
-cast-by-rule c = let k = c .before .before .before .before in
-    subst (λ (z : ℤ). SFits w64 z) (sym (toZ-ofZ (h-fits k))) (wide-fits k)
+rounded-requires : tie.Need-rounded-requires
+rounded-requires c κs = (to-bounds c .0, to-bounds c .1, sized c .2)
 
 by-rule-requires : tie.Need-by-rule-requires
-by-rule-requires c κs = let k = c .before .before .before .before in
-    let t = width-through _ (open-row (g (b k)) .1) in
-    (t .0, t .1, k .size-of .ensures .full, subst (λ (z : ℤ). IsNearest (g (b k) .before .before .before .before .before .before .before .args .to .bits) z (k .size-of .result .m) Rest.Nothing (c .before .before .nearest-inside .result)) (toZ-ofZ (h-fits k) ∙ sym (held k)) (c .before .before .nearest-inside .ensures))
+by-rule-requires c κs = let k = c .before in
+    (to-bounds k .0, to-bounds k .1, sized k .2)
 
 returns-4 : tie.Need-returns-4
-unfolding Moves
-returns-4 c = let k = c .before .before .before .before .before in
-    let s = g (b k) .before .before .before .before .before .before .before in
-    through (let-through (g (b k)))
-    (size-moved (s .args .to .bits) (s .args .rule) (c .by-rule .result) _ _ (h k) _ _ (means k) (omega (arith, k .size-of .ensures .full)) (k .size-of .ensures .size)
-    (subst₂ (λ (x : ℕ) (z : ℤ). WritesSize (s .args .to .bits) (s .args .rule) (ltb x (s .args .word)) z (k .size-of .result .m) (c .by-rule .result)) (nar-is (g (b k))) (held k) (c .by-rule .ensures)))
+unfolding Moves Settles
+returns-4 c = let k = c .before .before in
+    let s = g k .before .before .before .before .before .before .before in
+    let size = k .before .before .size-of .result in
+    through (let-through (g k))
+    (size-moved (s .args .to .bits) (s .args .rule) (c .by-rule .result) _ (size .negative) (h k) (size .m) (sized k .0) (sized k .1) (omega (arith, sized k .2)) (sized k .3)
+    (subst (λ (z : ℤ). WritesSize (s .args .to .bits) (s .args .rule) (size .negative) z (size .m) (c .by-rule .result)) (held k) (c .by-rule .ensures (size .negative) (c .before .rounded .ensures))))
 
 pub move-word-spec : {M : Type 1} → statement M
 move-word-spec =
@@ -186,14 +158,13 @@ move-word-spec =
     returns
     enum-told
     returns-2
-    sub-nar
-    cast-nar
-    shl-nar
+    sub-string
+    cast-string
+    shl-string
     nar-requires
     returns-3
-    without-sign-requires
     size-of-requires
-    nearest-inside-requires
-    cast-by-rule
+    cast-h
+    rounded-requires
     by-rule-requires
     returns-4)

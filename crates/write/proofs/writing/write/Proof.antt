@@ -18,7 +18,7 @@ use Rattle.write.proofs.Exponents.{unit-some}
 use Rattle.word.specs.declared.refusal.Verdict.{Verdict}
 use Rattle.word.proofs.Verdicts.{width-through}
 use Rattle.word.specs.Refusals.{widthTest, through, refused}
-use Rattle.write.specs.Offers.{WritesSize}
+use Rattle.write.specs.Offers.{WritesSize, Settles}
 use Rattle.write.proofs.Rules.{zero-written}
 use Rattle.word.specs.Reads.{num}
 use Rattle.write.proofs.writing.write.Statement.{statement}
@@ -102,19 +102,19 @@ cast-full c = record { fits = lt-of-le-of-lt (few c) (lit< tt) }
 shl-full : tie.Need-shl-full
 shl-full c = lt-of-le-of-lt (few c) (lit< tt)
 
-nearest-requires : tie.Need-nearest-requires
-nearest-requires c κs = (bounds (c .before .before .before) .0, bounds (c .before .before .before) .1, shifted-full _ (some c) (fits c))
+rounded-requires : tie.Need-rounded-requires
+rounded-requires c κs = (bounds (c .before .before .before) .0, bounds (c .before .before .before) .1, shifted-full _ (some c) (fits c))
 
 by-rule-requires : tie.Need-by-rule-requires
 by-rule-requires c κs = let k = c .before in
-    (bounds (k .before .before .before) .0, bounds (k .before .before .before) .1, shifted-full _ (some k) (fits k), c .nearest .ensures)
+    (bounds (k .before .before .before) .0, bounds (k .before .before .before) .1, shifted-full _ (some k) (fits k))
 
 returns-3 : tie.Need-returns-3
-unfolding Writes WritesSize
+unfolding Writes WritesSize Settles
 returns-3 c = let k = c .before .before in
     let s = k .before .before .before .before .before .before in
     through (let-through (k .before .before .before))
-    (subst (λ (z : ℤ). WritesSize (s .args .width .bits) (s .args .rule) (s .args .value .negative) z (s .args .value .m * 2 ^ leadingZeros 64 (s .args .value .m) % 2 ^ 64) (c .by-rule .result)) (held k) (c .by-rule .ensures) _ _ (mul-pos (some k) (unit-some _ .0)) (unit-some _ .1) (shifted-offer _ (some k) (fits k) (s .args .value .k)))
+    (subst (λ (z : ℤ). WritesSize (s .args .width .bits) (s .args .rule) (s .args .value .negative) z (s .args .value .m * 2 ^ leadingZeros 64 (s .args .value .m) % 2 ^ 64) (c .by-rule .result)) (held k) (c .by-rule .ensures (s .args .value .negative) (c .before .rounded .ensures)) _ _ (mul-pos (some k) (unit-some _ .0)) (unit-some _ .1) (shifted-offer _ (some k) (fits k) (s .args .value .k)))
 
 pub write-spec : {M : Type 1} → statement M
 write-spec =
@@ -131,6 +131,6 @@ write-spec =
     add-h
     cast-full
     shl-full
-    nearest-requires
+    rounded-requires
     by-rule-requires
     returns-3)

@@ -1,0 +1,98 @@
+// What the calls are timed on: pseudo-random, the same in every run.
+
+use crate::plain;
+
+pub const COUNT: usize = 65_536;
+
+pub struct Offer {
+    pub negative: bool,
+    pub m: u64,
+    pub k: i32,
+}
+
+// A fixed row of numbers for each seed.
+fn numbers(seed: u64) -> impl FnMut() -> u64 {
+    let mut state = 0x9e37_79b9_7f4a_7c15 + seed;
+    move || {
+        state ^= state << 13;
+        state ^= state >> 7;
+        state ^= state << 17;
+        state
+    }
+}
+
+// Values over the whole range and beyond both ends.
+pub fn offers() -> Vec<Offer> {
+    let mut next = numbers(0);
+    (0..COUNT)
+        .map(|_| {
+            let m = next() >> (next() % 64);
+            let h = (next() % 522) as i32 - 261;
+            Offer { negative: next() % 2 == 1, m, k: h - 63 + m.leading_zeros() as i32 }
+        })
+        .collect()
+}
+
+pub fn wide_words() -> Vec<u64> {
+    let mut next = numbers(64);
+    (0..COUNT).map(|_| next()).collect()
+}
+
+pub fn narrow_words() -> Vec<u64> {
+    (0..COUNT as u64).collect()
+}
+
+// Whole numbers of every length and both signs.
+pub fn wholes() -> Vec<i64> {
+    let mut next = numbers(1);
+    (0..COUNT)
+        .map(|_| {
+            let size = (next() >> 1 >> (next() % 64)) as i64;
+            if next() % 2 == 1 { -1 - size } else { size }
+        })
+        .collect()
+}
+
+// Finite binary64 numbers from 2^-260 to 2^261, a little past both ends of the words.
+pub fn floats() -> Vec<f64> {
+    let mut next = numbers(2);
+    (0..COUNT)
+        .map(|_| {
+            let exponent = 1023 - 260 + next() % 521;
+            f64::from_bits(next() >> 63 << 63 | exponent << 52 | next() >> 12)
+        })
+        .collect()
+}
+
+// Words of values from 2^-3 up to 2^65 and both signs: most have a whole number in 64 bits.
+pub fn words_of_wholes(n: u32) -> Vec<u64> {
+    let mut next = numbers(3);
+    (0..COUNT)
+        .map(|_| {
+            let h = (next() % 68) as i32 - 3;
+            plain::write(n, next() % 2 == 1, next() | 1 << 63, h - 63).unwrap()
+        })
+        .collect()
+}
+
+// ---- the edges, for the comparison of answers alone
+pub const EDGE_WHOLES: [i64; 9] = [0, 1, -1, i64::MAX, i64::MIN, i64::MIN + 1, 1 << 62, (1 << 55) + 1, -(1 << 55) - 1];
+
+pub const EDGE_FLOATS: [f64; 10] =
+    [0.0, -0.0, 1.0, -1.0, f64::INFINITY, f64::NEG_INFINITY, f64::NAN, f64::MAX, -f64::MIN_POSITIVE, f64::MIN_POSITIVE / 4.0];
+
+// Zero, NaR, the words beside them, and the words about 2^63 and -2^63, where a whole number is just inside or outside 64 bits.
+pub fn edge_words(n: u32) -> Vec<u64> {
+    let mut words = vec![0, 1];
+    if !(2..=64).contains(&n) {
+        return words;
+    }
+    let all = u64::MAX >> (64 - n);
+    let nar = 1 << (n - 1);
+    words.extend([all, nar, nar - 1, (nar + 1) & all]);
+    for negative in [false, true] {
+        let word = plain::write(n, negative, 1, 63).unwrap();
+        words.extend([word, word.wrapping_sub(1) & all, (word + 1) & all]);
+    }
+    words
+}

@@ -33,7 +33,7 @@ pub(crate) fn put_text(out: &mut [u8], at: usize, text: &[u8]) -> usize
 // The last `count` digits of a number, from the last one to the first.
 pub(crate) fn put_digits(out: &mut [u8], at: usize, n: u64, base: u64, count: usize) -> usize
     requires { ⌜ (1 < base) × (base ≤ 16) × (at + count ≤ length (now out)) ⌝ }
-    ensures { λ r. ⌜ Puts (now (out .entry)) at (digits base count n) (now (out .exit)) r ⌝ }
+    ensures { λ r. ⌜ Puts (now (out .entry)) at (digits base count n) (now (out .exit)) r × (r ≡ at + count) ⌝ }
 {
     let mut left = count;
     let mut rest = n;

@@ -4,7 +4,6 @@ use Prim.Native.Nat.{_/_}
 use native.Mathlib.Omega.{arith}
 use Rattle.lister.specs.Puts.{PutsSome}
 use Rattle.lister.specs.Text.{IsWordText, hexOf, space, newline}
-use Rattle.lister.proofs.Digits.{as-many}
 use Rattle.lister.proofs.Placed as Placed
 use Rattle.lister.proofs.Placed.{joined}
 use borrow.Author.Needs.{needs}
@@ -24,14 +23,14 @@ put-byte-requires : tie.Need-put-byte-requires
 put-byte-requires c κs =
     let s = c .before .before .before .before .before .before .before in
     let p = c .before .before .before .put-digits .ensures in
-    omega (arith, p .place, Placed.same-length _ _ _ _ _ p, as-many 16 (s .args .width / 4) (s .args .word), s .pre .0, s .pre .1)
+    omega (arith, p .1, Placed.same-length _ _ _ _ _ (p .0), s .pre .0, s .pre .1)
 
 put-shown-requires : tie.Need-put-shown-requires
 put-shown-requires c κs =
     let s = c .before .before .before .before .before .before .before .before .before .before .before in
     let p = c .before .before .before .before .before .before .before .put-digits .ensures in
     let q = c .before .before .before .put-byte .ensures in
-    omega (arith, p .place, Placed.same-length _ _ _ _ _ p, q .place, Placed.same-length _ _ _ _ _ q, as-many 16 (s .args .width / 4) (s .args .word), s .pre .0, s .pre .1)
+    omega (arith, p .1, Placed.same-length _ _ _ _ _ (p .0), q .place, Placed.same-length _ _ _ _ _ q, s .pre .0, s .pre .1)
 
 put-byte-requires-2 : tie.Need-put-byte-requires-2
 unfolding PutsSome
@@ -40,7 +39,7 @@ put-byte-requires-2 c κs =
     let p = c .before .before .before .before .before .before .before .before .before .before .before .put-digits .ensures in
     let q = c .before .before .before .before .before .before .before .put-byte .ensures in
     let x = c .before .before .before .put-shown .ensures in
-    omega (arith, p .place, Placed.same-length _ _ _ _ _ p, q .place, Placed.same-length _ _ _ _ _ q, x .1, Placed.same-length _ _ _ _ _ (x .0 .2), as-many 16 (s .args .width / 4) (s .args .word), s .pre .0, s .pre .1)
+    omega (arith, p .1, Placed.same-length _ _ _ _ _ (p .0), q .place, Placed.same-length _ _ _ _ _ q, x .1, Placed.same-length _ _ _ _ _ (x .0 .2), s .pre .0, s .pre .1)
 
 same-length : tie.Need-same-length
 same-length c = search needs
@@ -53,8 +52,8 @@ returns c =
     let q = c .before .before .before .before .before .before .before .before .before .before .put-byte .ensures in
     let x = c .before .before .before .before .before .before .put-shown .ensures in
     let n = c .before .before .put-byte2 .ensures in (
-      (_, (_, _, c .before .before .before .before .before .before .before .before .before .before .before .before .before .before .before .before .take-whole .ensures, x .0 .1, refl), joined _ _ _ _ _ _ _ _ (joined _ _ _ _ _ _ _ _ (joined _ _ _ _ _ _ _ _ p q) (x .0 .2)) n),
-      omega (arith, p .place, q .place, x .1, n .place, as-many 16 (s .args .width / 4) (s .args .word), s .pre .0),
+      (_, (_, _, c .before .before .before .before .before .before .before .before .before .before .before .before .before .before .before .before .take-whole .ensures, x .0 .1, refl), joined _ _ _ _ _ _ _ _ (joined _ _ _ _ _ _ _ _ (joined _ _ _ _ _ _ _ _ (p .0) q) (x .0 .2)) n),
+      omega (arith, p .1, q .place, x .1, n .place, s .pre .0),
     )
 
 pub put-word-spec : {M : Type 1} → statement M

@@ -1,7 +1,6 @@
 -- `put_decimal` meets its contract. Assumes nothing.
 use mathlib.Core.Path.{refl}
 use native.Mathlib.Omega.{arith}
-use Rattle.lister.proofs.Digits.{as-many}
 use Rattle.lister.specs.Puts.{PutsSome}
 use Rattle.lister.specs.Text.{IsDecimal}
 use borrow.Author.Needs.{needs}
@@ -22,7 +21,7 @@ unfolding PutsSome IsDecimal
 returns c =
     let k = c .before .before .before .places in
     let p = c .before .before .put-digits .ensures in
-    ((_, (_, k .ensures .0, refl), p), omega (arith, p .place, as-many 10 (k .result) (c .before .before .before .before .before .before .args .n), k .ensures .1))
+    ((_, (_, k .ensures .0, refl), p .0), omega (arith, p .1, k .ensures .1))
 
 pub put-decimal-spec : {M : Type 1} → statement M
 put-decimal-spec = tie.close (tie.spec places-requires put-digits-requires same-length returns)

@@ -32,7 +32,7 @@ rem-glyph : tie.Need-rem-glyph Inv-loop μ-loop
 rem-glyph c = let s = c .before .before .before in omega (arith, s .pre .0)
 
 glyph-requires : tie.Need-glyph-requires Inv-loop μ-loop
-glyph-requires c κs = let s = c .before .before .before in lt-of-lt-of-le (mod-lt (c .before .loop .rest) (lt-trans (lit< tt) (s .pre .0))) (s .pre .1)
+glyph-requires c κs = let s = c .before .before .before in lt-of-lt-of-le (mod-lt _ (lt-trans (lit< tt) (s .pre .0))) (s .pre .1)
 
 add-out : tie.Need-add-out Inv-loop μ-loop
 add-out c =
@@ -72,7 +72,7 @@ returns : tie.Need-returns Inv-loop μ-loop
 returns c = let s = c .before .before .before in
     let i = c .before .loop .inv in
     let none : c .before .loop .left ≡ 0 = omega (arith, c .loop-test .left) in
-    all-put _ _ _ _ _ (s .pre .2) _ (subst (λ (k : ℕ). c .before .loop .out ≡ take (s .args .at + k) (s .args .out .now) ++ digits (s .args .base) (s .args .count - k) (s .args .n) ++ drop (s .args .at + s .args .count) (s .args .out .now)) none (i .1))
+    (all-put _ _ _ _ _ (s .pre .2) _ (subst (λ (k : ℕ). c .before .loop .out ≡ take (s .args .at + k) (s .args .out .now) ++ digits (s .args .base) (s .args .count - k) (s .args .n) ++ drop (s .args .at + s .args .count) (s .args .out .now)) none (i .1)), refl)
 
 pub put-digits-spec : {M : Type 1} → statement M
 put-digits-spec =

@@ -1,6 +1,6 @@
 // The bytes of a block: numbers little-endian, and the seal, paper 01's sums A and B of its 126 numbers.
 use std::num::wrapping_add_u32;
-ghost use Prim.Native.Nat.{_≤_, _<_};
+ghost use Prim.Native.Nat.{_<_};
 
 pub(crate) fn put_one(block: &mut [u8; 520], at: usize, x: u32)
     requires { ⌜ at < 520 ⌝ }

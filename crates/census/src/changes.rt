@@ -40,7 +40,7 @@ pub(crate) fn end_of_change(change: Change) -> u64 {
     }
 }
 
-// The last of the 126 numbers that a kind changes has no other after it.
+// One number is changed at a place, or two, or three, none beyond the 126.
 fn end_of_kind(kind: u32) -> u64 {
     match kind {
         1 => 126,

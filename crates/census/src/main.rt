@@ -14,6 +14,7 @@ mod facts;
 mod faults;
 mod fills;
 mod lengths;
+mod lent;
 mod line;
 mod midpoints;
 mod moves;
@@ -32,6 +33,7 @@ mod row;
 mod runs;
 mod sheets;
 mod sizes;
+mod starts;
 mod subjects;
 mod uncolumned;
 mod unmoved;
@@ -43,18 +45,14 @@ mod widths;
 mod words;
 mod writings;
 
-use crate::changes::Change;
-use crate::lengths::print_drawn_columns;
-use crate::lengths::print_planted_columns;
+use crate::lent::print_blocks;
+use crate::lent::print_columns;
 use crate::parts::Part;
-use crate::parts::print_at_block_widths;
 use crate::parts::print_everywhere;
 use crate::parts::print_part;
 use crate::refused::Asked;
 use crate::refused::Refused;
 use crate::refused::print_bad_widths;
-use crate::runs::print_one_line;
-use crate::sheets::print_width_bytes;
 use crate::subjects::Subject;
 use crate::subjects::WIDEST_WHOLE;
 use word::width::Width;
@@ -116,26 +114,4 @@ fn print_binaries() {
     print_part(Part::Line(Subject::Twos), Width::LEAST, 12);
     print_part(Part::Line(Subject::Twos), 56, 60);
     print_everywhere(Part::Extreme);
-}
-
-// Parts 28 to 31.
-fn print_columns() {
-    print_drawn_columns();
-    print_planted_columns();
-    print_bad_widths(Refused::Columns);
-    print_everywhere(Part::Line(Subject::Pairs));
-}
-
-// Parts 32 to 40.
-fn print_blocks() {
-    print_at_block_widths(Part::Blocks);
-    print_at_block_widths(Part::Runs(Subject::Sheet(Change::Byte)));
-    print_at_block_widths(Part::Sums);
-    print_at_block_widths(Part::Runs(Subject::Sheet(Change::Fault)));
-    print_width_bytes(1);
-    print_width_bytes(63);
-    print_one_line(Subject::Sheet(Change::Mark), 16);
-    print_at_block_widths(Part::Fills);
-    print_at_block_widths(Part::Sizes);
-    print_at_block_widths(Part::Numbers);
 }

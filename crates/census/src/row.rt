@@ -6,13 +6,10 @@ ghost use Prim.Native.Nat.{_≤_};
 ghost use lib.ListN.{length};
 
 // The most numbers that a row has.
-pub(crate) const LONGEST: usize = 1024;
+const LONGEST: usize = 1024;
 
 // How many sentinels lie before the results, and how many after them.
 pub(crate) const BESIDE: usize = 8;
-
-// The most results that a row has room for.
-pub(crate) const MOST_RESULTS: usize = 1008;
 
 pub(crate) fn fill_row(row: &mut [u64; 1024])
     requires { ⌜ length (now row) ≡ 1024 ⌝ }

@@ -4,9 +4,12 @@ use crate::block::full_of;
 use crate::block::words_of;
 use crate::changes::Change;
 use crate::changes::end_of_change;
+use crate::changes::print_change;
 use crate::changes::state_after_block;
 use crate::digest::EMPTY;
 use crate::digest::sequence;
+use crate::line::print_digest;
+use crate::line::print_number;
 use crate::line::print_of_two;
 use crate::line::print_of_width;
 use crate::reading::take_reading_of;
@@ -55,7 +58,10 @@ fn print_kind(w: u32, kind: u32, state: u64) -> u64
 {
     let change = Change::Sums(kind);
     let run = take_run(Subject::Sheet(change), w, 0, end_of_change(change), state);
-    print_of_two(b"sums", w, kind, run.digest);
+    print_change(change);
+    print_number(w as u64);
+    print_number(kind as u64);
+    print_digest(run.digest);
     run.state
 }
 
@@ -63,7 +69,9 @@ fn print_kind(w: u32, kind: u32, state: u64) -> u64
 pub(crate) fn print_width_bytes(count: u32) {
     let change = Change::WidthByte(count);
     let run = take_run(Subject::Sheet(change), 64, 0, end_of_change(change), EMPTY);
-    print_of_width(b"widthbyte", count, run.digest);
+    print_change(change);
+    print_number(count as u64);
+    print_digest(run.digest);
 }
 
 // Part 39.

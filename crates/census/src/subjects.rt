@@ -1,11 +1,9 @@
-// What the parts take in from place to place: the name of each, its places, how they run, and where its sequence starts.
+// What the parts take in from place to place: the name of each, its places, and how they run.
 use crate::bits::power_of_two;
 use crate::changes::Change;
 use crate::changes::end_of_change;
 use crate::changes::longest_run_of;
 use crate::changes::print_change;
-use crate::changes::state_after_block;
-use crate::digest::sequence;
 use crate::line::print_text;
 ghost use Prim.Native.Nat.{_≤_};
 
@@ -105,28 +103,5 @@ pub(crate) fn longest_run(subject: Subject) -> u64
         Subject::Whole => 4096,
         Subject::Sheet(change) => longest_run_of(change),
         _ => 256,
-    }
-}
-
-// Each width has a sequence of its own.
-pub(crate) fn first_state(subject: Subject, n: u32) -> u64
-    requires { ⌜ (2 ≤ n) × (n ≤ 64) ⌝ }
-{
-    match subject {
-        Subject::Sheet(change) => state_after_block(change, n),
-        _ => sequence(start_of(subject) + n as u64),
-    }
-}
-
-fn start_of(subject: Subject) -> u64
-    ensures { λ r. ⌜ r ≤ 30000 ⌝ }
-{
-    match subject {
-        Subject::Draw => 1000,
-        Subject::Out => 5000,
-        Subject::Tally => 6000,
-        Subject::Binary => 7000,
-        Subject::Pairs => 30_000,
-        _ => 0,
     }
 }

@@ -1,5 +1,4 @@
 // A plain Rust lister: the same text as the proved program's, for the same input.
-#[allow(dead_code)]
 mod plain;
 
 use plain::{block::read_block, whole::take_whole, OVER};

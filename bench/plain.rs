@@ -1,6 +1,8 @@
 // The plain Rust that the library is timed against: rounded writing and moving, whole numbers and binary64 in and out, every width from
 // 2 to 64, the same refusals; columns and sheet blocks. No table, and no loop for one word. The paper's letters: n the width, r the regime,
 // c the characteristic.
+#![allow(dead_code)] // main.rs and lister.rs each use a part
+
 pub mod binary64;
 pub mod block;
 pub mod column;

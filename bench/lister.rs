@@ -31,62 +31,85 @@ fn main() -> Result<()> {
 }
 
 fn put_block(text: &mut Vec<u8>, block: &[u8], place: u64, words: &mut [u64]) {
+    let mut line = Line { room: [0; 64], first: 64 };
     match read_block(block, words) {
         Ok(header) => {
             for (position, &word) in words[..header.count].iter().enumerate() {
-                put_decimal(text, header.number as u64);
-                text.push(b' ');
-                put_decimal(text, position as u64);
-                text.push(b' ');
-                put_hex(text, header.width, word);
-                text.push(b' ');
-                put_whole(text, header.width, word);
-                text.push(b'\n');
+                line.end();
+                line.whole(header.width, word);
+                line.byte(b' ');
+                line.hex(header.width, word);
+                line.byte(b' ');
+                line.decimal(position as u64);
+                line.byte(b' ');
+                line.decimal(header.number as u64);
+                text.extend_from_slice(line.text());
             }
         }
         Err(refusal) => {
-            text.extend_from_slice(b"block ");
-            put_decimal(text, place);
-            text.extend_from_slice(b" refused ");
-            put_decimal(text, refusal as u64);
-            text.push(b'\n');
+            line.end();
+            line.decimal(refusal as u64);
+            line.bytes(b" refused ");
+            line.decimal(place);
+            line.bytes(b"block ");
+            text.extend_from_slice(line.text());
         }
     }
 }
 
-fn put_whole(text: &mut Vec<u8>, width: u32, word: u64) {
-    match take_whole(width, word) {
-        Ok(x) => {
-            if x < 0 {
-                text.push(b'-');
+// A line, put from its end to its start, so that no number's length has to be known before its digits. None is longer than 53 bytes.
+struct Line {
+    room: [u8; 64],
+    first: usize,
+}
+
+impl Line {
+    fn end(&mut self) {
+        self.first = 64;
+        self.byte(b'\n');
+    }
+
+    fn text(&self) -> &[u8] {
+        &self.room[self.first..]
+    }
+
+    fn byte(&mut self, byte: u8) {
+        self.first -= 1;
+        self.room[self.first] = byte;
+    }
+
+    fn bytes(&mut self, bytes: &[u8]) {
+        self.first -= bytes.len();
+        self.room[self.first..self.first + bytes.len()].copy_from_slice(bytes);
+    }
+
+    fn whole(&mut self, width: u32, word: u64) {
+        match take_whole(width, word) {
+            Ok(x) => {
+                self.decimal(x.unsigned_abs());
+                if x < 0 {
+                    self.byte(b'-');
+                }
             }
-            put_decimal(text, x.unsigned_abs());
-        }
-        Err(OVER) => text.extend_from_slice(b"over"),
-        Err(_) => text.extend_from_slice(b"nar"),
-    }
-}
-
-fn put_decimal(text: &mut Vec<u8>, n: u64) {
-    let mut digits = [0; 20];
-    let mut first = digits.len();
-    let mut rest = n;
-    loop {
-        first -= 1;
-        digits[first] = b'0' + (rest % 10) as u8;
-        rest /= 10;
-        if rest == 0 {
-            break;
+            Err(OVER) => self.bytes(b"over"),
+            Err(_) => self.bytes(b"nar"),
         }
     }
-    text.extend_from_slice(&digits[first..]);
-}
 
-fn put_hex(text: &mut Vec<u8>, width: u32, word: u64) {
-    let mut digits = [0; 16];
-    let count = width as usize / 4;
-    for (i, digit) in digits[..count].iter_mut().enumerate() {
-        *digit = b"0123456789abcdef"[(word >> (width as usize - 4 - 4 * i)) as usize & 15];
+    fn decimal(&mut self, n: u64) {
+        let mut rest = n;
+        loop {
+            self.byte(b'0' + (rest % 10) as u8);
+            rest /= 10;
+            if rest == 0 {
+                return;
+            }
+        }
     }
-    text.extend_from_slice(&digits[..count]);
+
+    fn hex(&mut self, width: u32, word: u64) {
+        for i in 0..width / 4 {
+            self.byte(b"0123456789abcdef"[(word >> (4 * i)) as usize & 15]);
+        }
+    }
 }

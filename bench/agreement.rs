@@ -1,6 +1,6 @@
 // Both sides answer the same at every width, the narrow and the refused ones too; asked before anything is timed.
-use crate::calls::{Bits, Move, One, Write, MOVE, TAKE_BINARY64, TAKE_WHOLE, WRITE, WRITE_BINARY64, WRITE_WHOLE};
-use crate::values::{self, Offer};
+use crate::calls::{on_block, on_column, Bits, Move, One, Write, MOVE, MOVE_COLUMN, READ_BLOCK, TAKE_BINARY64, TAKE_WHOLE, WRITE, WRITE_BINARY64, WRITE_WHOLE};
+use crate::values::{self, Block, Offer, COUNT};
 
 pub fn agree_everywhere(offers: &[Offer], words: &[u64], wholes: &[i64], floats: &[f64]) {
     for n in 0..=66 {
@@ -46,6 +46,64 @@ fn agree_on<'a, T: Bits + 'a, R: Bits>(name: &str, calls: [One<T, R>; 3], n: u32
         if ours != theirs {
             differ(&format!("{} at {}: bits {:x}", name, n, x.bits()), ours, theirs);
         }
+    }
+}
+
+// The columns that are timed, and short ones at every width: some have a stray word, some have no room, some leave places over.
+pub fn agree_on_columns(wide: &[u64], narrow: &[u64]) {
+    agree_on_column(16, 64, narrow, COUNT);
+    agree_on_column(64, 16, wide, COUNT);
+    for from in 0..=66 {
+        for to in 0..=66 {
+            for (i, words) in wide.chunks(5).take(12).enumerate() {
+                let words: Vec<u64> = words.iter().map(|w| if i % 4 == 0 { perhaps_stray(from, *w) } else { perhaps_stray(from, *w) >> 1 }).collect();
+                agree_on_column(from, to, &words, 4 + i % 3);
+            }
+        }
+    }
+}
+
+fn agree_on_column(from: u32, to: u32, words: &[u64], room: usize) {
+    let [ours, theirs] = [0, 1].map(|i| {
+        let mut results = vec![9; room];
+        (on_column(MOVE_COLUMN[i], from, to, words, &mut results), results)
+    });
+    agree_on_slices(|| format!("column of {} from {} to {}", words.len(), from, to), ours, theirs);
+}
+
+// The blocks that are timed; some with each byte changed, the sums made right again or not; some too short, and some with too few places.
+pub fn agree_on_blocks(blocks: &[Block]) {
+    for block in blocks {
+        agree_on_block(block, 496);
+        agree_on_block(block, 60);
+    }
+    for block in &blocks[..32] {
+        agree_on_block(&block[1..], 496);
+        for i in 0..512 {
+            let mut other = *block;
+            other[i] ^= 1 << (i % 8);
+            agree_on_block(&other, 496);
+            values::seal(&mut other);
+            agree_on_block(&other, 496);
+        }
+    }
+}
+
+fn agree_on_block(block: &[u8], room: usize) {
+    let [ours, theirs] = [0, 1].map(|i| {
+        let mut results = vec![9; room];
+        (on_block(READ_BLOCK[i], block, &mut results) as usize, results)
+    });
+    agree_on_slices(|| format!("block {:x?}", block), ours, theirs);
+}
+
+fn agree_on_slices(what: impl Fn() -> String, ours: (usize, Vec<u64>), theirs: (usize, Vec<u64>)) {
+    if ours.1 != theirs.1 {
+        eprintln!("{}: the results differ", what());
+        std::process::exit(1);
+    }
+    if ours.0 != theirs.0 {
+        differ(&what(), ours.0 as u64, theirs.0 as u64);
     }
 }
 

@@ -5,8 +5,9 @@ mod plain;
 mod timing;
 mod values;
 
-use calls::{Bits, One, MOVE, TAKE_BINARY64, TAKE_WHOLE, WRITE, WRITE_BINARY64, WRITE_WHOLE};
+use calls::{on_block, on_column, Bits, One, MOVE, MOVE_COLUMN, READ_BLOCK, TAKE_BINARY64, TAKE_WHOLE, WRITE, WRITE_BINARY64, WRITE_WHOLE};
 use timing::compare;
+use values::{Block, BLOCKS, COUNT};
 
 // A value that the compiler can't follow.
 #[inline(never)]
@@ -22,7 +23,24 @@ fn sum(answers: impl Iterator<Item = u64>) -> u64 {
 
 fn compare_one<T: Bits, R: Bits>(name: &str, calls: [One<T, R>; 3], n: u32, given: &[T]) -> bool {
     let side = |i: usize| { let call = hidden(&calls[i]); move || sum(given.iter().map(|&x| unsafe { call(n, x) }.bits())) };
-    compare(&format!("{} {}", name, n), [&side(0), &side(1), &side(2)])
+    compare(&format!("{} {}", name, n), COUNT, [&mut side(0), &mut side(1), &mut side(2)])
+}
+
+// A round is one call. All results are compared before (`agreement.rs`); here one stands for them.
+fn compare_columns(from: u32, to: u32, words: &[u64]) -> bool {
+    let side = |i: usize| {
+        let (call, mut results) = (hidden(&MOVE_COLUMN[i]), vec![0; COUNT]);
+        move || on_column(call, from, to, words, &mut results) as u64 ^ results[COUNT - 1]
+    };
+    compare(&format!("column {} to {}", from, to), COUNT, [&mut side(0), &mut side(1), &mut side(2)])
+}
+
+fn compare_blocks(blocks: &[Block]) -> bool {
+    let side = |i: usize| {
+        let (call, mut results) = (hidden(&READ_BLOCK[i]), vec![0; 496]);
+        move || sum(blocks.iter().map(|block| on_block(call, block, &mut results) as u64 ^ results[0]))
+    };
+    compare("blocks", BLOCKS, [&mut side(0), &mut side(1), &mut side(2)])
 }
 
 fn main() {
@@ -31,16 +49,19 @@ fn main() {
     let narrow = values::narrow_words();
     let wholes = values::wholes();
     let floats = values::floats();
+    let blocks = values::blocks();
     agreement::agree_everywhere(&offers, &wide, &wholes, &floats);
+    agreement::agree_on_columns(&wide, &narrow);
+    agreement::agree_on_blocks(&blocks);
 
     let mut within = true;
     for n in [16, 64] {
         let side = |i: usize| { let (call, offers) = (hidden(&WRITE[i]), &offers); move || sum(offers.iter().map(|o| unsafe { call(n, o.negative, o.m, o.k) })) };
-        within &= compare(&format!("writing at {}", n), [&side(0), &side(1), &side(2)]);
+        within &= compare(&format!("writing at {}", n), COUNT, [&mut side(0), &mut side(1), &mut side(2)]);
     }
     for (from, to, words) in [(64, 16, &wide), (16, 64, &narrow)] {
         let side = |i: usize| { let call = hidden(&MOVE[i]); move || sum(words.iter().map(|&w| unsafe { call(from, to, w) })) };
-        within &= compare(&format!("moving {} to {}", from, to), [&side(0), &side(1), &side(2)]);
+        within &= compare(&format!("moving {} to {}", from, to), COUNT, [&mut side(0), &mut side(1), &mut side(2)]);
     }
     for n in [16, 64] {
         within &= compare_one("whole number in", WRITE_WHOLE, n, &wholes);
@@ -54,5 +75,8 @@ fn main() {
     for (n, words) in [(16, &narrow), (64, &wide)] {
         within &= compare_one("binary64 out", TAKE_BINARY64, n, words);
     }
+    within &= compare_columns(16, 64, &narrow);
+    within &= compare_columns(64, 16, &wide);
+    within &= compare_blocks(&blocks);
     timing::conclude(within);
 }

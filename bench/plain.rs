@@ -1,12 +1,23 @@
 // The plain Rust that the library is timed against: rounded writing and moving, whole numbers and binary64 in and out, every width from
-// 2 to 64, the same refusals. No loop and no table. The paper's letters: n the width, r the regime, c the characteristic.
+// 2 to 64, the same refusals; columns and sheet blocks. No table, and no loop for one word. The paper's letters: n the width, r the regime,
+// c the characteristic.
+#![allow(dead_code)] // main.rs and lister.rs each use a part
+
 pub mod binary64;
+pub mod block;
+pub mod column;
 pub mod whole;
 
 pub const WIDTH: u32 = 1;
 pub const STRAY: u32 = 2;
 pub const NAR: u32 = 3;
 pub const OVER: u32 = 5;
+pub const ROOM: u32 = 6;
+pub const SIZE: u32 = 7;
+pub const MARK: u32 = 8;
+pub const CHECK: u32 = 9;
+pub const COUNT: u32 = 10;
+pub const FILL: u32 = 11;
 
 const TOP: u64 = 1 << 63;
 
@@ -29,15 +40,20 @@ pub fn move_word(from: u32, to: u32, word: u64) -> Result<u64, u32> {
     if !(2..=64).contains(&from) || !(2..=64).contains(&to) {
         return Err(WIDTH);
     }
-    let string = string_of(from, word)?;
+    Ok(moved(to, string_of(from, word)?))
+}
+
+// A string as a word of width `to`.
+#[inline(always)]
+fn moved(to: u32, string: u64) -> u64 {
     if string == 0 {
-        return Ok(0);
+        return 0;
     }
     if string == TOP {
-        return Ok(1 << (to - 1));
+        return 1 << (to - 1);
     }
     let (negative, h, m) = read(string);
-    Ok(with_sign(to, negative, nearest(to, h as i64, m)))
+    with_sign(to, negative, nearest(to, h as i64, m))
 }
 
 // A word with its sign at the top of 64 bits: zero bits follow on the right, as the format wants below 12 bits.

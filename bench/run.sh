@@ -1,5 +1,6 @@
 #!/bin/sh
-# Times the library against bench/plain.rs; bench/README.md says how. On x86-64: one run. On Arm: one run under the emulator and one native.
+# Times the library against bench/plain.rs and the lister against bench/lister.rs; bench/README.md says how. On x86-64: one run each. On Arm:
+# of the library one run under the emulator and one native, of the lister one under the emulator.
 set -eu
 cd "$(dirname "$0")/.."
 
@@ -18,11 +19,35 @@ trap 'rm -rf "$work"' EXIT
 machine=$(uname -m)
 done=0
 
+kit=${RATTLE_HOME:-$(dirname "$(dirname "$(rt doc)")")}
+own=$kit/on/$machine
+
+# Debian's rustc, since it finds Debian's x86-64 library, and what it is told on Arm.
+debian=/usr/bin/rustc
+for_x86_64="--target x86_64-unknown-linux-gnu -C linker=x86_64-linux-gnu-gcc"
+
+# COMPILER SOURCE PROGRAM [WORDS...]
+compile() {
+    compiler=$1 source=$2 program=$3
+    shift 3
+    "$compiler" -C opt-level=3 --edition 2021 -o "$program" "$source" "$@"
+}
+
 # COMPILER LIBRARY-FOLDER PROGRAM [WORDS...]
 build() {
     compiler=$1 folder=$2 program=$3
     shift 3
-    "$compiler" -C opt-level=3 --edition 2021 "$@" -o "$program" bench/main.rs -L "$folder" -l static=speed
+    compile "$compiler" bench/main.rs "$program" -L "$folder" -l static=speed "$@"
+}
+
+# Whether an x86-64 program can be built and run on Arm.
+can_emulate() {
+    for tool in $debian x86_64-linux-gnu-gcc qemu-x86_64; do
+        if ! has $tool; then
+            echo "bench: no emulated run, since $tool is missing; bench/README.md names the packages"
+            return 1
+        fi
+    done
 }
 
 # The machine code of the archive, on the processor that it is for.
@@ -33,28 +58,20 @@ as_built() {
     done=1
 }
 
-# The same on Arm, both sides under one emulator. Debian's rustc is asked for, since it finds Debian's x86-64 library.
+# The same on Arm, both sides under one emulator.
 emulated() {
-    compiler=/usr/bin/rustc
-    for tool in $compiler x86_64-linux-gnu-gcc qemu-x86_64; do
-        if ! has $tool; then
-            echo "bench: no emulated run, since $tool is missing; bench/README.md names the packages"
-            return
-        fi
-    done
-    if ! build $compiler target/staticlib "$work/emulated" --target x86_64-unknown-linux-gnu -C linker=x86_64-linux-gnu-gcc; then
+    can_emulate || return 0
+    if ! build $debian target/staticlib "$work/emulated" $for_x86_64; then
         echo "bench: no emulated run, since the program can't be built for x86-64; bench/README.md names the packages"
         return
     fi
-    echo "== x86-64 under $(qemu-x86_64 --version | head -n 1): $($compiler --version)"
+    echo "== x86-64 under $(qemu-x86_64 --version | head -n 1): $($debian --version)"
     qemu-x86_64 "$work/emulated"
     done=1
 }
 
 # The LLVM module that the kit makes of the library, compiled by the kit's clang for this processor instead of x86-64.
 native() {
-    kit=$(dirname "$(dirname "$(rt doc)")")
-    own=$kit/on/$machine
     if [ ! -x "$own/toolchain/bin/clang" ]; then
         echo "bench: no native run, since the kit has no clang at $own/toolchain/bin"
         return
@@ -82,6 +99,30 @@ native() {
     done=1
 }
 
+# The lister, with the kit's loader as ./lister starts it, on 40,000 blocks that the independent program makes: 20 MB.
+lister() {
+    if [ "$machine" = x86_64 ]; then
+        emulator=
+        compile rustc bench/lister.rs "$work/lister"
+        echo "== the lister, x86-64, run directly: $(rustc --version)"
+    else
+        can_emulate || return 0
+        emulator=qemu-x86_64
+        if ! compile $debian bench/lister.rs "$work/lister" $for_x86_64; then
+            echo "bench: no run of the lister, since the plain one can't be built for x86-64; bench/README.md names the packages"
+            return
+        fi
+        echo "== the lister, both programs x86-64 under $($emulator --version | head -n 1): $($debian --version)"
+    fi
+    rt check lister >"$work/log" 2>&1 || { cat "$work/log"; miss "the lister was not built"; }
+    compile rustc oracle/main.rs "$work/oracle"
+    compile rustc bench/turns.rs "$work/turns"
+    "$work/oracle" sheet 40000 >"$work/sheet"
+    tools=$own/toolchain/lib
+    "$work/turns" "$work/sheet" 9 $emulator "$tools/ld-linux-x86-64.so.2" --library-path "$tools" target/bin/lister -- $emulator "$work/lister"
+    done=1
+}
+
 rt staticlib speed >"$work/log" 2>&1 || { cat "$work/log"; miss "the library was not built"; }
 echo "kit $(rt version); $(lscpu | sed -n 's/^Model name: *//p' | head -n 1), $(nproc) processors"
 if [ "$machine" = x86_64 ]; then
@@ -90,4 +131,5 @@ else
     emulated
     native
 fi
+lister
 [ $done = 1 ] || miss "nothing was timed"

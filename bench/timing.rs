@@ -1,5 +1,5 @@
 // Timing three sides in turn, in one process.
-use crate::values::COUNT;
+use crate::values::{BLOCKS, COUNT};
 
 const ROUNDS: usize = 31;
 const LIMIT: f64 = 1.5;
@@ -33,8 +33,8 @@ fn median(times: &mut [f64]) -> f64 {
 }
 
 // Three sides in turn, `ROUNDS` times: the library, the plain version, the empty call, whose time is taken off both.
-// Gives whether the ratio is within the limit.
-pub fn compare(name: &str, sides: [&dyn Fn() -> u64; 3]) -> bool {
+// Times are given for one of the `count` words, values or blocks of a round. Gives whether the ratio is within the limit.
+pub fn compare(name: &str, count: usize, sides: [&mut dyn FnMut() -> u64; 3]) -> bool {
     let sum = sides[0]();
     if sum != sides[1]() {
         eprintln!("{}: the library and the plain version give different answers; nothing is timed", name);
@@ -53,7 +53,7 @@ pub fn compare(name: &str, sides: [&dyn Fn() -> u64; 3]) -> bool {
             }
         }
     }
-    let [library, plain, empty] = times.map(|mut t| median(&mut t) / COUNT as f64 * 1e9);
+    let [library, plain, empty] = times.map(|mut t| median(&mut t) / count as f64 * 1e9);
     let net = (library - empty) / (plain - empty);
     println!(
         "{:<19} ratio {:.2}, with loop and call {:.2}; library {:.1} ns, plain {:.1} ns, empty call {:.1} ns; answers {:016x}",
@@ -63,5 +63,5 @@ pub fn compare(name: &str, sides: [&dyn Fn() -> u64; 3]) -> bool {
 }
 
 pub fn conclude(within: bool) {
-    println!("medians of {} rounds of {} values; {} ratio is at most {}", ROUNDS, COUNT, if within { "every" } else { "NOT every" }, LIMIT);
+    println!("medians of {} rounds of {} values or {} blocks; {} ratio is at most {}", ROUNDS, COUNT, BLOCKS, if within { "every" } else { "NOT every" }, LIMIT);
 }

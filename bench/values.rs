@@ -3,6 +3,9 @@
 use crate::plain;
 
 pub const COUNT: usize = 65_536;
+pub const BLOCKS: usize = 10_000;
+
+pub type Block = [u8; 512];
 
 pub struct Offer {
     pub negative: bool,
@@ -73,6 +76,32 @@ pub fn words_of_wholes(n: u32) -> Vec<u64> {
             plain::write(n, next() % 2 == 1, next() | 1 << 63, h - 63).unwrap()
         })
         .collect()
+}
+
+// Blocks of all four widths, with right sums: one in four is full, the others have any count.
+pub fn blocks() -> Vec<Block> {
+    let mut next = numbers(4);
+    (0..BLOCKS)
+        .map(|number| {
+            let size = 1 << (next() % 4);
+            let full = 496 / size;
+            let count = if next() % 4 == 0 { full } else { next() as usize % (full + 1) };
+            let mut block = [0; 512];
+            block[..2].copy_from_slice(&[0x54, 8 * size as u8]);
+            block[2..4].copy_from_slice(&(count as u16).to_le_bytes());
+            block[4..8].copy_from_slice(&(number as u32).to_le_bytes());
+            block[8..8 + size * count].fill_with(|| next() as u8);
+            seal(&mut block);
+            block
+        })
+        .collect()
+}
+
+// Puts the right sums into a block.
+pub fn seal(block: &mut Block) {
+    let (a, b) = plain::block::sums_of(block);
+    block[504..508].copy_from_slice(&a.to_le_bytes());
+    block[508..].copy_from_slice(&b.to_le_bytes());
 }
 
 // ---- the edges, for the comparison of answers alone

@@ -1,7 +1,11 @@
-// The calls that bench/ times, one word each, as functions that Rust links; a refusal is given as 0.
+// The calls that bench/ times, as functions that Rust links; a refusal is given as 0.
 use binary64::taking::Binary64;
 use binary64::taking::take_binary64;
 use binary64::writing::write_binary64;
+use column::moving::Column;
+use column::moving::move_column;
+use sheet::block::Block;
+use sheet::block::read_block;
 use whole::taking::Taking;
 use whole::taking::Whole;
 use whole::taking::take_whole;
@@ -13,7 +17,7 @@ use write::value::Rule;
 use write::value::Value;
 use write::writing::write;
 ghost use mathlib.Core.Path.{_≡_};
-ghost use Rattle.speed.specs.Calls.{wordOr0, GivesWritten, GivesMoved, GivesWholeWritten, GivesWholeTaken, GivesBinary64Written, GivesBinary64Taken};
+ghost use Rattle.speed.specs.Calls.{wordOr0, GivesWritten, GivesMoved, GivesWholeWritten, GivesWholeTaken, GivesBinary64Written, GivesBinary64Taken, GivesColumnMoved, GivesBlockRead};
 
 // Plus or minus m * 2^k, written rounded.
 #[no_mangle]
@@ -73,6 +77,35 @@ pub extern "C" fn speed_take_binary64(n: u32, word: u64) -> f64
         Binary64::Number(x) => x,
         Binary64::NotReal => 0.0,
         Binary64::Refused(_) => 0.0,
+    }
+}
+
+// A column moved to another width, rounded; the number of its words.
+#[no_mangle]
+pub extern "C" fn speed_move_column(from: u32, to: u32, words: &[u64], results: &mut [u64]) -> usize
+    ensures { λ k. ⌜ GivesColumnMoved from to (now (words .entry)) (now (results .entry)) (now (results .exit)) k ⌝ }
+{
+    match move_column(
+        Width { bits: from },
+        Width { bits: to },
+        Rule::Rounded,
+        words,
+        results,
+    ) {
+        Column::Moved(count) => count,
+        Column::Refused(_) => 0,
+        Column::RefusedAt { .. } => 0,
+    }
+}
+
+// A block read; the number of its words.
+#[no_mangle]
+pub extern "C" fn speed_read_block(block: &[u8], results: &mut [u64]) -> u32
+    ensures { λ k. ⌜ GivesBlockRead (now (block .entry)) (now (results .entry)) (now (results .exit)) k ⌝ }
+{
+    match read_block(block, results) {
+        Block::Read { count, .. } => count,
+        Block::Refused(_) => 0,
     }
 }
 

@@ -1,0 +1,63 @@
+// A sheet block read.
+use super::{CHECK, COUNT, FILL, MARK, ROOM, SIZE, WIDTH};
+
+pub struct Header {
+    pub width: u32,
+    pub number: u32,
+    pub count: usize,
+}
+
+pub fn read_block(block: &[u8], results: &mut [u64]) -> Result<Header, u32> {
+    if block.len() != 512 {
+        return Err(SIZE);
+    }
+    if block[0] != 0x54 {
+        return Err(MARK);
+    }
+    if sums_of(block) != (four_bytes(&block[504..508]), four_bytes(&block[508..])) {
+        return Err(CHECK);
+    }
+    let width = block[1] as u32;
+    if ![8, 16, 32, 64].contains(&width) {
+        return Err(WIDTH);
+    }
+    let size = width as usize / 8;
+    let count = u16::from_le_bytes([block[2], block[3]]) as usize;
+    let end = 8 + size * count;
+    if end > 504 {
+        return Err(COUNT);
+    }
+    if block[end..504].iter().fold(0, |all, byte| all | byte) != 0 {
+        return Err(FILL);
+    }
+    if count > results.len() {
+        return Err(ROOM);
+    }
+    let (bytes, results) = (&block[8..end], &mut results[..count]);
+    match size {
+        1 => unpack(bytes, results, |[b]: [u8; 1]| b as u64),
+        2 => unpack(bytes, results, |b| u16::from_le_bytes(b) as u64),
+        4 => unpack(bytes, results, |b| u32::from_le_bytes(b) as u64),
+        _ => unpack(bytes, results, u64::from_le_bytes),
+    }
+    Ok(Header { width, number: four_bytes(&block[4..8]), count })
+}
+
+// A and B over bytes 0 to 503.
+pub fn sums_of(block: &[u8]) -> (u32, u32) {
+    block[..504].chunks_exact(4).fold((0, 0), |(a, b): (u32, u32), bytes| {
+        let next = a.wrapping_add(four_bytes(bytes));
+        (next, b.wrapping_add(next))
+    })
+}
+
+fn four_bytes(bytes: &[u8]) -> u32 {
+    u32::from_le_bytes(bytes.try_into().unwrap())
+}
+
+#[inline(always)]
+fn unpack<const SIZE: usize>(bytes: &[u8], results: &mut [u64], number: impl Fn([u8; SIZE]) -> u64) {
+    for (result, word) in results.iter_mut().zip(bytes.chunks_exact(SIZE)) {
+        *result = number(word.try_into().unwrap());
+    }
+}

@@ -29,9 +29,13 @@ AColumnRefusedAtAPlaceWritesNothing = (n n' : ℕ) (rule : Rule) (words before a
 unfoldable pub ARefusedBlockWritesNothing : Type 0
 ARefusedBlockWritesNothing = (block before after : List ℕ) (q : Refusal) → ReadsBlock block (length before) (Block.Refused q) → FillsResults block before after → after ≡ before
 
--- a result slice that is too short gets refusal 6; so does a block's, once the block is good
+-- a result slice that is too short for the column gets refusal 6
 unfoldable pub AShortResultSliceIsRefused : Type 0
 AShortResultSliceIsRefused = (n n' : ℕ) (rule : Rule) (words : List ℕ) (room : ℕ) (a : Column) → 2 ≤ n → n ≤ 64 → 2 ≤ n' → n' ≤ 64 → room < length words → MovesColumn n n' rule words room a → RefusedAs Column Column.Refused 6 a
+
+-- and so does one that is too short for a block's words, where a longer one lets the block be read
+unfoldable pub AShortSliceForABlockIsRefused : Type 0
+AShortSliceForABlockIsRefused = (block : List ℕ) (places places' w i n : ℕ) (a : Block) → ReadsBlock block places' (Block.Read w i n) → places < n → ReadsBlock block places a → RefusedAs Block Block.Refused 6 a
 
 -- a slice that isn't 512 bytes gets refusal 7
 unfoldable pub AnotherSizeIsRefused : Type 0

@@ -1,7 +1,7 @@
 -- A contract that decides by a verdict, said otherwise on either side. Assumes nothing.
-use Rattle.word.specs.declared.refusal.Refusal.{Refusal}
-use Rattle.word.specs.declared.refusal.Verdict.{Verdict}
-use Rattle.word.specs.Refusals.{Decided, through, refused}
+use Rattle.bounds.specs.declared.refusal.Refusal.{Refusal}
+use Rattle.bounds.specs.declared.refusal.Verdict.{Verdict}
+use Rattle.bounds.specs.Refusals.{Decided, through, refused}
 
 pub decided-as : {v : Verdict} {P P' : Refusal → Type 0} {Q Q' : Type 0} → ((q : Refusal) → P q → P' q) → (Q → Q') → Decided v P Q → Decided v P' Q'
 decided-as f g (through h x) = through h (g x)

@@ -11,10 +11,10 @@ use lib.Ieee.{Float, binary64, round, mul}
 use lib.Ieee.Back.{round-whole}
 use lib.Ieee.Exact.{HasValue, round-exact}
 use lib.Ieee.Scale.{round-same}
-use Rattle.word.specs.Refusals.{IsWord}
+use Rattle.bounds.specs.Refusals.{IsWord}
 use Rattle.word.specs.Takum.{real, p, N, takum, fractionBits}
 use Rattle.word.specs.Reads.{signedSize}
-use Rattle.word.proofs.Powers.{pow-sum, shl-below}
+use Rattle.bounds.proofs.Powers.{pow-sum, shl-below}
 use Rattle.word.proofs.Readings.{exponent-small}
 use Rattle.word.proofs.Values.{real-inj, not-NaR}
 use Rattle.word.proofs.Words.{Lies, at-zero, above, at-NaR, under, lies, takum-zero, takum-NaR}

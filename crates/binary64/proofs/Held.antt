@@ -12,8 +12,8 @@ use lib.Ieee.Bits.{ofBits-toBits}
 use lib.Ieee.Exact.{HasValue, round-exact}
 use lib.Ieee.Fits.{and-l, and-r, down-pos, round-fits}
 use lib.Ieee.Nearest.{div-same}
-use Rattle.word.proofs.Limits.{exponent-lt}
-use Rattle.word.proofs.Powers.{pow-sum}
+use Rattle.bounds.proofs.Limits.{exponent-lt}
+use Rattle.bounds.proofs.Powers.{pow-sum}
 
 -- ---- the bits of a value turn on its sign and its size alone
 -- n is the size in units of the format's smallest value

@@ -6,10 +6,10 @@ use lib.IntN.{ℤ, pos, negsuc, negℤ, natAbs}
 use lib.Pow.{pow-pos}
 use lib.Ieee.{Float, fin, binary64, round, neg}
 use Rattle.word.specs.Orders.{negated, opposite}
-use Rattle.word.specs.Refusals.{through}
+use Rattle.bounds.specs.Refusals.{through}
 use Rattle.word.specs.Takum.{Takum, real}
 use Rattle.word.proofs.Values.{real-inj, words-differ, negated-word, negation-negates}
-use Rattle.word.proofs.Verdicts.{word-passes}
+use Rattle.bounds.proofs.Verdicts.{word-passes}
 use Rattle.word.proofs.Words.{takum-zero}
 use Rattle.write.specs.Writes.{isNegative}
 use Rattle.binary64.specs.declared.taking.Binary64.{Binary64}

@@ -6,11 +6,11 @@ use native.Mathlib.Nat.{le-of-eq}
 use native.Mathlib.Decide.{decLe}
 use native.Mathlib.Omega.{arith}
 use lib.IntN.{ℤ}
-use Rattle.word.specs.Refusals.{IsWord}
+use Rattle.bounds.specs.Refusals.{IsWord}
 use Rattle.word.specs.Takum.{Takum, real, S, p, F, value, N, padded, takum, fractionBits}
 use Rattle.word.specs.Reads.{IsNumber}
 use Rattle.word.proofs.Numbers.{positive-number, negative-power, negative-number, sign-one}
-use Rattle.word.proofs.Powers.{shl-below}
+use Rattle.bounds.proofs.Powers.{shl-below}
 use Rattle.word.proofs.Words.{takum-number}
 
 pub record Holds (n w : ℕ) : Type 0 where

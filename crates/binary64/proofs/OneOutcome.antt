@@ -3,10 +3,10 @@ use mathlib.Core.Path.{_≡_, sym, _∙_}
 use Prim.Native.Nat.{ℕ, _*_, _^_, _≤_}
 use lib.Ieee.{Float, nan, inf, fin, up, down}
 use lib.Ieee.Fits.{down-pos}
-use Rattle.word.specs.Refusals.{through, refused}
+use Rattle.bounds.specs.Refusals.{through, refused}
 use Rattle.word.specs.Takum.{Takum, real, NaR, takum}
-use Rattle.word.specs.declared.answer.Answer.{Answer}
-use Rattle.word.proofs.Verdicts.{width-through, answered, refused-as, decided-one}
+use Rattle.bounds.specs.declared.answer.Answer.{Answer}
+use Rattle.bounds.proofs.Verdicts.{width-through, answered, refused-as, decided-one}
 use Rattle.write.specs.declared.value.Rule.{Rule}
 use Rattle.write.proofs.Rounding.{written-one}
 use Rattle.binary64.specs.declared.taking.Binary64.{Binary64}

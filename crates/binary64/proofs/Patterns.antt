@@ -11,7 +11,7 @@ use lib.Dec.{leb, eqb, eqb·suc-zero}
 use lib.Ieee.{Float, nan, inf, binary64, odd, ofFields, ofBits}
 use lib.Ieee.Exact.{HasValue, odd-sign}
 use lib.Pow.{pow-pos}
-use Rattle.word.proofs.Powers.{pow-sum}
+use Rattle.bounds.proofs.Powers.{pow-sum}
 use Rattle.binary64.proofs.Values.{value-same}
 
 abbrev pub signBit : ℕ → Bool

@@ -7,10 +7,10 @@ use lib.Ieee.{Float, nan, inf, fin, up, down}
 use lib.Ieee.Exact.{HasValue}
 use lib.Ieee.Fits.{down-pos}
 use Rattle.word.specs.Reads.{signedSize}
-use Rattle.word.specs.Refusals.{IsWord}
+use Rattle.bounds.specs.Refusals.{IsWord}
 use Rattle.word.specs.Takum.{real, takum}
-use Rattle.word.specs.declared.answer.Answer.{Answer}
-use Rattle.word.proofs.Verdicts.{width-fits, answered}
+use Rattle.bounds.specs.declared.answer.Answer.{Answer}
+use Rattle.bounds.proofs.Verdicts.{width-fits, answered}
 use Rattle.write.specs.declared.value.Rule.{Rule}
 use Rattle.write.specs.Writes.{isNegative}
 use Rattle.write.proofs.Moves.{rejoined}

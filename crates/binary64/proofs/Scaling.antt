@@ -12,7 +12,7 @@ use lib.Ieee.Fits.{round-fits}
 use lib.Ieee.Order.{round-mono}
 use lib.Ieee.Positive.{positive, positive-finite, positive-of-value, between, mul-at}
 use lib.Ieee.Scale.{grid, round-same, round-val, round-under, grid-scale, normal-of-fraction}
-use Rattle.word.proofs.Powers.{pow-sum}
+use Rattle.bounds.proofs.Powers.{pow-sum}
 use Rattle.binary64.proofs.Held.{round-held}
 
 -- ---- between two powers of two, nothing overflows and nothing becomes zero

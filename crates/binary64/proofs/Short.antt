@@ -4,11 +4,11 @@ use Prim.Native.Nat.{ℕ, _+_, _-_, _*_, _/_, _%_, _^_, _≤_}
 use native.Mathlib.Nat.{mul-assoc}
 use native.Mathlib.Omega.{arith}
 use Rattle.word.specs.declared.size.Size.{Size}
-use Rattle.word.specs.Refusals.{IsWord}
+use Rattle.bounds.specs.Refusals.{IsWord}
 use Rattle.word.specs.Sizes.{withoutSign, Sizes}
 use Rattle.word.specs.Takum.{p, r, F}
 use Rattle.word.proofs.Cut.{regime-le}
-use Rattle.word.proofs.Powers.{pow-sum, shl-out}
+use Rattle.bounds.proofs.Powers.{pow-sum, shl-out}
 use Rattle.write.proofs.Sized.{plain, at-top}
 
 -- the fraction of a string that ends in seven zero bits

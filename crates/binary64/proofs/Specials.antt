@@ -6,11 +6,11 @@ use native.Mathlib.Nat.{zero-mul}
 use lib.IntN.{ℤ}
 use lib.Ieee.{nan, inf, fin, up, down}
 use lib.Ieee.Fits.{down-pos}
-use Rattle.word.specs.Refusals.{IsWord}
+use Rattle.bounds.specs.Refusals.{IsWord}
 use Rattle.word.specs.Takum.{Takum}
-use Rattle.word.specs.Widths.{narWord}
-use Rattle.word.specs.declared.answer.Answer.{Answer}
-use Rattle.word.proofs.Verdicts.{width-fits, word-passes, answered}
+use Rattle.bounds.specs.Widths.{narWord}
+use Rattle.bounds.specs.declared.answer.Answer.{Answer}
+use Rattle.bounds.proofs.Verdicts.{width-fits, word-passes, answered}
 use Rattle.word.proofs.Words.{takum-NaR}
 use Rattle.write.specs.declared.value.Rule.{Rule}
 use Rattle.write.proofs.Rounding.{written-one}

@@ -7,10 +7,10 @@ use lib.IntN.{ℤ, pos, natAbs, _+ℤ_}
 use lib.Pow.{pow-pos}
 use lib.Ieee.{Float, binary64, round, ofBits}
 use lib.Ieee.Scale.{round-same}
-use Rattle.word.specs.Refusals.{IsWord, through, refused}
+use Rattle.bounds.specs.Refusals.{IsWord, through, refused}
 use Rattle.word.specs.Takum.{Takum, real, NaR, takum}
 use Rattle.word.specs.Reads.{IsNumber}
-use Rattle.word.proofs.Verdicts.{word-through}
+use Rattle.bounds.proofs.Verdicts.{word-through}
 use Rattle.write.specs.Writes.{isNegative}
 use Rattle.binary64.specs.declared.taking.Binary64.{Binary64}
 use Rattle.binary64.specs.Takes.{IsTaken, TakesBinary64}

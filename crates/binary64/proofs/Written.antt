@@ -10,8 +10,8 @@ use lib.Ieee.{Float, nan, inf, fin, binary64, up, down, ofBits}
 use lib.Ieee.Exact.{HasValue}
 use lib.Ieee.Fits.{down-pos}
 use Rattle.word.specs.Reads.{num, den}
-use Rattle.word.specs.Widths.{narWord}
-use Rattle.word.specs.declared.answer.Answer.{Answer}
+use Rattle.bounds.specs.Widths.{narWord}
+use Rattle.bounds.specs.declared.answer.Answer.{Answer}
 use Rattle.word.proofs.Integers.{sub-add}
 use Rattle.word.proofs.Signed.{difference}
 use Rattle.write.specs.declared.value.Rule.{Rule}

@@ -3,7 +3,7 @@ use mathlib.Core.Path.{_≡_}
 use Prim.Native.Nat.{ℕ, _^_}
 use lib.IntN.{natAbs}
 use lib.Ieee.{binary64, round}
-use Rattle.word.specs.Refusals.{widthTest, strayTest, _then_, Decided}
+use Rattle.bounds.specs.Refusals.{widthTest, strayTest, _then_, Decided}
 use Rattle.word.specs.Takum.{Takum, real, NaR, takum}
 use Rattle.write.specs.Writes.{isNegative}
 use Rattle.binary64.specs.declared.taking.Binary64.{Binary64}

@@ -2,9 +2,9 @@
 use mathlib.Core.Path.{_≡_}
 use Prim.Native.Nat.{ℕ, _*_, _^_}
 use lib.Ieee.{Float, nan, inf, fin, up, down}
-use Rattle.word.specs.declared.answer.Answer.{Answer}
-use Rattle.word.specs.Refusals.{widthTest, Decided}
-use Rattle.word.specs.Widths.{narWord}
+use Rattle.bounds.specs.declared.answer.Answer.{Answer}
+use Rattle.bounds.specs.Refusals.{widthTest, Decided}
+use Rattle.bounds.specs.Widths.{narWord}
 use Rattle.write.specs.declared.value.Rule.{Rule}
 use Rattle.write.specs.Writes.{IsWritten}
 

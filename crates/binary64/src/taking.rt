@@ -1,8 +1,8 @@
 // Taking a word out as a binary64 number.
-use word::refusal::Refusal;
-use word::refusal::Verdict;
+use bounds::refusal::Refusal;
+use bounds::refusal::Verdict;
+use bounds::width::Width;
 use word::size::size_of;
-use word::width::Width;
 ghost use mathlib.Core.Path.{_≡_};
 ghost use mathlib.Core.Bool.{false};
 ghost use Prim.Native.Nat.{_*_, _^_, _≤_, _<_};

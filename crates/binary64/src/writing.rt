@@ -1,6 +1,6 @@
 // Writing a binary64 number as a word.
-use word::answer::Answer;
-use word::width::Width;
+use bounds::answer::Answer;
+use bounds::width::Width;
 use write::value::Rule;
 use write::value::Value;
 use write::writing::write;

@@ -7,7 +7,7 @@ use crate::ways::take_out;
 use crate::ways::take_round;
 use crate::ways::take_whole_in;
 use binary64::taking::take_binary64;
-use word::width::Width;
+use bounds::width::Width;
 ghost use Prim.Native.Nat.{_≤_};
 
 // What is asked of a number x of 64 bits. Where it is asked of a word, the word is x modulo 2^n.

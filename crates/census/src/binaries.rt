@@ -15,7 +15,7 @@ use crate::patterns::pattern_out;
 use crate::runs::Run;
 use crate::ways::take_binary64_in;
 use crate::ways::word_or;
-use word::width::Width;
+use bounds::width::Width;
 ghost use Prim.Native.Nat.{_≤_};
 
 // Part 23. A draw takes three numbers from the sequence: the first chooses the kind and the sign, the others make the number.

@@ -1,13 +1,13 @@
 // A digest: it takes in the numbers of one answer after another, so that a change in one number always changes it.
 use crate::numbers::pattern_of;
 use binary64::taking::Binary64;
+use bounds::answer::Answer;
+use bounds::refusal::Refusal;
+use bounds::width::Limit;
+use bounds::width::Made;
 use whole::taking::Whole;
-use word::answer::Answer;
 use word::order::Comparison;
 use word::reading::Reading;
-use word::refusal::Refusal;
-use word::width::Limit;
-use word::width::Made;
 
 // D0 of docs/CENSUS.md: the digest that has taken in nothing.
 pub(crate) const EMPTY: u64 = 0x9e37_79b9_7f4a_7c15;

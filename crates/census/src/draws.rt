@@ -6,7 +6,7 @@ use crate::runs::Run;
 use crate::sizes::ORIGIN;
 use crate::sizes::Size;
 use crate::writings::take_size;
-use word::width::Width;
+use bounds::width::Width;
 ghost use Prim.Native.Nat.{_≤_};
 
 // A draw takes five numbers from the sequence.

@@ -3,10 +3,10 @@ use crate::bits::low_bits;
 use crate::digest::take_answer;
 use crate::digest::take_comparison;
 use crate::digest::take_reading;
+use bounds::width::Width;
 use word::order::compare;
 use word::order::negate;
 use word::reading::read;
-use word::width::Width;
 ghost use Prim.Native.Nat.{_≤_};
 
 // The facts of the words a and b at the width n.

@@ -55,7 +55,7 @@ use crate::refused::Refused;
 use crate::refused::print_bad_widths;
 use crate::subjects::Subject;
 use crate::subjects::WIDEST_WHOLE;
-use word::width::Width;
+use bounds::width::Width;
 
 fn main() {
     print_readings();

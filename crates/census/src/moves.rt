@@ -1,6 +1,6 @@
 // Part 9: the moves of a word to other widths, each rounded and strict.
 use crate::digest::take_answer;
-use word::width::Width;
+use bounds::width::Width;
 use write::moving::move_word;
 use write::value::Rule;
 ghost use Prim.Native.Nat.{_≤_};

@@ -13,7 +13,7 @@ use crate::sizes::exponent;
 use crate::subjects::WIDEST_WHOLE;
 use crate::ways::take_out;
 use crate::ways::word_or;
-use word::width::Width;
+use bounds::width::Width;
 use write::value::Rule;
 use write::value::Value;
 use write::writing::write;

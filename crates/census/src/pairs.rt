@@ -5,7 +5,7 @@ use crate::columns::Shape;
 use crate::columns::draw_column;
 use crate::columns::take_two_moves;
 use crate::runs::Run;
-use word::width::Width;
+use bounds::width::Width;
 ghost use Prim.Native.Nat.{_≤_};
 
 // The target widths in order, from the least one on.

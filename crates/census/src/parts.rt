@@ -14,7 +14,7 @@ use crate::subjects::Subject;
 use crate::wholes::print_brink;
 use crate::wholes::print_limit_line;
 use crate::widths::print_width;
-use word::width::Width;
+use bounds::width::Width;
 ghost use Prim.Native.Nat.{_≤_};
 
 pub(crate) enum Part {

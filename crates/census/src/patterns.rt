@@ -6,7 +6,7 @@ use crate::numbers::NAN;
 use crate::numbers::pattern_of;
 use binary64::taking::Binary64;
 use binary64::taking::take_binary64;
-use word::width::Width;
+use bounds::width::Width;
 ghost use Prim.Native.Nat.{_≤_};
 
 // The exponent field 1.

@@ -11,7 +11,7 @@ use crate::unnumbered::take_unnumbered;
 use crate::unread::take_facts_of_stray;
 use crate::unread::take_unread;
 use crate::ways::take_out;
-use word::width::Width;
+use bounds::width::Width;
 ghost use Prim.Native.Nat.{_≤_};
 
 // What the library is asked of words.

@@ -2,9 +2,9 @@
 use crate::bits::ALL_BITS;
 use crate::bits::TOP_BIT;
 use crate::bits::bounded;
+use bounds::width::Width;
 use word::reading::Reading;
 use word::reading::read;
-use word::width::Width;
 ghost use Prim.Native.Nat.{_+_, _≤_};
 
 // An exponent is kept without a sign, by its place: that of the exponent 0 is ORIGIN.

@@ -6,8 +6,8 @@ use crate::digest::take_comparison;
 use crate::digest::take_limit;
 use crate::digest::take_made;
 use crate::facts::take_itself;
+use bounds::width::Width;
 use word::order::compare;
-use word::width::Width;
 
 pub(crate) fn take_unread(digest: u64, n: u32) -> u64 {
     let width = Width { bits: n };

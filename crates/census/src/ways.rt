@@ -6,11 +6,11 @@ use crate::numbers::number_of;
 use crate::numbers::whole_of;
 use binary64::taking::take_binary64;
 use binary64::writing::write_binary64;
+use bounds::answer::Answer;
+use bounds::width::Width;
 use whole::taking::Taking;
 use whole::taking::take_whole;
 use whole::writing::write_whole;
-use word::answer::Answer;
-use word::width::Width;
 use write::value::Rule;
 
 // The ways in of the whole number of 64 bits.

@@ -14,8 +14,8 @@ use crate::line::print_of_width;
 use crate::runs::Run;
 use crate::ways::take_round;
 use crate::ways::take_whole_in;
-use word::width::Limit;
-use word::width::Width;
+use bounds::width::Limit;
+use bounds::width::Width;
 ghost use Prim.Native.Nat.{_≤_};
 
 // Part 18: the first place is that of -70,000.

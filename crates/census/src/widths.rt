@@ -2,9 +2,9 @@
 use crate::line::print_end;
 use crate::line::print_number;
 use crate::line::print_text;
-use word::answer::Answer;
-use word::width::Limit;
-use word::width::Width;
+use bounds::answer::Answer;
+use bounds::width::Limit;
+use bounds::width::Width;
 
 pub(crate) fn print_width(n: u32) {
     let width = Width { bits: n };

@@ -2,7 +2,7 @@
 use crate::digest::take_answer;
 use crate::sizes::Size;
 use crate::sizes::exponent;
-use word::width::Width;
+use bounds::width::Width;
 use write::value::Rule;
 use write::value::Value;
 use write::writing::write;

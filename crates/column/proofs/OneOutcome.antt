@@ -7,11 +7,11 @@ use native.Mathlib.Nat.{le-antisymm}
 use native.Mathlib.Omega.{arith}
 use lib.ListN.{length, getD}
 use lib.Seq.{ext-getD}
-use Rattle.word.specs.declared.answer.Answer.{Answer}
-use Rattle.word.specs.declared.refusal.Refusal.{Refusal}
-use Rattle.word.proofs.Answers.{wordOf}
-use Rattle.word.proofs.Powers.{not-more}
-use Rattle.word.proofs.Verdicts.{decided-one}
+use Rattle.bounds.specs.declared.answer.Answer.{Answer}
+use Rattle.bounds.specs.declared.refusal.Refusal.{Refusal}
+use Rattle.bounds.proofs.Answers.{wordOf}
+use Rattle.bounds.proofs.Powers.{not-more}
+use Rattle.bounds.proofs.Verdicts.{decided-one}
 use Rattle.write.specs.declared.value.Rule.{Rule}
 use Rattle.write.specs.Writes.{Moves}
 use Rattle.write.proofs.OneOutcome.{moves-one}

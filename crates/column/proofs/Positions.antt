@@ -4,11 +4,11 @@ use mathlib.Core.List.{List, []}
 use Prim.Native.Nat.{ℕ, _^_, _≤_, _<_, zero-le}
 use native.Mathlib.Omega.{arith}
 use lib.ListN.{length, getD}
-use Rattle.word.specs.declared.answer.Answer.{Answer}
-use Rattle.word.specs.declared.refusal.Refusal.{Refusal}
-use Rattle.word.specs.declared.refusal.Verdict.{Verdict}
-use Rattle.word.specs.Refusals.{widthTest, _then_, through, refused}
-use Rattle.word.proofs.Verdicts.{stray-fits, then-through, answered, refused-as}
+use Rattle.bounds.specs.declared.answer.Answer.{Answer}
+use Rattle.bounds.specs.declared.refusal.Refusal.{Refusal}
+use Rattle.bounds.specs.declared.refusal.Verdict.{Verdict}
+use Rattle.bounds.specs.Refusals.{widthTest, _then_, through, refused}
+use Rattle.bounds.proofs.Verdicts.{stray-fits, then-through, answered, refused-as}
 use Rattle.write.specs.declared.value.Rule.{Rule}
 use Rattle.write.specs.Writes.{Moves}
 use Rattle.write.proofs.OneOutcome.{moves-one}

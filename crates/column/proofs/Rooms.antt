@@ -3,9 +3,9 @@ use mathlib.Core.Path.{_≡_}
 use Prim.Native.Nat.{ℕ, _≤_, _<_}
 use lib.Dec.{leb}
 use borrow.Author.Tests.{le-leb, lt-leb, leb-true}
-use Rattle.word.specs.declared.refusal.Refusal.{Refusal}
-use Rattle.word.specs.declared.refusal.Verdict.{Verdict}
-use Rattle.word.proofs.Verdicts.{open-when}
+use Rattle.bounds.specs.declared.refusal.Refusal.{Refusal}
+use Rattle.bounds.specs.declared.refusal.Verdict.{Verdict}
+use Rattle.bounds.proofs.Verdicts.{open-when}
 use Rattle.column.specs.Columns.{roomTest}
 
 pub room-fits : (count room : ℕ) → count ≤ room → roomTest count room ≡ Verdict.Through

@@ -5,10 +5,10 @@ use Prim.Native.Nat.{ℕ, _≤_, _<_}
 use native.Mathlib.Omega.{arith}
 use lib.ListN.{length, getD, take}
 use lib.Seq.{length-take-le, getD-take, ext-getD}
-use Rattle.word.specs.declared.answer.Answer.{Answer}
+use Rattle.bounds.specs.declared.answer.Answer.{Answer}
 use Rattle.word.specs.Takum.{takum}
-use Rattle.word.proofs.Answers.{wordOf, GivesAWord}
-use Rattle.word.proofs.Verdicts.{answered}
+use Rattle.bounds.proofs.Answers.{wordOf, GivesAWord}
+use Rattle.bounds.proofs.Verdicts.{answered}
 use Rattle.write.specs.declared.value.Rule.{Rule}
 use Rattle.write.specs.Writes.{Moves}
 use Rattle.write.proofs.Moves.{strict-keeps, there-and-back}

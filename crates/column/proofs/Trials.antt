@@ -1,12 +1,12 @@
 -- A word that is tried is let through exactly where it is moved to some word. Assumes nothing.
 use mathlib.Core.Path.{_≡_, refl, sym, _∙_, subst}
 use Prim.Native.Nat.{ℕ}
-use Rattle.word.specs.declared.answer.Answer.{Answer}
-use Rattle.word.specs.declared.refusal.Refusal.{Refusal}
-use Rattle.word.specs.declared.refusal.Verdict.{Verdict}
-use Rattle.word.specs.Refusals.{widthTest, strayTest, refused}
-use Rattle.word.proofs.Answers.{GivesAWord}
-use Rattle.word.proofs.Verdicts.{width-through, word-through}
+use Rattle.bounds.specs.declared.answer.Answer.{Answer}
+use Rattle.bounds.specs.declared.refusal.Refusal.{Refusal}
+use Rattle.bounds.specs.declared.refusal.Verdict.{Verdict}
+use Rattle.bounds.specs.Refusals.{widthTest, strayTest, refused}
+use Rattle.bounds.proofs.Answers.{GivesAWord}
+use Rattle.bounds.proofs.Verdicts.{width-through, word-through}
 use Rattle.write.specs.declared.value.Rule.{Rule}
 use Rattle.write.specs.Writes.{Moves}
 use Rattle.write.proofs.Moves.{rounded-moves}

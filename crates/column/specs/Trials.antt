@@ -1,7 +1,7 @@
 -- What the crate's trial of one word answers.
 use Prim.Native.Nat.{ℕ}
-use Rattle.word.specs.declared.answer.Answer.{Answer}
-use Rattle.word.specs.declared.refusal.Verdict.{Verdict}
+use Rattle.bounds.specs.declared.answer.Answer.{Answer}
+use Rattle.bounds.specs.declared.refusal.Verdict.{Verdict}
 use Rattle.write.specs.declared.value.Rule.{Rule}
 use Rattle.write.specs.Writes.{Moves}
 use Rattle.column.specs.Columns.{Movable}

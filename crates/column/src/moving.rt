@@ -1,16 +1,16 @@
 // Moving a column: every word is tried before any result is written, so that a refusal leaves the results as they came.
-use word::answer::Answer;
-use word::refusal::Refusal;
-use word::refusal::Verdict;
-use word::width::Width;
+use bounds::answer::Answer;
+use bounds::refusal::Refusal;
+use bounds::refusal::Verdict;
+use bounds::width::Width;
 use write::moving::move_word;
 use write::value::Rule;
 ghost use mathlib.Core.Path.{_≡_};
 ghost use Prim.Native.Nat.{_≤_};
 ghost use lib.ListN.{length};
-ghost use Rattle.word.specs.declared.answer.Answer.{Answer};
-ghost use Rattle.word.specs.declared.refusal.Verdict.{Verdict};
-ghost use Rattle.word.specs.Refusals.{widthTest};
+ghost use Rattle.bounds.specs.declared.answer.Answer.{Answer};
+ghost use Rattle.bounds.specs.declared.refusal.Verdict.{Verdict};
+ghost use Rattle.bounds.specs.Refusals.{widthTest};
 ghost use Rattle.write.specs.Writes.{Moves};
 ghost use Rattle.column.specs.Columns.{roomTest, Movable, MovableUpTo, IsTried, AreMoved, MovesColumn, Holds};
 ghost use Rattle.column.specs.Trials.{TriesWord};

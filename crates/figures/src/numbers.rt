@@ -8,11 +8,11 @@ use crate::text::print_signed;
 use binary64::taking::Binary64;
 use binary64::taking::take_binary64;
 use binary64::writing::write_binary64;
+use bounds::width::Width;
 use whole::taking::Taking;
 use whole::taking::Whole;
 use whole::taking::take_whole;
 use whole::writing::write_whole;
-use word::width::Width;
 use write::value::Rule;
 
 pub(crate) fn print_whole_in(n: u32, rule: Rule, x: i64) {

@@ -8,7 +8,7 @@ use native.Mathlib.Omega.{arith}
 use native.Mathlib.Numerals.{add-one}
 use lib.Dec.{lit<}
 use lib.ListN.{length, take, drop, set, length-append, take-append-drop}
-use Rattle.word.proofs.Powers.{not-more}
+use Rattle.bounds.proofs.Powers.{not-more}
 use Rattle.io.specs.Digits.{glyph, digits}
 use Rattle.lister.specs.Puts.{Puts}
 use Rattle.lister.proofs.Placed.{in-front}

@@ -6,9 +6,9 @@ use native.Mathlib.Nat.{le-trans, le-of-eq}
 use native.Mathlib.Omega.{arith}
 use lib.ListN.{length, take, drop}
 use lib.Seq.{take-at}
-use Rattle.word.specs.declared.refusal.Refusal.{Refusal}
-use Rattle.word.specs.declared.refusal.Verdict.{Verdict}
-use Rattle.word.specs.Refusals.{through, refused}
+use Rattle.bounds.specs.declared.refusal.Refusal.{Refusal}
+use Rattle.bounds.specs.declared.refusal.Verdict.{Verdict}
+use Rattle.bounds.specs.Refusals.{through, refused}
 use Rattle.sheet.specs.declared.block.Block.{Block}
 use Rattle.sheet.specs.Layout.{width, words}
 use Rattle.sheet.specs.Reads.{blockTest, ReadsBlock, FillsResults}

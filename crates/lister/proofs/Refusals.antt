@@ -5,9 +5,9 @@ use mathlib.Core.Bool.{Bool, true, false, cond}
 use Prim.Native.Nat.{ℕ, _≤_}
 use lib.Dec.{eqb, lit≤}
 use lib.ListN.{length}
-use Rattle.word.specs.Refusals.{numberOf, IsWord}
+use Rattle.bounds.specs.Refusals.{numberOf, IsWord}
 use Rattle.word.specs.Takum.{Takum, real, NaR, takum}
-use Rattle.word.specs.declared.refusal.Refusal.{Refusal}
+use Rattle.bounds.specs.declared.refusal.Refusal.{Refusal}
 use Rattle.whole.specs.declared.taking.Taking.{Taking}
 use Rattle.whole.specs.declared.taking.Whole.{Whole}
 use Rattle.whole.specs.Wholes.{IsTaken, TakesWhole}

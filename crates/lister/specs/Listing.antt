@@ -1,7 +1,7 @@
 -- What the lister prints for a block (paper 01, "The lister").
 use mathlib.Core.List.{List}
 use Prim.Native.Nat.{ℕ}
-use Rattle.word.specs.Refusals.{Decided}
+use Rattle.bounds.specs.Refusals.{Decided}
 use Rattle.sheet.specs.Layout.{width, blockNumber, words}
 use Rattle.sheet.specs.Reads.{blockTest}
 use Rattle.lister.specs.Text.{AreLines, IsRefusedLine}

@@ -6,8 +6,8 @@ use Prim.Native.Nat.{ℕ, suc, _/_}
 use lib.Dec.{eqb}
 use lib.IntN.{ℤ, pos, negsuc}
 use Rattle.io.specs.Digits.{digits, Fewest}
-use Rattle.word.specs.Refusals.{numberOf}
-use Rattle.word.specs.declared.refusal.Refusal.{Refusal}
+use Rattle.bounds.specs.Refusals.{numberOf}
+use Rattle.bounds.specs.declared.refusal.Refusal.{Refusal}
 use Rattle.whole.specs.declared.taking.Taking.{Taking}
 use Rattle.whole.specs.declared.taking.Whole.{Whole}
 use Rattle.whole.specs.Wholes.{TakesWhole}

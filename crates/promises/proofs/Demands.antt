@@ -6,15 +6,15 @@ use lib.ListN.{length}
 use native.Mathlib.Decide.{decLt}
 use native.Mathlib.Omega.{arith}
 use Rattle.word.specs.declared.order.Comparison.{Comparison}
-use Rattle.word.specs.declared.refusal.Refusal.{Refusal}
-use Rattle.word.specs.declared.refusal.Verdict.{Verdict}
+use Rattle.bounds.specs.declared.refusal.Refusal.{Refusal}
+use Rattle.bounds.specs.declared.refusal.Verdict.{Verdict}
 use Rattle.word.specs.Takum.{takum}
-use Rattle.word.specs.Refusals.{numberOf, widthTest, strayTest, _then_, Decided}
-use Rattle.word.specs.Widths.{Makes, GivesWord, GivesLimit}
+use Rattle.bounds.specs.Refusals.{numberOf, widthTest, strayTest, _then_, Decided}
+use Rattle.bounds.specs.Widths.{Makes, GivesWord, GivesLimit}
 use Rattle.word.specs.Reads.{Reads}
 use Rattle.word.specs.Orders.{Compares, Negates, negated}
-use Rattle.word.proofs.Powers.{not-more}
-use Rattle.word.proofs.Verdicts.{width-fits, width-short, width-long, stray-fits, stray-bit, word-passes, words-pass, answered, refused-as}
+use Rattle.bounds.proofs.Powers.{not-more}
+use Rattle.bounds.proofs.Verdicts.{width-fits, width-short, width-long, stray-fits, stray-bit, word-passes, words-pass, answered, refused-as}
 use Rattle.word.proofs.Values.{order-of-values, order-same, NaR-below, above-NaR, negated-word, negation-negates, words-differ}
 use Rattle.word.proofs.Binades.{meaning-one}
 use Rattle.write.specs.Writes.{Writes, Moves}

@@ -7,14 +7,14 @@ use Prim.Native.Nat.{ℕ, zero, suc, _+_, _-_, _*_, _%_, _^_, _≤_, _<_}
 use native.Mathlib.Nat.{mul-one, zero-lt-suc, le-of-eq, lt-of-le-of-lt, lt-of-lt-of-le}
 use lib.Dec.{T, eqb, leb, ltb, eqb→eq, leb→le, ltb→lt}
 use lib.IntN.{pos, natAbs}
-use Rattle.word.specs.declared.answer.Answer.{Answer}
-use Rattle.word.specs.declared.refusal.Refusal.{Refusal}
+use Rattle.bounds.specs.declared.answer.Answer.{Answer}
+use Rattle.bounds.specs.declared.refusal.Refusal.{Refusal}
 use Rattle.word.specs.Takum.{Takum, real, NaR, power, regimeOf, characteristicOf, S, D, R, r, p, C, F, c, e, value, meaning, N, padded, takum, fractionBits}
-use Rattle.word.specs.Refusals.{IsWord}
+use Rattle.bounds.specs.Refusals.{IsWord}
 use Rattle.word.specs.Reads.{num, den, signedSize, IsReading}
 use Rattle.word.proofs.Heads.{both}
 use Rattle.word.proofs.Integers.{same-integer, same-integer-is}
-use Rattle.word.proofs.Verdicts.{width-fits, answered}
+use Rattle.bounds.proofs.Verdicts.{width-fits, answered}
 use Rattle.write.specs.declared.value.Rule.{Rule}
 use Rattle.write.specs.Writes.{HasValue, other, IsWritten, Writes}
 use Rattle.write.proofs.Rounding.{tie-nearest, none-between, written-one}

@@ -5,10 +5,10 @@ use native.Mathlib.Nat.{zero-lt-suc}
 use lib.IntN.{natAbs}
 use lib.Ieee.{neg}
 use Rattle.word.specs.Orders.{negated}
-use Rattle.word.specs.declared.width.Limit.{Limit}
-use Rattle.word.specs.Refusals.{through, refused}
-use Rattle.word.specs.Widths.{IsLimit, GivesLimit}
-use Rattle.word.proofs.Verdicts.{width-fits, width-through, answered}
+use Rattle.bounds.specs.declared.width.Limit.{Limit}
+use Rattle.bounds.specs.Refusals.{through, refused}
+use Rattle.bounds.specs.Widths.{IsLimit, GivesLimit}
+use Rattle.bounds.proofs.Verdicts.{width-fits, width-through, answered}
 use Rattle.write.specs.declared.value.Rule.{Rule}
 use Rattle.write.specs.Writes.{HasValue, isNegative, IsWritten}
 use Rattle.whole.specs.Wholes.{WritesWhole}

@@ -6,21 +6,21 @@ use mathlib.Core.Logic.{inl, inr}
 use Prim.Native.Nat.{ℕ, _^_}
 use native.Mathlib.Nat.{le-antisymm}
 use lib.IntN.{ℤ}
-use Rattle.word.specs.declared.answer.Answer.{Answer}
+use Rattle.bounds.specs.declared.answer.Answer.{Answer}
 use Rattle.word.specs.declared.fields.Fields.{Fields}
 use Rattle.word.specs.declared.size.Size.{Size}
 use Rattle.word.specs.declared.order.Comparison.{Comparison}
 use Rattle.word.specs.declared.reading.Reading.{Reading}
-use Rattle.word.specs.declared.width.Limit.{Limit}
-use Rattle.word.specs.declared.width.Made.{Made}
+use Rattle.bounds.specs.declared.width.Limit.{Limit}
+use Rattle.bounds.specs.declared.width.Made.{Made}
 use Rattle.word.specs.Takum.{takum, fractionBits}
 use Rattle.word.specs.Cuts.{Cuts}
 use Rattle.word.specs.Sizes.{Sizes}
-use Rattle.word.specs.Widths.{Greatest, greatest, none, IsLimit, Makes, GivesWord, GivesLimit}
+use Rattle.bounds.specs.Widths.{Greatest, greatest, none, IsLimit, Makes, GivesWord, GivesLimit}
 use Rattle.word.specs.Reads.{IsReading, Reads}
 use Rattle.word.specs.Orders.{signed, order, negated, Compares, Negates}
-use Rattle.word.proofs.Answers.{wordOf, GivesAWord}
-use Rattle.word.proofs.Verdicts.{decided-one}
+use Rattle.bounds.proofs.Answers.{wordOf, GivesAWord}
+use Rattle.bounds.proofs.Verdicts.{decided-one}
 use Rattle.word.proofs.Binades.{reading-one}
 use Rattle.write.specs.declared.value.Rule.{Rule}
 -- those of writing, of whole numbers and of binary64 stand beside their laws

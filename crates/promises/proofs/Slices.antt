@@ -2,9 +2,9 @@
 use mathlib.Core.Path.{refl, sym, subst}
 use Prim.Native.Nat.{ℕ, _<_}
 use borrow.Author.Tests.{lt-leb}
-use Rattle.word.specs.declared.refusal.Refusal.{Refusal}
-use Rattle.word.specs.Refusals.{_then_, through, refused}
-use Rattle.word.proofs.Verdicts.{width-fits, then-through, refused-as}
+use Rattle.bounds.specs.declared.refusal.Refusal.{Refusal}
+use Rattle.bounds.specs.Refusals.{_then_, through, refused}
+use Rattle.bounds.proofs.Verdicts.{width-fits, then-through, refused-as}
 use Rattle.column.specs.Columns.{Holds}
 use Rattle.column.proofs.Positions.{short-room-refused, every-word-counted, word-at, others-unchanged, first, none-refused-before}
 use Rattle.column.proofs.Strict.{strict-column-keeps}

@@ -8,16 +8,16 @@ use native.Mathlib.Nat.{mul-pos}
 use native.Mathlib.Omega.{arith}
 use lib.IntN.{ℤ, pos, _+ℤ_, _-ℤ_}
 use lib.Pow.{pow-mono}
-use Rattle.word.specs.declared.answer.Answer.{Answer}
-use Rattle.word.specs.declared.refusal.Refusal.{Refusal}
+use Rattle.bounds.specs.declared.answer.Answer.{Answer}
+use Rattle.bounds.specs.declared.refusal.Refusal.{Refusal}
 use Rattle.word.specs.Takum.{Takum, real, NaR, takum}
-use Rattle.word.specs.declared.refusal.Verdict.{Verdict}
-use Rattle.word.specs.Refusals.{widthTest, strayTest, _then_, IsWord, through, refused}
-use Rattle.word.specs.Widths.{narWord, largest, smallest}
+use Rattle.bounds.specs.declared.refusal.Verdict.{Verdict}
+use Rattle.bounds.specs.Refusals.{widthTest, strayTest, _then_, IsWord, through, refused}
+use Rattle.bounds.specs.Widths.{narWord, largest, smallest}
 use Rattle.word.specs.Reads.{IsSize, IsReading, Reads}
 use Rattle.word.specs.Orders.{negated}
-use Rattle.word.proofs.Answers.{GivesAWord}
-use Rattle.word.proofs.Verdicts.{width-fits, stray-fits, word-passes, move-passes, move-through, answered}
+use Rattle.bounds.proofs.Answers.{GivesAWord}
+use Rattle.bounds.proofs.Verdicts.{width-fits, stray-fits, word-passes, move-passes, move-through, answered}
 use Rattle.word.proofs.Values.{grown, words-differ}
 use Rattle.word.proofs.Words.{zeros-appended}
 use Rattle.write.specs.declared.value.Rule.{Rule}

@@ -5,16 +5,16 @@ use mathlib.Core.Logic.{_⊎_}
 use Prim.Native.Nat.{ℕ, _^_, _≤_, _<_}
 use lib.Ieee.{Float}
 use lib.IntN.{ℤ, negsuc, pos}
-use Rattle.word.specs.declared.answer.Answer.{Answer}
+use Rattle.bounds.specs.declared.answer.Answer.{Answer}
 use Rattle.word.specs.declared.order.Comparison.{Comparison}
 use Rattle.word.specs.declared.reading.Reading.{Reading}
-use Rattle.word.specs.declared.refusal.Refusal.{Refusal}
-use Rattle.word.specs.declared.refusal.Verdict.{Verdict}
-use Rattle.word.specs.declared.width.Limit.{Limit}
-use Rattle.word.specs.declared.width.Made.{Made}
+use Rattle.bounds.specs.declared.refusal.Refusal.{Refusal}
+use Rattle.bounds.specs.declared.refusal.Verdict.{Verdict}
+use Rattle.bounds.specs.declared.width.Limit.{Limit}
+use Rattle.bounds.specs.declared.width.Made.{Made}
 use Rattle.word.specs.Takum.{real, NaR, takum, fractionBits}
-use Rattle.word.specs.Refusals.{numberOf, widthTest, strayTest, _then_, IsWord, Decided}
-use Rattle.word.specs.Widths.{Makes, GivesWord, GivesLimit}
+use Rattle.bounds.specs.Refusals.{numberOf, widthTest, strayTest, _then_, IsWord, Decided}
+use Rattle.bounds.specs.Widths.{Makes, GivesWord, GivesLimit}
 use Rattle.word.specs.Reads.{IsReading, Reads}
 use Rattle.word.specs.Orders.{order, opposite, Compares, Negates}
 use Rattle.write.specs.declared.value.Rule.{Rule}

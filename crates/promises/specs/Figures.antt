@@ -4,9 +4,9 @@ use mathlib.Core.Bool.{true, false}
 use mathlib.Core.List.{List, [], _∷_}
 use Prim.Native.Nat.{ℕ, _*_}
 use lib.IntN.{ℤ, pos, negℤ, _+ℤ_}
-use Rattle.word.specs.declared.answer.Answer.{Answer}
+use Rattle.bounds.specs.declared.answer.Answer.{Answer}
 use Rattle.word.specs.declared.reading.Reading.{Reading}
-use Rattle.word.specs.declared.refusal.Refusal.{Refusal}
+use Rattle.bounds.specs.declared.refusal.Refusal.{Refusal}
 use Rattle.word.specs.Takum.{Takum, real, NaR, power, fractionBits}
 use Rattle.word.specs.Reads.{signedSize, IsReading, Reads}
 use Rattle.write.specs.declared.value.Rule.{Rule}

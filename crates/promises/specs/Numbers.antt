@@ -6,13 +6,13 @@ use lib.Dec.{T}
 use lib.IntN.{ℤ, pos, negsuc, natAbs}
 use lib.Ieee.{Float, nan, inf, fin, neg, lt, le}
 use lib.Ieee.Exact as Ieee
-use Rattle.word.specs.declared.answer.Answer.{Answer}
-use Rattle.word.specs.declared.refusal.Refusal.{Refusal}
-use Rattle.word.specs.declared.refusal.Verdict.{Verdict}
-use Rattle.word.specs.declared.width.Limit.{Limit}
+use Rattle.bounds.specs.declared.answer.Answer.{Answer}
+use Rattle.bounds.specs.declared.refusal.Refusal.{Refusal}
+use Rattle.bounds.specs.declared.refusal.Verdict.{Verdict}
+use Rattle.bounds.specs.declared.width.Limit.{Limit}
 use Rattle.word.specs.Takum.{real, takum}
-use Rattle.word.specs.Refusals.{IsWord}
-use Rattle.word.specs.Widths.{narWord, GivesLimit}
+use Rattle.bounds.specs.Refusals.{IsWord}
+use Rattle.bounds.specs.Widths.{narWord, GivesLimit}
 use Rattle.word.specs.Orders.{signed, order, negated}
 use Rattle.write.specs.declared.value.Rule.{Rule}
 use Rattle.write.specs.Writes.{HasValue, isNegative}

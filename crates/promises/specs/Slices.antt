@@ -3,10 +3,10 @@ use mathlib.Core.Path.{_≡_}
 use mathlib.Core.List.{List}
 use Prim.Native.Nat.{ℕ, _+_, _*_, _/_, _≤_, _<_}
 use lib.ListN.{length, getD}
-use Rattle.word.specs.declared.answer.Answer.{Answer}
+use Rattle.bounds.specs.declared.answer.Answer.{Answer}
 use Rattle.word.specs.declared.reading.Reading.{Reading}
-use Rattle.word.specs.declared.refusal.Refusal.{Refusal}
-use Rattle.word.specs.Refusals.{IsWord}
+use Rattle.bounds.specs.declared.refusal.Refusal.{Refusal}
+use Rattle.bounds.specs.Refusals.{IsWord}
 use Rattle.word.specs.Takum.{takum, fractionBits}
 use Rattle.word.specs.Reads.{IsReading, Reads}
 use Rattle.write.specs.declared.value.Rule.{Rule}

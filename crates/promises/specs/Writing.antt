@@ -5,12 +5,12 @@ use mathlib.Core.List.{List, [], _∷_}
 use mathlib.Core.Logic.{_⊎_}
 use Prim.Native.Nat.{ℕ, _+_, _*_, _^_, _≤_, _<_}
 use lib.IntN.{ℤ, pos, _+ℤ_, _-ℤ_}
-use Rattle.word.specs.declared.answer.Answer.{Answer}
+use Rattle.bounds.specs.declared.answer.Answer.{Answer}
 use Rattle.word.specs.declared.reading.Reading.{Reading}
-use Rattle.word.specs.declared.refusal.Refusal.{Refusal}
+use Rattle.bounds.specs.declared.refusal.Refusal.{Refusal}
 use Rattle.word.specs.Takum.{real, NaR, takum}
-use Rattle.word.specs.Refusals.{IsWord}
-use Rattle.word.specs.Widths.{narWord, largest, smallest}
+use Rattle.bounds.specs.Refusals.{IsWord}
+use Rattle.bounds.specs.Widths.{narWord, largest, smallest}
 use Rattle.word.specs.Reads.{num, den, IsSize, signedSize, Reads}
 use Rattle.word.specs.Orders.{signed, order, negated}
 use Rattle.write.specs.declared.value.Rule.{Rule}

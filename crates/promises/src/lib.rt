@@ -1,7 +1,7 @@
 // The demands of the letter, proved from the contracts and the laws of words.
-use word::answer::Answer;
+use bounds::answer::Answer;
+use bounds::width::Width;
 use word::order::negate;
-use word::width::Width;
 use write::moving::move_word;
 use write::value::Rule;
 ghost use Rattle.promises.specs.Demands.{ComesBack};

@@ -3,8 +3,8 @@ use mathlib.Core.Path.{_≡_, refl}
 use mathlib.Core.List.{List, [], _∷_, _++_}
 use Prim.Native.Nat.{ℕ}
 use lib.ListN.{replicate}
-use Rattle.word.specs.declared.refusal.Verdict.{Verdict}
-use Rattle.word.proofs.Verdicts.{answered}
+use Rattle.bounds.specs.declared.refusal.Verdict.{Verdict}
+use Rattle.bounds.proofs.Verdicts.{answered}
 use Rattle.sheet.specs.declared.block.Block.{Block}
 use Rattle.sheet.specs.Layout.{number, numberAt, packed, mark, width, count, blockNumber, size, end, words, unused, A, B, numbers}
 use Rattle.sheet.specs.Sums.{total, sumA, running, sumB}

@@ -7,9 +7,9 @@ use native.Mathlib.Decide.{decLt, ℕ-discrete}
 use native.Mathlib.Omega.{arith}
 use lib.Arith.{lt-of-le-ne}
 use lib.ListN.{getD, List·getD-eq-default}
-use Rattle.word.specs.declared.refusal.Refusal.{Refusal}
-use Rattle.word.proofs.Powers.{not-more}
-use Rattle.word.proofs.Verdicts.{refused-as}
+use Rattle.bounds.specs.declared.refusal.Refusal.{Refusal}
+use Rattle.bounds.proofs.Powers.{not-more}
+use Rattle.bounds.proofs.Verdicts.{refused-as}
 use Rattle.sheet.specs.declared.block.Block.{Block}
 use Rattle.sheet.specs.Layout.{AreBytes, numberAt, numbers, mark, A}
 use Rattle.sheet.specs.Sums.{total, sumA}

@@ -3,7 +3,7 @@ use mathlib.Core.Path.{_≡_, sym, _∙_}
 use mathlib.Core.List.{List, _++_}
 use Prim.Native.Nat.{ℕ}
 use lib.ListN.{drop}
-use Rattle.word.proofs.Verdicts.{decided-one}
+use Rattle.bounds.proofs.Verdicts.{decided-one}
 use Rattle.sheet.specs.declared.block.Block.{Block}
 use Rattle.sheet.specs.Layout.{width, count, blockNumber, words}
 use Rattle.sheet.specs.Reads.{ReadsBlock, FillsResults}

@@ -6,10 +6,10 @@ use native.Mathlib.Omega.{arith}
 use borrow.Author.Tests.{eq-eqb, ne-eqb, eqb-true, leb-true}
 use lib.Dec.{eqb}
 use lib.ListN.{length}
-use Rattle.word.specs.declared.refusal.Refusal.{Refusal}
-use Rattle.word.specs.declared.refusal.Verdict.{Verdict}
-use Rattle.word.specs.Refusals.{_then_, through, refused}
-use Rattle.word.proofs.Verdicts.{both, then-through}
+use Rattle.bounds.specs.declared.refusal.Refusal.{Refusal}
+use Rattle.bounds.specs.declared.refusal.Verdict.{Verdict}
+use Rattle.bounds.specs.Refusals.{_then_, through, refused}
+use Rattle.bounds.proofs.Verdicts.{both, then-through}
 use Rattle.sheet.specs.declared.block.Block.{Block}
 use Rattle.sheet.specs.Layout.{mark, width, count, blockNumber, end, A, B, numbers}
 use Rattle.sheet.specs.Sums.{sumA, sumB}

@@ -7,9 +7,9 @@ use native.Mathlib.Nat.{add-sub-of-le}
 use native.Mathlib.Omega.{arith}
 use lib.ListN.{length, drop, getD, List·getD-append}
 use lib.Seq.{getD-append-add, getD-drop}
-use Rattle.word.specs.declared.refusal.Verdict.{Verdict}
-use Rattle.word.specs.Refusals.{IsWord}
-use Rattle.word.proofs.Verdicts.{answered}
+use Rattle.bounds.specs.declared.refusal.Verdict.{Verdict}
+use Rattle.bounds.specs.Refusals.{IsWord}
+use Rattle.bounds.proofs.Verdicts.{answered}
 use Rattle.sheet.specs.declared.block.Block.{Block}
 use Rattle.sheet.specs.Layout.{AreBytes, numberAt, width, count, blockNumber, size, words}
 use Rattle.sheet.specs.Reads.{blockTest, ReadsBlock, FillsResults}

@@ -5,8 +5,8 @@ use Prim.Native.Nat.{ℕ, zero, suc, _+_, _*_, _≤_, _<_}
 use native.Mathlib.Nat.{mul-le-mul-left}
 use native.Mathlib.Omega.{arith}
 use borrow.Author.Tests.{le-leb, lt-leb}
-use Rattle.word.specs.declared.refusal.Refusal.{Refusal}
-use Rattle.word.specs.declared.refusal.Verdict.{Verdict}
+use Rattle.bounds.specs.declared.refusal.Refusal.{Refusal}
+use Rattle.bounds.specs.declared.refusal.Verdict.{Verdict}
 use Rattle.sheet.specs.Layout.{count, size, end}
 use Rattle.sheet.specs.Reads.{countTest}
 use Rattle.sheet.proofs.Packing.{word-inside}

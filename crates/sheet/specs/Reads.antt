@@ -5,11 +5,11 @@ use mathlib.Core.List.{List, [], _∷_, _++_}
 use Prim.Native.Nat.{ℕ}
 use lib.Dec.{eqb, leb}
 use lib.ListN.{length, drop}
-use Rattle.word.specs.declared.refusal.Refusal.{Refusal}
-use Rattle.word.specs.declared.refusal.Refusal.the-variants.{Width, Room, Size, Mark, Check, Count, Fill}
-use Rattle.word.specs.declared.refusal.Verdict.{Verdict}
-use Rattle.word.specs.declared.refusal.Verdict.the-variants.{Through, Refused}
-use Rattle.word.specs.Refusals.{_then_, Decided}
+use Rattle.bounds.specs.declared.refusal.Refusal.{Refusal}
+use Rattle.bounds.specs.declared.refusal.Refusal.the-variants.{Width, Room, Size, Mark, Check, Count, Fill}
+use Rattle.bounds.specs.declared.refusal.Verdict.{Verdict}
+use Rattle.bounds.specs.declared.refusal.Verdict.the-variants.{Through, Refused}
+use Rattle.bounds.specs.Refusals.{_then_, Decided}
 use Rattle.sheet.specs.declared.block.Block.{Block}
 use Rattle.sheet.specs.Layout.{mark, width, count, blockNumber, end, words, unused, A, B, numbers}
 use Rattle.sheet.specs.Sums.{sumA, sumB}

@@ -5,8 +5,8 @@ use crate::fields::width_of;
 use crate::numbers::four_bytes;
 use crate::testing::test;
 use crate::words::unpack;
-use word::refusal::Refusal;
-use word::refusal::Verdict;
+use bounds::refusal::Refusal;
+use bounds::refusal::Verdict;
 ghost use lib.ListN.{length};
 ghost use Rattle.sheet.specs.Reads.{ReadsBlock, FillsResults};
 

@@ -6,7 +6,7 @@ use Prim.Native.Nat.{ℕ}
 use lib.IntN.{ℤ, pos}
 use lib.Ieee.{Float, binary64, ofBits}
 use lib.ListN.{length}
-use Rattle.word.specs.declared.answer.Answer.{Answer}
+use Rattle.bounds.specs.declared.answer.Answer.{Answer}
 use Rattle.write.specs.declared.value.Rule.{Rule}
 use Rattle.write.specs.declared.value.Value.{Value}
 use Rattle.write.specs.Writes.{Writes, Moves}

@@ -2,6 +2,8 @@
 use binary64::taking::Binary64;
 use binary64::taking::take_binary64;
 use binary64::writing::write_binary64;
+use bounds::answer::Answer;
+use bounds::width::Width;
 use column::moving::Column;
 use column::moving::move_column;
 use sheet::block::Block;
@@ -10,8 +12,6 @@ use whole::taking::Taking;
 use whole::taking::Whole;
 use whole::taking::take_whole;
 use whole::writing::write_whole;
-use word::answer::Answer;
-use word::width::Width;
 use write::moving::move_word;
 use write::value::Rule;
 use write::value::Value;

@@ -10,7 +10,7 @@ use lib.IntN.{ℤ, pos, negsuc, _+ℤ_, _-ℤ_, +ℤ-idr}
 use lib.Pow.{pow-pos, pow-mono}
 use Rattle.word.specs.Reads.{num, den, IsSize}
 use Rattle.word.proofs.Integers.{sub-add}
-use Rattle.word.proofs.Powers.{pow-sum}
+use Rattle.bounds.proofs.Powers.{pow-sum}
 use Rattle.word.proofs.Signed.{difference}
 
 -- from one up

@@ -6,9 +6,9 @@ use native.Mathlib.Omega.{arith}
 use borrow.Author.Tests.{lt-ltb, le-ltb, le-leb, lt-leb}
 use lib.Dec.{eqb}
 use lib.IntN.{ℤ, natAbs}
-use Rattle.word.specs.declared.refusal.Refusal.{Refusal}
-use Rattle.word.specs.declared.refusal.Verdict.{Verdict}
-use Rattle.word.specs.Refusals.{_then_, through, refused}
+use Rattle.bounds.specs.declared.refusal.Refusal.{Refusal}
+use Rattle.bounds.specs.declared.refusal.Verdict.{Verdict}
+use Rattle.bounds.specs.Refusals.{_then_, through, refused}
 use Rattle.word.specs.Takum.{real}
 use Rattle.word.specs.Reads.{signedSize}
 use Rattle.whole.specs.declared.taking.Taking.{Taking}

@@ -5,14 +5,14 @@ use native.Mathlib.Nat.{mul-one, zero-lt-suc}
 use borrow.Author.Tests.{eqb-true}
 use lib.Dec.{eqb}
 use lib.IntN.{ℤ, natAbs}
-use Rattle.word.specs.declared.answer.Answer.{Answer}
-use Rattle.word.specs.declared.refusal.Refusal.{Refusal}
-use Rattle.word.specs.declared.refusal.Verdict.{Verdict}
-use Rattle.word.specs.Refusals.{_then_, IsWord, through, refused}
+use Rattle.bounds.specs.declared.answer.Answer.{Answer}
+use Rattle.bounds.specs.declared.refusal.Refusal.{Refusal}
+use Rattle.bounds.specs.declared.refusal.Verdict.{Verdict}
+use Rattle.bounds.specs.Refusals.{_then_, IsWord, through, refused}
 use Rattle.word.specs.Takum.{Takum, real, takum}
 use Rattle.word.specs.Reads.{signedSize}
-use Rattle.word.proofs.Answers.{GivesAWord}
-use Rattle.word.proofs.Verdicts.{then-through, open-when, width-fits, word-passes, answered}
+use Rattle.bounds.proofs.Answers.{GivesAWord}
+use Rattle.bounds.proofs.Verdicts.{then-through, open-when, width-fits, word-passes, answered}
 use Rattle.write.specs.declared.value.Rule.{Rule}
 use Rattle.write.specs.Writes.{isNegative, IsWritten}
 use Rattle.write.proofs.Rounding.{exact-written}

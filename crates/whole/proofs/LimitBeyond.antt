@@ -4,8 +4,8 @@ use Prim.Native.Nat.{ℕ, zero, suc, _+_, _-_, _*_, _%_, _^_, _≤_, _<_, zero-l
 use native.Mathlib.Nat.{le-of-eq, add-comm, add-zero, mul-assoc, mul-le-mul-right, eq-of-mul-eq-mul-right, two-pow-succ}
 use native.Mathlib.Omega.{arith}
 use lib.Pow.{pow-pos, pow-add}
-use Rattle.word.proofs.Powers.{Log, not-more, pow-sum}
-use Rattle.word.proofs.Limits.{below-power}
+use Rattle.bounds.proofs.Powers.{Log, not-more, pow-sum}
+use Rattle.bounds.proofs.Limits.{below-power}
 use Rattle.word.proofs.Sizes.{size, size-lt}
 use Rattle.whole.proofs.LimitBinades.{beginning, WholeBinade}
 

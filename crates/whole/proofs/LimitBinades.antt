@@ -5,8 +5,8 @@ use Prim.Native.Nat.{ℕ, suc, _+_, _-_, _*_, _^_, _≤_, _<_}
 use native.Mathlib.Nat.{le-of-suc-le-suc, mul-le-mul-right, two-pow-succ}
 use native.Mathlib.Omega.{arith}
 use lib.IntN.{pos}
-use Rattle.word.proofs.Powers.{Log, pow-sum}
-use Rattle.word.proofs.Limits.{exponent-lt}
+use Rattle.bounds.proofs.Powers.{Log, pow-sum}
+use Rattle.bounds.proofs.Limits.{exponent-lt}
 use Rattle.word.proofs.Sizes.{size}
 use Rattle.write.specs.Offers.{IsRaised, Begins}
 use Rattle.write.proofs.Starts.{upper-begins}

@@ -4,7 +4,7 @@ use Prim.Native.Nat.{ℕ, zero, suc, _+_, _-_, _*_, _^_, _≤_, _<_}
 use native.Mathlib.Nat.{le-trans, le-of-eq, le-add-right, mul-assoc, mul-pos, mul-le-mul-right, two-pow-succ}
 use native.Mathlib.Omega.{arith}
 use lib.Pow.{pow-pos}
-use Rattle.word.proofs.Powers.{pow-sum}
+use Rattle.bounds.proofs.Powers.{pow-sum}
 use Rattle.word.proofs.Sizes.{size}
 use Rattle.whole.proofs.LimitBinades.{beginning, WholeBinade}
 

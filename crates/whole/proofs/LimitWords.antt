@@ -8,9 +8,9 @@ use native.Mathlib.Omega.{arith}
 use lib.Count.{leadingZeros}
 use lib.Dec.{lit<, lit≤}
 use lib.Pow.{pow-pos}
-use Rattle.word.specs.Widths.{Within, Greatest, greatest, none}
-use Rattle.word.proofs.Powers.{Log, leading-log, pow-sum, shl-below}
-use Rattle.word.proofs.Limits.{below-power, exponent-lt, within, exponent-small}
+use Rattle.bounds.specs.Widths.{Within, Greatest, greatest, none}
+use Rattle.bounds.proofs.Powers.{Log, leading-log, pow-sum, shl-below}
+use Rattle.bounds.proofs.Limits.{below-power, exponent-lt, within, exponent-small}
 use Rattle.word.proofs.Sizes.{size}
 use Rattle.word.proofs.Values.{grown-suc}
 use Rattle.write.specs.Writes.{HasValue}

@@ -2,7 +2,7 @@
 use mathlib.Core.Path.{sym, ap, _∙_, subst}
 use Prim.Native.Nat.{ℕ, _*_, _^_}
 use native.Mathlib.Nat.{mul-one, zero-lt-suc}
-use Rattle.word.specs.declared.answer.Answer.{Answer}
+use Rattle.bounds.specs.declared.answer.Answer.{Answer}
 use Rattle.write.specs.declared.value.Rule.{Rule}
 use Rattle.write.specs.Writes.{HasValue, IsWritten}
 use Rattle.write.proofs.Rounding.{exact-written}

@@ -3,10 +3,10 @@ use mathlib.Core.Path.{_≡_, sym, _∙_, subst}
 use Prim.Native.Nat.{ℕ, _*_, _^_}
 use native.Mathlib.Nat.{zero-lt-suc}
 use lib.IntN.{ℤ, natAbs}
-use Rattle.word.specs.declared.answer.Answer.{Answer}
-use Rattle.word.specs.Refusals.{_then_, Decided, through, refused}
+use Rattle.bounds.specs.declared.answer.Answer.{Answer}
+use Rattle.bounds.specs.Refusals.{_then_, Decided, through, refused}
 use Rattle.word.specs.Takum.{Takum, real, NaR, takum}
-use Rattle.word.proofs.Verdicts.{width-through, answered, refused-as, decided-one}
+use Rattle.bounds.proofs.Verdicts.{width-through, answered, refused-as, decided-one}
 use Rattle.write.specs.declared.value.Rule.{Rule}
 use Rattle.write.specs.Writes.{isNegative}
 use Rattle.write.proofs.Rounding.{written-one}

@@ -2,10 +2,10 @@
 use mathlib.Core.Path.{_≡_, refl, sym, ap, subst}
 use Prim.Native.Nat.{ℕ}
 use lib.IntN.{ℤ}
-use Rattle.word.specs.declared.refusal.Verdict.{Verdict}
-use Rattle.word.specs.Refusals.{_then_, IsWord, through, refused}
+use Rattle.bounds.specs.declared.refusal.Verdict.{Verdict}
+use Rattle.bounds.specs.Refusals.{_then_, IsWord, through, refused}
 use Rattle.word.specs.Takum.{Takum, real, NaR, takum}
-use Rattle.word.proofs.Verdicts.{word-through}
+use Rattle.bounds.proofs.Verdicts.{word-through}
 use Rattle.whole.specs.declared.taking.Taking.{Taking}
 use Rattle.whole.specs.declared.taking.Whole.{Whole}
 use Rattle.whole.specs.Wholes.{IsWholePart, overTest, inexactTest, IsTaken, TakesWhole}

@@ -6,7 +6,7 @@ use native.Mathlib.Nat.{le-refl, mul-lt-mul-of-pos-right}
 use borrow.Author.Tests.{eq-eqb}
 use lib.IntN.{ℤ, natAbs}
 use lib.Pow.{pow-pos}
-use Rattle.word.specs.declared.refusal.Verdict.{Verdict}
+use Rattle.bounds.specs.declared.refusal.Verdict.{Verdict}
 use Rattle.word.specs.Takum.{real}
 use Rattle.word.specs.Reads.{signedSize}
 use Rattle.word.proofs.Values.{absolute}

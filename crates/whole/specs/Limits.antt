@@ -3,9 +3,9 @@
 use mathlib.Core.Path.{_≡_}
 use mathlib.Core.Bool.{Bool}
 use Prim.Native.Nat.{ℕ, _+_, _*_, _^_, _≤_}
-use Rattle.word.specs.declared.answer.Answer.{Answer}
-use Rattle.word.specs.declared.refusal.Refusal.{Refusal}
-use Rattle.word.specs.Widths.{IsLimit}
+use Rattle.bounds.specs.declared.answer.Answer.{Answer}
+use Rattle.bounds.specs.declared.refusal.Refusal.{Refusal}
+use Rattle.bounds.specs.Widths.{IsLimit}
 use Rattle.write.specs.declared.value.Rule.{Rule}
 use Rattle.write.specs.Writes.{HasValue, IsWritten}
 

@@ -1,8 +1,8 @@
 // A whole number out: the whole part of what a word means, cut or strict.
-use word::refusal::Refusal;
-use word::refusal::Verdict;
+use bounds::refusal::Refusal;
+use bounds::refusal::Verdict;
+use bounds::width::Width;
 use word::size::size_of;
-use word::width::Width;
 ghost use mathlib.Core.Path.{_≡_};
 ghost use Prim.Native.Nat.{_^_, _≤_, _<_};
 ghost use lib.IntN.{pos};

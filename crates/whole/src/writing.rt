@@ -1,6 +1,6 @@
 // A whole number in: written as a word, rounded or strict.
-use word::answer::Answer;
-use word::width::Width;
+use bounds::answer::Answer;
+use bounds::width::Width;
 use write::value::Rule;
 use write::value::Value;
 use write::writing::write;

@@ -10,7 +10,7 @@ use lib.Pow.{pow-pos, pow-add, pow-mono}
 use Rattle.word.specs.declared.reading.Reading.{Reading}
 use Rattle.word.specs.Takum.{Takum, real}
 use Rattle.word.specs.Reads.{num, den, IsSize, signedSize, IsNumber, IsReading}
-use Rattle.word.proofs.Powers.{not-more}
+use Rattle.bounds.proofs.Powers.{not-more}
 use Rattle.word.proofs.Values.{real-inj, not-NaR}
 
 -- 2^k as 2^up / 2^down

@@ -1,18 +1,14 @@
--- The laws of words, one idea a file. Casts, Answers and Readings are for the crates that stand on this one: those that make a sign and a size of
+-- The laws of words, one idea a file. Casts and Readings are for the crates that stand on this one: those that make a sign and a size of
 -- a signed number (`write`, `census` and `figures`), and `write`, which reads the words it compares with; nothing in this crate uses them.
 pub mod Integers
-pub mod Powers
 pub mod Heads
 pub mod Cut
 pub mod Sizes
 pub mod Meaning
 pub mod Numbers
 pub mod Words
-pub mod Verdicts
-pub mod Answers
 pub mod Signed
 pub mod Casts
-pub mod Limits
 pub mod Values
 pub mod Binades
 pub mod Readings

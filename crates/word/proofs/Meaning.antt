@@ -8,7 +8,7 @@ use lib.IntN.{ℤ, pos, negℤ, _+ℤ_, _-ℤ_, _*ℤ_}
 use lib.Pow.{pow-add, pow-pos, shr-lt, split}
 use Rattle.word.specs.Takum.{S, p, F, e, value, power}
 use Rattle.word.proofs.Integers.{balance, neg-add, neg-mul}
-use Rattle.word.proofs.Powers.{pow-sum, shl-below}
+use Rattle.bounds.proofs.Powers.{pow-sum, shl-below}
 use Rattle.word.proofs.Heads.{k, scale, head}
 use Rattle.word.proofs.Cut.{S-head, p-head, F-head, e-head}
 use Rattle.word.proofs.Sizes.{lead, onward, size, seam}

@@ -13,7 +13,7 @@ use lib.Pow.{pow-pos, pow-add, pow-mono}
 use lib.Signed.{mag}
 use Rattle.word.specs.Takum.{Takum, real, characteristicOf, S, D, r, p, C, F, c, e, value}
 use Rattle.word.specs.Reads.{num, den, IsSize, signedSize, IsNumber}
-use Rattle.word.proofs.Powers.{pow-sum}
+use Rattle.bounds.proofs.Powers.{pow-sum}
 use Rattle.word.proofs.Integers.{sub-add, neg-add, neg-mul}
 use Rattle.word.proofs.Signed.{difference, short-by}
 use Rattle.word.proofs.Cut.{regime-le}

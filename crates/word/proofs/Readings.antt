@@ -8,12 +8,12 @@ use native.Mathlib.Decide.{decLe}
 use lib.IntN.{ℤ, pos, negsuc, negℤ, _-ℤ_, +ℤ-idl}
 use lib.Signed.{mag}
 use Rattle.word.specs.declared.reading.Reading.{Reading}
-use Rattle.word.specs.declared.refusal.Refusal.{Refusal}
+use Rattle.bounds.specs.declared.refusal.Refusal.{Refusal}
 use Rattle.word.specs.Takum.{Takum, real, S, p, F, c, value, N, padded, takum, fractionBits}
 use Rattle.word.specs.Reads.{IsNumber, IsReading, Reads}
-use Rattle.word.specs.Refusals.{IsWord}
-use Rattle.word.proofs.Powers.{shl-below}
-use Rattle.word.proofs.Verdicts.{word-passes, answered}
+use Rattle.bounds.specs.Refusals.{IsWord}
+use Rattle.bounds.proofs.Powers.{shl-below}
+use Rattle.bounds.proofs.Verdicts.{word-passes, answered}
 use Rattle.word.proofs.Numbers.{positive-number, negative-power, negative-number, sign-one, characteristic-of-string}
 use Rattle.word.proofs.Signed.{sub-mag}
 use Rattle.word.proofs.Words.{takum-zero, takum-NaR, takum-number}

@@ -15,8 +15,8 @@ use lib.Signed.{ltZ, mag}
 use Rattle.word.specs.Takum.{Takum, real, NaR, takum}
 use Rattle.word.specs.Reads.{signedSize}
 use Rattle.word.specs.Orders.{signed, order, negated, opposite}
-use Rattle.word.specs.Refusals.{IsWord}
-use Rattle.word.proofs.Powers.{not-more, pow-sum, shl-below}
+use Rattle.bounds.specs.Refusals.{IsWord}
+use Rattle.bounds.proofs.Powers.{not-more, pow-sum, shl-below}
 use Rattle.word.proofs.Sizes.{size, size-lt, size-above, size-below}
 use Rattle.word.proofs.Signed.{signed-low, signed-high, negated-zero, negated-other, order-below, order-above, order-equal}
 use Rattle.word.proofs.Words.{Lies, at-zero, above, at-NaR, under, lies, takum-zero, takum-positive, takum-NaR, takum-negative}

@@ -9,7 +9,7 @@ use borrow.Author.Tests.{ne-eqb}
 use lib.IntN.{pos, negℤ}
 use lib.Pow.{pow-pos, pow-add}
 use Rattle.word.specs.Takum.{real, NaR, S, value, meaning, N, padded, takum}
-use Rattle.word.proofs.Powers.{pow-sum}
+use Rattle.bounds.proofs.Powers.{pow-sum}
 use Rattle.word.proofs.Sizes.{size}
 use Rattle.word.proofs.Meaning.{string-positive, string-negative}
 

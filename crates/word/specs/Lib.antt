@@ -2,7 +2,5 @@
 pub mod Cuts
 pub mod Orders
 pub mod Reads
-pub mod Refusals
 pub mod Sizes
 pub mod Takum
-pub mod Widths

@@ -5,10 +5,10 @@ use Prim.Native.Nat.{ℕ, _-_, _%_, _^_}
 use lib.Dec.{ltb}
 use lib.IntN.{ℤ, pos, negsuc, negℤ, _-ℤ_}
 use lib.Signed.{ltZ}
-use Rattle.word.specs.declared.answer.Answer.{Answer}
+use Rattle.bounds.specs.declared.answer.Answer.{Answer}
 use Rattle.word.specs.declared.order.Comparison.{Comparison}
 use Rattle.word.specs.Takum.{Takum, real, NaR}
-use Rattle.word.specs.Refusals.{widthTest, strayTest, _then_, Decided}
+use Rattle.bounds.specs.Refusals.{widthTest, strayTest, _then_, Decided}
 
 -- the word as an n-bit two's complement number
 unfoldable pub signed : ℕ → ℕ → ℤ

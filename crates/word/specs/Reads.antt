@@ -4,7 +4,7 @@ use mathlib.Core.Bool.{Bool, true, false}
 use Prim.Native.Nat.{ℕ, suc, _+_, _*_, _^_, _≤_, _<_}
 use lib.IntN.{ℤ, pos, negsuc, negℤ, _+ℤ_, _-ℤ_}
 use Rattle.word.specs.declared.reading.Reading.{Reading}
-use Rattle.word.specs.Refusals.{widthTest, strayTest, _then_, Decided}
+use Rattle.bounds.specs.Refusals.{widthTest, strayTest, _then_, Decided}
 use Rattle.word.specs.Takum.{Takum, real, NaR, takum, fractionBits}
 
 -- 2^k as a fraction of two whole numbers

@@ -1,9 +1,6 @@
-// What one linear takum word means: its width, reading it, comparing and negating it, and the yard's refusals.
-pub mod answer;
+// What one linear takum word means: its fields, reading it, its size, and comparing and negating it.
 mod bits;
 pub mod fields;
 pub mod order;
 pub mod reading;
-pub mod refusal;
 pub mod size;
-pub mod width;

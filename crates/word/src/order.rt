@@ -1,13 +1,13 @@
 // The order of words of one width, and their negation.
-use crate::answer::Answer;
 use crate::bits::ones;
 use crate::bits::power_of_two;
-use crate::refusal::Refusal;
-use crate::refusal::Verdict;
-use crate::width::Width;
+use bounds::answer::Answer;
+use bounds::refusal::Refusal;
+use bounds::refusal::Verdict;
+use bounds::width::Width;
 ghost use mathlib.Core.Path.{_≡_};
 ghost use Rattle.word.specs.Orders.{signed, order, Compares, Negates};
-ghost use Rattle.word.specs.Refusals.{IsWord};
+ghost use Rattle.bounds.specs.Refusals.{IsWord};
 
 pub enum Comparison {
     Is(i32),

@@ -14,7 +14,7 @@ use Rattle.word.specs.Takum.{regimeOf, characteristicOf, S, D, R, r, p, C, F, c
 use Rattle.word.proofs.Heads.{below, at-each, both, k, scale, head}
 use Rattle.word.proofs.Integers.{unbalance}
 use Rattle.word.proofs.Numbers.{characteristic-of-string}
-use Rattle.word.proofs.Powers.{pow-sum, shl-below}
+use Rattle.bounds.proofs.Powers.{pow-sum, shl-below}
 use Rattle.word.proofs.Sizes.{size, lead, onward, seam}
 use Rattle.word.proofs.Values.{grown, grown-suc}
 use Rattle.write.specs.Offers.{IsRaised}

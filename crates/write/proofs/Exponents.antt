@@ -10,7 +10,7 @@ use lib.IntN.{ℤ, pos, negsuc, natAbs, _+ℤ_, _-ℤ_, +ℤ-assoc, +ℤ-idr, +�
 use lib.Pow.{pow-add, pow-pos}
 use lib.Signed.{mag, ltZ}
 use Rattle.word.specs.Reads.{num, den}
-use Rattle.word.proofs.Powers.{pow-sum}
+use Rattle.bounds.proofs.Powers.{pow-sum}
 use Rattle.word.proofs.Integers.{balance, sub-add}
 use Rattle.word.proofs.Signed.{difference}
 use Rattle.write.specs.Offers.{IsRaised}

@@ -8,7 +8,7 @@ use native.Mathlib.Omega.{arith}
 use lib.IntN.{ℤ, pos, _+ℤ_, _-ℤ_}
 use lib.Pow.{pow-pos, shr-lt, shr-shr, split}
 use Rattle.word.specs.Reads.{num, den}
-use Rattle.word.proofs.Powers.{pow-sum, shl-below}
+use Rattle.bounds.proofs.Powers.{pow-sum, shl-below}
 use Rattle.word.proofs.Sizes.{size, size-le}
 use Rattle.word.proofs.Values.{grown, grown-suc}
 use Rattle.write.specs.declared.size.Rest.{Rest}

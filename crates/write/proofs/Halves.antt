@@ -6,7 +6,7 @@ use native.Mathlib.Decide.{decLt}
 use native.Mathlib.Omega.{arith}
 use lib.Dec.{lit≤}
 use lib.Pow.{pow-pos, pow-add, pow-mono}
-use Rattle.word.proofs.Powers.{pow-sum, not-more}
+use Rattle.bounds.proofs.Powers.{pow-sum, not-more}
 use Rattle.write.specs.declared.size.Rest.{Rest}
 use Rattle.write.specs.declared.size.Side.{Side}
 use Rattle.write.specs.Offers.{Amounts, Tells, TellsHalf, TellsPowers, chosenOf, marginOf, ChoosesByCut}

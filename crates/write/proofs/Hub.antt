@@ -9,7 +9,7 @@ use lib.IntN.{ℤ, pos, negsuc, _-ℤ_}
 use lib.Pow.{pow-pos, pow-mono, shr-lt}
 use Rattle.word.specs.Takum.{S}
 use Rattle.word.specs.Reads.{num, den}
-use Rattle.word.proofs.Powers.{pow-sum, shl-below, shr-none}
+use Rattle.bounds.proofs.Powers.{pow-sum, shl-below, shr-none}
 use Rattle.word.proofs.Sizes.{size, size-above, size-below}
 use Rattle.word.proofs.Values.{grown, grown-suc}
 use Rattle.write.specs.declared.size.Rest.{Rest}

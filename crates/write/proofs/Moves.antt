@@ -7,15 +7,15 @@ use lib.IntN.{ℤ, pos, negsuc, natAbs}
 use lib.Pow.{pow-pos}
 use Rattle.word.specs.Takum.{Takum, real, NaR, takum}
 use Rattle.word.specs.Reads.{signedSize}
-use Rattle.word.specs.Refusals.{IsWord, through, refused}
-use Rattle.word.specs.Widths.{narWord}
-use Rattle.word.specs.declared.answer.Answer.{Answer}
-use Rattle.word.proofs.Answers as Answers
-use Rattle.word.proofs.Answers.{GivesAWord}
-use Rattle.word.proofs.Verdicts.{move-passes, move-through, width-through, answered}
+use Rattle.bounds.specs.Refusals.{IsWord, through, refused}
+use Rattle.bounds.specs.Widths.{narWord}
+use Rattle.bounds.specs.declared.answer.Answer.{Answer}
+use Rattle.bounds.proofs.Answers as Answers
+use Rattle.bounds.proofs.Answers.{GivesAWord}
+use Rattle.bounds.proofs.Verdicts.{move-passes, move-through, width-through, answered}
 use Rattle.word.proofs.Values.{NaR-word}
 use Rattle.word.proofs.Words.{takum-NaR, zeros-appended}
-use Rattle.word.proofs.Powers.{pow-sum, shl-below}
+use Rattle.bounds.proofs.Powers.{pow-sum, shl-below}
 use Rattle.write.specs.declared.value.Rule.{Rule}
 use Rattle.write.specs.Writes.{IsExact, IsWritten, isNegative, IsMoved, Moves}
 use Rattle.write.proofs.Rounding.{exact-written, rounded-exists}

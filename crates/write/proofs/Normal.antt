@@ -7,7 +7,7 @@ use lib.Count.{leadingZeros}
 use lib.IntN.{ℤ, pos, _+ℤ_, _-ℤ_, +ℤ-negℤ-cancel}
 use lib.Pow.{shl-exact}
 use Rattle.word.specs.Reads.{num, den}
-use Rattle.word.proofs.Powers.{pow-sum, Log, leading-log}
+use Rattle.bounds.proofs.Powers.{pow-sum, Log, leading-log}
 use Rattle.write.specs.declared.size.Rest.{Rest}
 use Rattle.write.specs.Offers.{IsOffered}
 use Rattle.write.proofs.Scales.{raise-offer, lower-by}

@@ -3,11 +3,11 @@ use mathlib.Core.Path.{_≡_, sym, _∙_}
 use Prim.Native.Nat.{ℕ, _*_, _≤_}
 use native.Mathlib.Nat.{zero-lt-suc}
 use lib.IntN.{pos, natAbs, _+ℤ_}
-use Rattle.word.specs.declared.answer.Answer.{Answer}
+use Rattle.bounds.specs.declared.answer.Answer.{Answer}
 use Rattle.word.specs.Takum.{Takum, real, NaR, takum}
 use Rattle.word.specs.Reads.{num, den}
-use Rattle.word.specs.Refusals.{through, refused}
-use Rattle.word.proofs.Verdicts.{width-through, move-through, answered, refused-as}
+use Rattle.bounds.specs.Refusals.{through, refused}
+use Rattle.bounds.proofs.Verdicts.{width-through, move-through, answered, refused-as}
 use Rattle.write.specs.declared.value.Rule.{Rule}
 use Rattle.write.specs.declared.value.Value.{Value}
 use Rattle.write.specs.Writes.{isNegative, IsMoved, Writes, Moves}

@@ -10,7 +10,7 @@ use lib.IntN.{pos, negℤ, natAbs}
 use lib.Pow.{pow-pos, pow-mono}
 use Rattle.word.specs.Takum.{takum, real}
 use Rattle.word.specs.Reads.{signedSize}
-use Rattle.word.proofs.Powers.{pow-sum}
+use Rattle.bounds.proofs.Powers.{pow-sum}
 use Rattle.word.proofs.Sizes.{size}
 use Rattle.word.proofs.Words.{Lies, at-zero, above, at-NaR, under, lies, takum-zero, takum-positive, takum-NaR, takum-negative}
 use Rattle.word.proofs.Values.{real-inj, not-NaR, grown, grown-suc, grown-lt}

@@ -7,7 +7,7 @@ use native.Mathlib.Nat.{zero-mul, lt-of-not-le, eq-of-mul-eq-mul-right, add-mul,
 use native.Mathlib.Decide.{decLe}
 use native.Mathlib.Omega.{arith}
 use Rattle.word.specs.Orders.{negated}
-use Rattle.word.specs.declared.answer.Answer.{Answer}
+use Rattle.bounds.specs.declared.answer.Answer.{Answer}
 use Rattle.word.proofs.Signed.{negated-zero, negated-other}
 use Rattle.word.proofs.Values.{grown, words-differ}
 use Rattle.word.specs.Takum.{real}

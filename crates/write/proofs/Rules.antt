@@ -9,8 +9,8 @@ use lib.IntN.{ℤ, pos, _+ℤ_, _-ℤ_}
 use lib.Pow.{pow-pos}
 use Rattle.word.specs.Takum.{Takum, real}
 use Rattle.word.specs.Reads.{num, den, IsSize, IsNumber, signedSize}
-use Rattle.word.specs.declared.answer.Answer.{Answer}
-use Rattle.word.specs.declared.refusal.Refusal.{Refusal}
+use Rattle.bounds.specs.declared.answer.Answer.{Answer}
+use Rattle.bounds.specs.declared.refusal.Refusal.{Refusal}
 use Rattle.word.proofs.Words.{takum-zero}
 use Rattle.write.specs.declared.value.Rule.{Rule}
 use Rattle.write.specs.declared.size.Rest.{Rest}

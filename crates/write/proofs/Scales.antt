@@ -10,8 +10,8 @@ use lib.Dec.{ltb}
 use lib.IntN.{ℤ, pos, negsuc, negℤ, _+ℤ_, _-ℤ_, +ℤ-assoc, +ℤ-comm}
 use lib.Pow.{pow-add}
 use Rattle.word.specs.Reads.{num, den, IsSize}
-use Rattle.word.specs.declared.answer.Answer.{Answer}
-use Rattle.word.proofs.Powers.{pow-sum}
+use Rattle.bounds.specs.declared.answer.Answer.{Answer}
+use Rattle.bounds.proofs.Powers.{pow-sum}
 use Rattle.word.proofs.Integers.{neg-add}
 use Rattle.write.specs.declared.value.Rule.{Rule}
 use Rattle.write.specs.declared.size.Rest.{Rest}

@@ -12,8 +12,8 @@ use lib.IntN.{ℤ, pos, _+ℤ_, _-ℤ_, -ℤ-+ℤ-cancel}
 use lib.Pow.{pow-pos, shr-shr, split}
 use Rattle.word.specs.Takum as Takum
 use Rattle.word.specs.Reads.{num, den}
-use Rattle.word.proofs.Powers.{pow-sum, shl-below, shl-out}
-use Rattle.word.proofs.Limits.{exponent-lt}
+use Rattle.bounds.proofs.Powers.{pow-sum, shl-below, shl-out}
+use Rattle.bounds.proofs.Limits.{exponent-lt}
 use Rattle.word.proofs.Cut.{r-head, c-head}
 use Rattle.word.proofs.Sizes.{size, size-lt}
 use Rattle.word.proofs.Values.{grown, grown-suc, grown-lt}

@@ -8,12 +8,12 @@ use native.Mathlib.Omega.{arith}
 use borrow.Author.Tests.{lt-ltb, le-ltb, ltb-true, ltb-false}
 use lib.Dec.{ltb}
 use Rattle.word.specs.Takum.{takum, real}
-use Rattle.word.specs.Refusals.{IsWord}
+use Rattle.bounds.specs.Refusals.{IsWord}
 use Rattle.word.specs.Orders.{negated}
 use Rattle.word.specs.Reads.{signedSize}
 use Rattle.word.specs.Sizes.{withoutSign}
 use lib.Pow.{pow-pos}
-use Rattle.word.proofs.Powers.{pow-sum}
+use Rattle.bounds.proofs.Powers.{pow-sum}
 use Rattle.word.proofs.Signed.{negated-other}
 use Rattle.word.proofs.Values.{grown, words-differ}
 use Rattle.write.specs.Writes.{HasValue, distance, Nearest, IsExact}

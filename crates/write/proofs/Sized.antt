@@ -9,11 +9,11 @@ use lib.Dec.{ltb}
 use lib.IntN.{ℤ, pos, natAbs, _-ℤ_}
 use lib.Pow.{pow-pos, shl-exact}
 use Rattle.word.specs.declared.size.Size.{Size}
-use Rattle.word.specs.Refusals.{IsWord}
+use Rattle.bounds.specs.Refusals.{IsWord}
 use Rattle.word.specs.Reads.{IsSize, signedSize}
 use Rattle.word.specs.Sizes.{withoutSign, Sizes}
 use Rattle.word.specs.Takum.{takum, real, p, F, c}
-use Rattle.word.proofs.Powers.{pow-sum}
+use Rattle.bounds.proofs.Powers.{pow-sum}
 use Rattle.word.proofs.Values.{real-inj, absolute}
 use Rattle.write.specs.Writes.{HasValue}
 use Rattle.write.proofs.Places.{twice, wordOf, Place, place-of}

@@ -12,8 +12,8 @@ use Rattle.word.specs.Takum as Takum
 use Rattle.word.specs.Takum.{regimeOf, characteristicOf, S, D, R, r, p, C, F, c}
 use Rattle.word.proofs.Heads.{below, at-each, both}
 use Rattle.word.proofs.Integers.{same-integer, same-integer-is}
-use Rattle.word.proofs.Powers.{Log, pow-sum}
-use Rattle.word.proofs.Limits.{exponent-lt}
+use Rattle.bounds.proofs.Powers.{Log, pow-sum}
+use Rattle.bounds.proofs.Limits.{exponent-lt}
 use Rattle.word.proofs.Cut.{S-head, r-head, c-head}
 use Rattle.write.specs.Offers.{Begins}
 

@@ -11,7 +11,7 @@ use lib.IntN.{ℤ, pos, _+ℤ_, _-ℤ_, natAbs, +ℤ-idr}
 use lib.Pow.{pow-pos, pow-mono, high, low}
 use Rattle.word.specs.Takum as Takum
 use Rattle.word.specs.Takum.{S, p, F, e}
-use Rattle.word.proofs.Powers.{pow-sum, shr-none}
+use Rattle.bounds.proofs.Powers.{pow-sum, shr-none}
 use Rattle.word.proofs.Integers.{balance, unbalance}
 use Rattle.word.proofs.Heads.{k}
 use Rattle.word.proofs.Sizes.{size, size-next}

@@ -8,8 +8,8 @@ use lib.Dec.{lit≤}
 use lib.IntN.{ℤ, pos, _-ℤ_}
 use Rattle.word.specs.Takum.{real, S, p, F, c, value, takum}
 use Rattle.word.specs.Reads.{IsSize, IsNumber}
-use Rattle.word.specs.Refusals.{IsWord}
-use Rattle.word.proofs.Powers.{pow-sum, shl-below}
+use Rattle.bounds.specs.Refusals.{IsWord}
+use Rattle.bounds.proofs.Powers.{pow-sum, shl-below}
 use Rattle.word.proofs.Sizes.{size}
 use Rattle.word.proofs.Meaning.{string-positive}
 use Rattle.word.proofs.Words.{takum-positive}

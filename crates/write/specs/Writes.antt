@@ -4,12 +4,12 @@ use mathlib.Core.Bool.{Bool, true, false}
 use mathlib.Core.Logic.{_⊎_}
 use Prim.Native.Nat.{ℕ, _-_, _*_, _%_, _≤_, _<_, max, min}
 use lib.IntN.{ℤ, pos, negsuc, natAbs, _+ℤ_}
-use Rattle.word.specs.declared.answer.Answer.{Answer}
-use Rattle.word.specs.declared.refusal.Refusal.{Refusal}
+use Rattle.bounds.specs.declared.answer.Answer.{Answer}
+use Rattle.bounds.specs.declared.refusal.Refusal.{Refusal}
 use Rattle.word.specs.Takum.{Takum, real, NaR, takum}
 use Rattle.word.specs.Reads.{num, den, signedSize}
-use Rattle.word.specs.Refusals.{widthTest, strayTest, _then_, IsWord, Decided}
-use Rattle.word.specs.Widths.{narWord}
+use Rattle.bounds.specs.Refusals.{widthTest, strayTest, _then_, IsWord, Decided}
+use Rattle.bounds.specs.Widths.{narWord}
 use Rattle.write.specs.declared.value.Rule.{Rule}
 use Rattle.write.specs.declared.value.Value.{Value}
 

@@ -2,10 +2,10 @@
 use crate::value::Rule;
 use crate::writing::by_rule;
 use crate::writing::rounded;
-use word::answer::Answer;
-use word::refusal::Verdict;
+use bounds::answer::Answer;
+use bounds::refusal::Verdict;
+use bounds::width::Width;
 use word::size::size_of;
-use word::width::Width;
 ghost use Rattle.write.specs.Writes.{Moves};
 
 // The word of the target width for what the word of the source width means; NaR gives NaR.

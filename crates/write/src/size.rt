@@ -5,7 +5,7 @@ ghost use Prim.Native.Nat.{_+_, _-_, _*_, _^_, _≤_, _<_};
 ghost use lib.IntN.{pos, negsuc};
 ghost use lib.Signed.{mag};
 ghost use Rattle.word.specs.Takum as Takum;
-ghost use Rattle.word.specs.Refusals.{IsWord};
+ghost use Rattle.bounds.specs.Refusals.{IsWord};
 ghost use Rattle.write.specs.Offers.{IsNearest, Begins, firstBits, IsRaised, TellsHalf, TellsPowers, chosenOf, marginOf, ChoosesByCut};
 
 // What lies below the last unit of a significand.

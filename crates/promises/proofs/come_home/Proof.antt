@@ -9,8 +9,8 @@ use borrow.Author.Count.{falls}
 use borrow.Author.Needs.{needs}
 use lib.ListN.{length, getD, drop, drop-of-length-le}
 use lib.Seq.{drop-cons}
-use Rattle.word.specs.declared.answer.Answer.{Answer}
-use Rattle.word.specs.declared.refusal.Refusal.{Refusal}
+use Rattle.bounds.specs.declared.answer.Answer.{Answer}
+use Rattle.bounds.specs.declared.refusal.Refusal.{Refusal}
 use Rattle.write.specs.declared.value.Rule.{Rule}
 use Rattle.write.specs.Writes.{Moves}
 use Rattle.promises.specs.Writing.{Goes}

@@ -4,12 +4,12 @@ use Prim.Native.Nat.{ℕ}
 use native.Mathlib.Omega.{arith}
 use borrow.Author.Needs.{needs}
 use Rattle.word.specs.Orders.{negated, Negates}
-use Rattle.word.specs.declared.answer.Answer.{Answer}
+use Rattle.bounds.specs.declared.answer.Answer.{Answer}
 use Rattle.word.proofs.Values.{negated-word, negated-twice}
 use Rattle.promises.specs.Demands.{ComesBack}
-use Rattle.word.specs.declared.refusal.Refusal.{Refusal}
-use Rattle.word.proofs.Verdicts.{word-through, word-passes, answered}
-use Rattle.word.specs.Refusals.{IsWord, through, refused}
+use Rattle.bounds.specs.declared.refusal.Refusal.{Refusal}
+use Rattle.bounds.proofs.Verdicts.{word-through, word-passes, answered}
+use Rattle.bounds.specs.Refusals.{IsWord, through, refused}
 use Rattle.promises.proofs.negate_twice.Statement.{statement}
 use Rattle.promises.proofs.negate_twice.Tie as tie
 

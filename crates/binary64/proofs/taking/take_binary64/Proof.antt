@@ -11,15 +11,15 @@ use lib.Ieee.{Float, binary64, round}
 use mir.Facts.{toZ-ofZ}
 use mir.Syntax.{w32}
 use mir.Val.{SFits, toZ, ofZ}
-use Rattle.word.specs.declared.refusal.Verdict.{Verdict}
+use Rattle.bounds.specs.declared.refusal.Verdict.{Verdict}
 use Rattle.word.specs.declared.size.Size.{Size}
-use Rattle.word.specs.Refusals.{widthTest, strayTest, _then_, IsWord, through, refused}
+use Rattle.bounds.specs.Refusals.{widthTest, strayTest, _then_, IsWord, through, refused}
 use Rattle.word.specs.Takum.{Takum, takum}
 use Rattle.word.specs.Reads.{IsNumber}
 use Rattle.word.specs.Sizes.{Sizes}
 use Rattle.word.proofs.Numbers.{characteristic-of-string}
-use Rattle.word.proofs.Powers.{pow-sum}
-use Rattle.word.proofs.Verdicts.{told-word, word-through}
+use Rattle.bounds.proofs.Powers.{pow-sum}
+use Rattle.bounds.proofs.Verdicts.{told-word, word-through}
 use Rattle.word.proofs.Words.{takum-zero, takum-NaR}
 use Rattle.write.proofs.Sized.{shifted-is, NaR-at-top, word-sized}
 use Rattle.binary64.specs.declared.taking.Binary64.{Binary64}

@@ -11,7 +11,7 @@ use mir.Facts.{toZ-ofZ, toZ-pos}
 use mir.Syntax.{w32}
 use mir.Val.{SFits, toZ, ofZ}
 use Rattle.word.specs.Reads.{num, den}
-use Rattle.word.specs.Widths.{GivesWord}
+use Rattle.bounds.specs.Widths.{GivesWord}
 use Rattle.word.proofs.Signed.{sub-mag}
 use Rattle.write.specs.Writes.{IsWritten, Writes}
 use Rattle.binary64.specs.Writes.{WritesBinary64}

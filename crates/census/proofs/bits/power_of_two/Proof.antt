@@ -5,7 +5,7 @@ use native.Mathlib.Omega.{arith}
 use native.Mathlib.Nat.{one-mul}
 use lib.Pow.{pow-mono, shl-exact}
 use borrow.Author.Needs.{needs}
-use Rattle.word.proofs.Limits.{below-power}
+use Rattle.bounds.proofs.Limits.{below-power}
 use Rattle.census.proofs.bits.power_of_two.Statement.{statement}
 use Rattle.census.proofs.bits.power_of_two.Tie as tie
 

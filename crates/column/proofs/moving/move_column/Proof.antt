@@ -4,9 +4,9 @@ use Prim.Native.Nat.{_≤_}
 use native.Mathlib.Nat.{le-refl}
 use borrow.Author.Needs.{needs}
 use lib.ListN.{length}
-use Rattle.word.specs.declared.refusal.Verdict.{Verdict}
-use Rattle.word.specs.Refusals.{widthTest, _then_, through, refused}
-use Rattle.word.proofs.Verdicts.{told-three, then-through}
+use Rattle.bounds.specs.declared.refusal.Verdict.{Verdict}
+use Rattle.bounds.specs.Refusals.{widthTest, _then_, through, refused}
+use Rattle.bounds.proofs.Verdicts.{told-three, then-through}
 use Rattle.column.specs.Columns.{roomTest, MovesColumn, Holds}
 use Rattle.column.proofs.Rooms.{room-through}
 use Rattle.column.proofs.Outcomes.{every-word-movable, nothing-written}

@@ -1,5 +1,5 @@
 -- `test_count` meets its contract. Assumes nothing.
-use Rattle.word.specs.declared.refusal.Refusal.{Refusal}
+use Rattle.bounds.specs.declared.refusal.Refusal.{Refusal}
 use Rattle.sheet.specs.Reads.{countTest}
 use Rattle.sheet.proofs.Tests.{at-most, past}
 use borrow.Author.Needs.{needs}

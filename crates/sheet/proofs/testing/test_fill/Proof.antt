@@ -1,7 +1,7 @@
 -- `test_fill` meets its contract. Assumes nothing.
 use mathlib.Core.Path.{sym, _∙_}
 use borrow.Author.Tests.{eq-eqb, ne-eqb}
-use Rattle.word.specs.declared.refusal.Refusal.{Refusal}
+use Rattle.bounds.specs.declared.refusal.Refusal.{Refusal}
 use Rattle.sheet.specs.Reads.{fillTest}
 use Rattle.sheet.proofs.Tests.{holds, fails}
 use Rattle.sheet.proofs.Unused.{zero-when}

@@ -1,6 +1,6 @@
 -- `test_mark` meets its contract. Assumes nothing.
 use borrow.Author.Tests.{eq-eqb, ne-eqb}
-use Rattle.word.specs.declared.refusal.Refusal.{Refusal}
+use Rattle.bounds.specs.declared.refusal.Refusal.{Refusal}
 use Rattle.sheet.specs.Layout.{mark}
 use Rattle.sheet.specs.Reads.{markTest}
 use Rattle.sheet.proofs.Tests.{holds, fails}

@@ -1,6 +1,6 @@
 -- `test_width` meets its contract. Assumes nothing.
 use mathlib.Core.Path.{sym, subst}
-use Rattle.word.specs.declared.refusal.Refusal.{Refusal}
+use Rattle.bounds.specs.declared.refusal.Refusal.{Refusal}
 use Rattle.sheet.specs.Reads.{widthTest}
 use Rattle.sheet.proofs.Tests.{OneOfFour, holds, fails, width-is, width-isn't}
 use borrow.Author.Needs.{needs}

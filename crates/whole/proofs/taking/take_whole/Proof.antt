@@ -12,15 +12,15 @@ use lib.Signed.{ltZ, nonNeg, mag}
 use mir.Facts.{toZ-ofZ}
 use mir.Syntax.{w32}
 use mir.Val.{Fits, SFits, toZ, ofZ}
-use Rattle.word.specs.declared.refusal.Refusal.{Refusal}
-use Rattle.word.specs.declared.refusal.Verdict.{Verdict}
+use Rattle.bounds.specs.declared.refusal.Refusal.{Refusal}
+use Rattle.bounds.specs.declared.refusal.Verdict.{Verdict}
 use Rattle.word.specs.declared.size.Size.{Size}
-use Rattle.word.specs.Refusals.{widthTest, strayTest, _then_, IsWord, through, refused}
+use Rattle.bounds.specs.Refusals.{widthTest, strayTest, _then_, IsWord, through, refused}
 use Rattle.word.specs.Takum.{Takum, real, takum, c, characteristicOf, C, D, R, r, regimeOf, p}
 use Rattle.word.specs.Reads.{IsSize, signedSize}
 use Rattle.word.specs.Sizes.{withoutSign, Sizes}
 use Rattle.word.proofs.Casts.{tested, not-negative, is-negative, plain-value}
-use Rattle.word.proofs.Verdicts.{told-word, word-through}
+use Rattle.bounds.proofs.Verdicts.{told-word, word-through}
 use Rattle.word.proofs.Words.{takum-zero, takum-NaR}
 use Rattle.write.specs.Writes.{isNegative}
 use Rattle.write.proofs.Sized.{NaR-at-top, word-sized}

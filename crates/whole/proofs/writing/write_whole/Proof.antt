@@ -7,9 +7,9 @@ use lib.Dec.{leb·suc-zero}
 use lib.IntN.{ℤ, pos, negsuc, natAbs}
 use lib.Signed.{ltZ}
 use mir.Facts.{toZ-ofZ}
-use Rattle.word.specs.declared.answer.Answer.{Answer}
+use Rattle.bounds.specs.declared.answer.Answer.{Answer}
 use Rattle.word.specs.Reads.{num, den}
-use Rattle.word.specs.Refusals.{widthTest, Decided}
+use Rattle.bounds.specs.Refusals.{widthTest, Decided}
 use Rattle.write.specs.Writes.{IsWritten, isNegative, Writes}
 use Rattle.whole.specs.Wholes.{WritesWhole}
 use Rattle.whole.proofs.writing.write_whole.Statement.{statement}

@@ -1,7 +1,7 @@
 -- `ones` meets its contract: 64 ones, shifted right by 64 - n, are n ones. Assumes nothing.
 use native.Mathlib.Omega.{arith}
 use borrow.Author.Needs.{needs}
-use Rattle.word.proofs.Powers.{ones-shr}
+use Rattle.bounds.proofs.Powers.{ones-shr}
 use Rattle.word.proofs.bits.ones.Statement.{statement}
 use Rattle.word.proofs.bits.ones.Tie as tie
 

@@ -1,6 +1,6 @@
 -- `power_of_two` meets its contract: below 64 the shift loses nothing. Assumes nothing.
 use borrow.Author.Needs.{needs}
-use Rattle.word.proofs.Powers.{one-shl}
+use Rattle.bounds.proofs.Powers.{one-shl}
 use Rattle.word.proofs.bits.power_of_two.Statement.{statement}
 use Rattle.word.proofs.bits.power_of_two.Tie as tie
 

@@ -6,7 +6,7 @@ use borrow.Author.Needs.{needs, sfits-of}
 use mir.Facts.{toZ-ofZ}
 use Rattle.word.specs.Takum as Takum
 use Rattle.word.specs.Takum.{F}
-use Rattle.word.proofs.Powers.{shl-out}
+use Rattle.bounds.proofs.Powers.{shl-out}
 use Rattle.word.proofs.Cut.{regime-le}
 use Rattle.word.proofs.fields.cut.Statement.{statement}
 use Rattle.word.proofs.fields.cut.Tie as tie

@@ -10,9 +10,9 @@ use mir.Syntax.{w64}
 use mir.Val.{SFits, toZ, ofZ}
 use mir.Facts.{toZ-pos, toZ-ofZ}
 use Rattle.word.proofs.Signed.{signed-low, signed-high, minus-one-less}
-use Rattle.word.proofs.Powers.{pow-sum}
+use Rattle.bounds.proofs.Powers.{pow-sum}
 use Rattle.word.specs.Orders.{signed}
-use Rattle.word.specs.Refusals.{IsWord}
+use Rattle.bounds.specs.Refusals.{IsWord}
 use Rattle.word.proofs.order.as_signed.Statement.{statement}
 use Rattle.word.proofs.order.as_signed.Tie as tie
 

@@ -4,9 +4,9 @@ use borrow.Author.Needs.{needs, sfits-of}
 use mir.Facts.{toZ-ofZ}
 use Rattle.word.specs.Orders.{order, Compares}
 use Rattle.word.specs.declared.order.Comparison.{Comparison}
-use Rattle.word.specs.Refusals.{widthTest, strayTest, _then_, IsWord, through, refused}
-use Rattle.word.proofs.Verdicts.{told-three, words-through}
-use Rattle.word.specs.declared.refusal.Verdict.{Verdict}
+use Rattle.bounds.specs.Refusals.{widthTest, strayTest, _then_, IsWord, through, refused}
+use Rattle.bounds.proofs.Verdicts.{told-three, words-through}
+use Rattle.bounds.specs.declared.refusal.Verdict.{Verdict}
 use Rattle.word.proofs.order.compare.Statement.{statement}
 use Rattle.word.proofs.order.compare.Tie as tie
 

@@ -5,11 +5,11 @@ use native.Mathlib.Omega.{arith}
 use native.Mathlib.Nat.{pos-of-ne-zero}
 use borrow.Author.Needs.{needs}
 use Rattle.word.specs.Orders.{negated, Negates}
-use Rattle.word.specs.declared.answer.Answer.{Answer}
+use Rattle.bounds.specs.declared.answer.Answer.{Answer}
 use Rattle.word.proofs.Signed.{negated-zero, negated-other}
-use Rattle.word.specs.Refusals.{widthTest, strayTest, _then_, IsWord, through, refused}
-use Rattle.word.proofs.Verdicts.{told-word, word-through}
-use Rattle.word.specs.declared.refusal.Verdict.{Verdict}
+use Rattle.bounds.specs.Refusals.{widthTest, strayTest, _then_, IsWord, through, refused}
+use Rattle.bounds.proofs.Verdicts.{told-word, word-through}
+use Rattle.bounds.specs.declared.refusal.Verdict.{Verdict}
 use Rattle.word.proofs.order.negate.Statement.{statement}
 use Rattle.word.proofs.order.negate.Tie as tie
 

@@ -6,14 +6,14 @@ use native.Mathlib.Omega.{arith}
 use borrow.Author.Needs.{needs}
 use lib.Dec.{lit≤}
 use lib.Pow.{shl-exact}
-use Rattle.word.specs.Refusals.{widthTest, strayTest, _then_, IsWord, through, refused}
+use Rattle.bounds.specs.Refusals.{widthTest, strayTest, _then_, IsWord, through, refused}
 use Rattle.word.specs.Reads.{IsReading, Reads}
 use Rattle.word.specs.declared.reading.Reading.{Reading}
-use Rattle.word.proofs.Powers.{shl-below}
+use Rattle.bounds.proofs.Powers.{shl-below}
 use Rattle.word.specs.Takum.{Takum, real, value, p, N, padded, takum, fractionBits}
-use Rattle.word.proofs.Verdicts.{told-word, word-through}
+use Rattle.bounds.proofs.Verdicts.{told-word, word-through}
 use Rattle.word.proofs.Words.{takum-zero, takum-NaR, takum-number}
-use Rattle.word.specs.declared.refusal.Verdict.{Verdict}
+use Rattle.bounds.specs.declared.refusal.Verdict.{Verdict}
 use Rattle.word.proofs.reading.read.Statement.{statement}
 use Rattle.word.proofs.reading.read.Tie as tie
 

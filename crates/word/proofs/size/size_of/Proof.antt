@@ -8,7 +8,7 @@ use mir.Facts.{toZ-ofZ}
 use Rattle.word.specs.Cuts.{Cuts}
 use Rattle.word.specs.Sizes.{withoutSign}
 use Rattle.word.specs.Takum as Takum
-use Rattle.word.proofs.Powers.{pow-sum}
+use Rattle.bounds.proofs.Powers.{pow-sum}
 use Rattle.word.proofs.size.size_of.Statement.{statement}
 use Rattle.word.proofs.size.size_of.Tie as tie
 

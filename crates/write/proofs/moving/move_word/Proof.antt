@@ -9,13 +9,13 @@ use lib.IntN.{ℤ, pos, _-ℤ_}
 use mir.Facts.{toZ-ofZ}
 use mir.Syntax.{w32, w64}
 use mir.Val.{SFits, toZ, ofZ}
-use Rattle.word.specs.declared.answer.Answer.{Answer}
-use Rattle.word.specs.declared.refusal.Verdict.{Verdict}
-use Rattle.word.specs.Refusals.{widthTest, strayTest, _then_, IsWord, through, refused}
+use Rattle.bounds.specs.declared.answer.Answer.{Answer}
+use Rattle.bounds.specs.declared.refusal.Verdict.{Verdict}
+use Rattle.bounds.specs.Refusals.{widthTest, strayTest, _then_, IsWord, through, refused}
 use Rattle.word.specs.Takum.{Takum, real, NaR, takum}
 use Rattle.word.specs.Reads.{IsSize, signedSize}
-use Rattle.word.specs.Widths.{GivesWord}
-use Rattle.word.proofs.Verdicts.{told-three, move-through, width-through, answered}
+use Rattle.bounds.specs.Widths.{GivesWord}
+use Rattle.bounds.proofs.Verdicts.{told-three, move-through, width-through, answered}
 use Rattle.word.proofs.Words.{takum-zero, takum-NaR}
 use Rattle.write.specs.Writes.{isNegative, IsMoved, Moves}
 use Rattle.write.specs.Offers.{WritesSize, Settles}

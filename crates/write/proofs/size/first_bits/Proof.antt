@@ -6,7 +6,7 @@ use native.Mathlib.Omega.{arith}
 use borrow.Author.Needs.{needs}
 use lib.Pow.{shl-exact, shr-le, shr-shr, shl-shr}
 use Rattle.write.specs.declared.size.Start.{Start}
-use Rattle.word.proofs.Powers.{shl-below}
+use Rattle.bounds.proofs.Powers.{shl-below}
 use Rattle.write.specs.Offers.{firstBits}
 use Rattle.write.proofs.size.first_bits.Statement.{statement}
 use Rattle.write.proofs.size.first_bits.Tie as tie

@@ -4,7 +4,7 @@ use Prim.Native.Nat.{ℕ, _-_}
 use native.Mathlib.Omega.{arith}
 use borrow.Author.Needs.{needs}
 use lib.Pow.{pow-pos}
-use Rattle.word.proofs.Powers.{one-shl}
+use Rattle.bounds.proofs.Powers.{one-shl}
 use Rattle.write.proofs.size.last_word.Statement.{statement}
 use Rattle.write.proofs.size.last_word.Tie as tie
 

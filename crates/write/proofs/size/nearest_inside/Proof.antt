@@ -7,7 +7,7 @@ use borrow.Author.Needs.{needs}
 use lib.Pow.{pow-mono}
 use lib.IntN.{ℤ}
 use mir.Facts.{toZ-ofZ}
-use Rattle.word.specs.Refusals.{IsWord}
+use Rattle.bounds.specs.Refusals.{IsWord}
 use Rattle.write.proofs.Hub.{start-lt, below-end, at-zero, at-end, by-side}
 use Rattle.write.proofs.Sides.{Given, fine-cut, lower-lt, gap-le, upper-small, under-upper, coarse-tells}
 use Rattle.write.proofs.Exponents.{raise, raised-same, raised-inj}

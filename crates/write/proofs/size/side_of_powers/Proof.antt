@@ -6,7 +6,7 @@ use native.Mathlib.Omega.{arith}
 use native.Mathlib.Nat.{eq-or-lt-of-le}
 use borrow.Author.Needs.{needs}
 use Rattle.write.proofs.Halves.{far-under, near, wide-over, rest-nothing, rest-under-half, rest-half, rest-over-half, for-powers}
-use Rattle.word.proofs.Powers.{one-shl}
+use Rattle.bounds.proofs.Powers.{one-shl}
 use Rattle.write.specs.Offers.{TellsHalf}
 use Rattle.write.proofs.size.side_of_powers.Statement.{statement}
 use Rattle.write.proofs.size.side_of_powers.Tie as tie

@@ -7,7 +7,7 @@ use borrow.Author.Needs.{needs}
 use lib.Dec.{lit<}
 use lib.IntN.{negsuc}
 use lib.Count.{leadingZeros}
-use Rattle.word.proofs.Powers.{Log, leading-log}
+use Rattle.bounds.proofs.Powers.{Log, leading-log}
 use Rattle.write.specs.Offers.{Begins}
 use Rattle.write.proofs.Starts.{lower-begins, shifted-lower, room-lower, regime-small}
 use Rattle.write.proofs.size.start_below.Statement.{statement}

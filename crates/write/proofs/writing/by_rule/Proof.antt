@@ -5,8 +5,8 @@ use Prim.Native.Nat.{ℕ}
 use lib.IntN.{ℤ}
 use mir.Facts.{toZ-ofZ}
 use borrow.Author.Needs.{needs}
-use Rattle.word.specs.declared.answer.Answer.{Answer}
-use Rattle.word.specs.declared.refusal.Refusal.{Refusal}
+use Rattle.bounds.specs.declared.answer.Answer.{Answer}
+use Rattle.bounds.specs.declared.refusal.Refusal.{Refusal}
 use Rattle.write.specs.declared.value.Rule.{Rule}
 use Rattle.write.specs.Offers.{TellsSize, Settles}
 use Rattle.write.proofs.Rules.{rounded-word, strict-word, strict-refusal}

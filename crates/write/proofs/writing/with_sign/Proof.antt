@@ -4,7 +4,7 @@ use mathlib.Core.Path.{_≡_, sym, ap, _∙_}
 use Prim.Native.Nat.{_-_, _*_, _%_, _^_, _≤_}
 use native.Mathlib.Omega.{arith}
 use lib.Pow.{pow-mono}
-use Rattle.word.proofs.Powers.{pow-sum, one-shl}
+use Rattle.bounds.proofs.Powers.{pow-sum, one-shl}
 use Rattle.word.proofs.Signed.{negated-other}
 use Rattle.write.specs.Offers.{withSign}
 use borrow.Author.Needs.{needs}

@@ -15,9 +15,9 @@ use Rattle.word.proofs.Signed.{add-mag}
 use Rattle.write.proofs.Normal.{zeros-le, shifted-full, shifted-offer}
 use Rattle.write.specs.Writes.{Writes}
 use Rattle.write.proofs.Exponents.{unit-some}
-use Rattle.word.specs.declared.refusal.Verdict.{Verdict}
-use Rattle.word.proofs.Verdicts.{width-through}
-use Rattle.word.specs.Refusals.{widthTest, through, refused}
+use Rattle.bounds.specs.declared.refusal.Verdict.{Verdict}
+use Rattle.bounds.proofs.Verdicts.{width-through}
+use Rattle.bounds.specs.Refusals.{widthTest, through, refused}
 use Rattle.write.specs.Offers.{WritesSize, Settles}
 use Rattle.write.proofs.Rules.{zero-written}
 use Rattle.word.specs.Reads.{num}

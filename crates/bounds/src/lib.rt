@@ -1,0 +1,4 @@
+// What every call tests first and how it answers: the widths, the words that belong to a width, and the yard's refusals.
+pub mod answer;
+pub mod refusal;
+pub mod width;

@@ -65,21 +65,10 @@ impl Refusal {
     }
 }
 
+/// Its number and name, as `refusal 4 (Inexact)`.
 impl fmt::Display for Refusal {
     fn fmt(&self, f: &mut fmt::Formatter<'_>) -> fmt::Result {
-        f.write_str(match self {
-            Refusal::Width => "the width is not one that there is",
-            Refusal::Stray => "a word has a bit set at or above its width",
-            Refusal::NotReal => "a whole number is wanted of NaR",
-            Refusal::Inexact => "no word, or no whole number, has exactly this value",
-            Refusal::Over => "the whole number falls outside signed 64 bits",
-            Refusal::Room => "the result slice is too short",
-            Refusal::Size => "the block is not 512 bytes",
-            Refusal::Mark => "the block's byte 0 is not 0x54",
-            Refusal::Check => "a check sum of the block differs",
-            Refusal::Count => "the block has more words than its width has room for",
-            Refusal::Fill => "an unused word byte of the block is not zero",
-        })
+        write!(f, "refusal {} ({:?})", self.number(), self)
     }
 }
 
@@ -104,7 +93,7 @@ pub struct ColumnRefusal {
 impl fmt::Display for ColumnRefusal {
     fn fmt(&self, f: &mut fmt::Formatter<'_>) -> fmt::Result {
         match self.position {
-            Some(position) => write!(f, "{} (position {})", self.refusal, position),
+            Some(position) => write!(f, "{} at position {}", self.refusal, position),
             None => self.refusal.fmt(f),
         }
     }

@@ -6,8 +6,8 @@
  * To build: `rt staticlib takum` makes target/staticlib/libtakum.a (x86-64), which is linked like any archive: cc program.c -Iinclude
  * target/staticlib/libtakum.a. It stands on nothing else, not even the C library, holds no state and may be called from any thread.
  *
- * A word of width n is carried in the low n bits of a uint64_t; the bits above must be zero. Zero is all bits zero, NaR ("not a real") is
- * the highest of the n bits alone. As n-bit two's complement numbers, words are in the order of their values.
+ * A word of width n (in bits, 2 to 64) is carried in the low n bits of a uint64_t; the bits above must be zero. Zero is all bits zero, NaR
+ * ("not a real") is the highest of the n bits alone. As n-bit two's complement numbers, words are in the order of their values.
  *
  * Every call takes every value of its arguments and returns. Each answer is a struct with the field `refusal`:
  *
@@ -35,8 +35,8 @@
 extern "C" {
 #endif
 
-/* Why a call was refused. Which calls can give it stands at each call; WIDTH can be given by all that take a width, STRAY by all that take
- * a word. */
+/* Why a call was refused. Every call that takes a width can give WIDTH, and every call that takes a word STRAY; what else it can give stands at
+ * the call. */
 enum takum_refusal {
     TAKUM_OK = 0,       /* it was not refused */
     TAKUM_WIDTH = 1,    /* a width isn't 2 to 64, or a block's isn't 8, 16, 32 or 64 */
@@ -166,8 +166,7 @@ takum_column_answer takum_move_column(uint32_t from, uint32_t to, bool strict, c
                                       size_t results_length);
 
 /* Reads a sheet block of 512 bytes: the first results are its words, in order, and the others stay as they were. TAKUM_BLOCK_WORDS results
- * are enough for every block. The refusals are those from WIDTH and ROOM to FILL in the order for blocks; the words are not tried one by one,
- * since none can have a stray bit. */
+ * are enough for every block. SIZE, MARK, CHECK, WIDTH, COUNT, FILL or ROOM, in this order; any word that a block holds is a good one. */
 takum_block_answer takum_read_block(const uint8_t *block, size_t block_length, uint64_t *results, size_t results_length);
 
 #ifdef __cplusplus

@@ -1,0 +1,76 @@
+//! What calls are given and what they answer.
+
+/// The size of a sheet block in bytes.
+pub const BLOCK_SIZE: usize = 512;
+
+/// The most words that a block has: a result slice of this length has room for every block.
+pub const BLOCK_WORDS: usize = 496;
+
+/// How a value becomes a word.
+#[derive(Clone, Copy, Debug, PartialEq, Eq, Hash)]
+pub enum Rule {
+    /// Of the nonzero words with the value's sign the one nearest to it by value; of two that are equally near the one whose lowest bit is
+    /// 0; past the ends the end word, never zero and never NaR. Zero gives zero.
+    Rounded,
+    /// The word with exactly that value, or [`Refusal::Inexact`](crate::Refusal::Inexact).
+    Strict,
+}
+
+/// How a word becomes a whole number.
+#[derive(Clone, Copy, Debug, PartialEq, Eq, Hash)]
+pub enum Taking {
+    /// The whole part, the fraction dropped toward zero.
+    Cut,
+    /// The value itself, or [`Refusal::Inexact`](crate::Refusal::Inexact) where it isn't whole.
+    Strict,
+}
+
+/// A value offered for writing: m * 2^k, or its negation; m = 0 is zero, whichever the sign.
+#[derive(Clone, Copy, Debug, PartialEq, Eq, Hash)]
+pub struct Value {
+    /// Whether it is -m * 2^k.
+    pub negative: bool,
+    /// The significand, any number.
+    pub m: u64,
+    /// The exponent, any number.
+    pub k: i32,
+}
+
+/// The value of a word by its parts.
+///
+/// ```
+/// use takum::{calls, Reading};
+///
+/// // -1.5 is -3072 * 2^(0 - 11)
+/// assert_eq!(calls::read(16, 0xBC00), Ok(Reading::Number { negative: true, h: 0, m: 3072, p: 11 }));
+/// assert_eq!(calls::read(16, 0x8000), Ok(Reading::NotReal));
+/// ```
+#[derive(Clone, Copy, Debug, PartialEq, Eq, Hash)]
+pub enum Reading {
+    /// Zero.
+    Zero,
+    /// NaR, "not a real".
+    NotReal,
+    /// A number that isn't zero, of the size m * 2^(h - p), with 2^p <= m < 2^(p + 1).
+    Number {
+        /// Its sign.
+        negative: bool,
+        /// The exponent of the greatest power of two that is not above the size.
+        h: i32,
+        /// The significand.
+        m: u64,
+        /// The number of fraction bits.
+        p: u32,
+    },
+}
+
+/// What a sheet block says of itself; its words are in the results.
+#[derive(Clone, Copy, Debug, PartialEq, Eq, Hash)]
+pub struct Block {
+    /// The width of its words in bits: 8, 16, 32 or 64.
+    pub width: u32,
+    /// The block's number.
+    pub number: u32,
+    /// How many words it has.
+    pub count: u32,
+}

@@ -1,0 +1,143 @@
+//! The library's calls as they are. Each takes any numbers, and refuses a width that isn't 2 to 64 and a word with a bit at or above its
+//! width.
+//!
+//! Where several refusals apply, the first of this order is given. Words and columns: `Width` (source, then target), `Room`, `Stray`,
+//! `NotReal`, `Over`, `Inexact`. Blocks: `Size`, `Mark`, `Check`, `Width`, `Count`, `Fill`, `Room`. A refused call leaves its results as they
+//! were.
+//!
+//! ```
+//! use takum::{calls, Refusal, Rule};
+//!
+//! assert_eq!(calls::write_whole(16, Rule::Rounded, 515), Ok(0x5A02));
+//! assert_eq!(calls::move_word(16, 8, Rule::Strict, 0x10000), Err(Refusal::Stray));
+//! ```
+//
+// Safety, for all calls below: the archive's functions take every number and write to no memory but the lent results. A slice is handed over
+// as what it is, its pointer and its length, and the borrow lasts until the call returns; a `&mut` slice overlaps no other.
+use crate::answers::{Block, Reading, Rule, Taking, Value};
+use crate::face::{self, WordAnswer};
+use crate::refusals::{ColumnRefusal, Refusal};
+use core::cmp::Ordering;
+
+fn word_of(answer: WordAnswer) -> Result<u64, Refusal> {
+    Refusal::unless(answer.refusal, answer.word)
+}
+
+/// The largest positive word of width n, 2^(n - 1) - 1.
+pub fn largest(n: u32) -> Result<u64, Refusal> {
+    word_of(unsafe { face::takum_largest(n) })
+}
+
+/// The smallest positive word of width n, 1.
+pub fn smallest(n: u32) -> Result<u64, Refusal> {
+    word_of(unsafe { face::takum_smallest(n) })
+}
+
+/// The NaR word of width n, 2^(n - 1).
+pub fn nar(n: u32) -> Result<u64, Refusal> {
+    word_of(unsafe { face::takum_nar(n) })
+}
+
+/// The exact-count limit of width n: each whole number from -limit to limit has a word, and limit + 1 has none.
+pub fn limit(n: u32) -> Result<u64, Refusal> {
+    let answer = unsafe { face::takum_limit(n) };
+    Refusal::unless(answer.refusal, answer.limit)
+}
+
+/// The value of a word by its parts.
+pub fn read(n: u32, word: u64) -> Result<Reading, Refusal> {
+    let answer = unsafe { face::takum_read(n, word) };
+    let reading = match answer.kind {
+        face::ZERO => Reading::Zero,
+        face::NAR => Reading::NotReal,
+        _ => Reading::Number { negative: answer.negative, h: answer.h, m: answer.m, p: answer.p },
+    };
+    Refusal::unless(answer.refusal, reading)
+}
+
+/// The order of x and y by value. NaR is below everything and equals itself.
+pub fn compare(n: u32, x: u64, y: u64) -> Result<Ordering, Refusal> {
+    let answer = unsafe { face::takum_compare(n, x, y) };
+    Refusal::unless(answer.refusal, answer.order.cmp(&0))
+}
+
+/// The word with the negated value; zero and NaR stay.
+pub fn negate(n: u32, word: u64) -> Result<u64, Refusal> {
+    word_of(unsafe { face::takum_negate(n, word) })
+}
+
+/// The word for a value.
+pub fn write(n: u32, rule: Rule, value: Value) -> Result<u64, Refusal> {
+    word_of(unsafe { face::takum_write(n, rule == Rule::Strict, value.negative, value.m, value.k) })
+}
+
+/// The word of width `to` for the value of a word of width `from`; NaR gives NaR. Going wider never changes a value.
+pub fn move_word(from: u32, to: u32, rule: Rule, word: u64) -> Result<u64, Refusal> {
+    word_of(unsafe { face::takum_move(from, to, rule == Rule::Strict, word) })
+}
+
+/// The word for a whole number.
+pub fn write_whole(n: u32, rule: Rule, x: i64) -> Result<u64, Refusal> {
+    word_of(unsafe { face::takum_write_whole(n, rule == Rule::Strict, x) })
+}
+
+/// The whole number of a word; `NotReal` for NaR, `Over` outside signed 64 bits.
+pub fn take_whole(n: u32, taking: Taking, word: u64) -> Result<i64, Refusal> {
+    let answer = unsafe { face::takum_take_whole(n, taking == Taking::Strict, word) };
+    Refusal::unless(answer.refusal, answer.whole)
+}
+
+/// The word for a binary64 number: NaN and both infinities give NaR, both zeros give zero.
+pub fn write_binary64(n: u32, rule: Rule, x: f64) -> Result<u64, Refusal> {
+    word_of(unsafe { face::takum_write_binary64(n, rule == Rule::Strict, x) })
+}
+
+/// The binary64 number for a word, none for NaR: exactly its value up to width 57; from 58 on the nearest, ties to even. Zero is positive
+/// zero.
+pub fn take_binary64(n: u32, word: u64) -> Result<Option<f64>, Refusal> {
+    let answer = unsafe { face::takum_take_binary64(n, word) };
+    let number = if answer.real { Some(answer.number) } else { None };
+    Refusal::unless(answer.refusal, number)
+}
+
+/// Moves a column, each of the words as [`move_word`] does: the first results are the moved words, in order, the others stay as they were,
+/// and the answer is how many were moved. `Room` where there are fewer results than words.
+///
+/// ```
+/// use takum::{calls, Rule};
+///
+/// let mut results = [7; 3];
+/// assert_eq!(calls::move_column(16, 32, Rule::Strict, &[0x5A00, 0x8000], &mut results), Ok(2));
+/// assert_eq!(results, [0x5A00_0000, 0x8000_0000, 7]);
+/// ```
+pub fn move_column(from: u32, to: u32, rule: Rule, words: &[u64], results: &mut [u64]) -> Result<usize, ColumnRefusal> {
+    let strict = rule == Rule::Strict;
+    let (given, room) = (words.len(), results.len());
+    let answer = unsafe { face::takum_move_column(from, to, strict, words.as_ptr(), given, results.as_mut_ptr(), room) };
+    Refusal::unless(answer.refusal, answer.moved).map_err(|refusal| {
+        let position = match refusal {
+            Refusal::Width | Refusal::Room => None,
+            _ => Some(answer.position),
+        };
+        ColumnRefusal { refusal, position }
+    })
+}
+
+/// Reads a sheet block of 512 bytes: the first results are its words, in order, and the others stay as they were.
+///
+/// ```
+/// use takum::{calls, Block, BLOCK_SIZE, BLOCK_WORDS};
+///
+/// let mut block = [0; BLOCK_SIZE];
+/// block[..12].copy_from_slice(&[0x54, 16, 2, 0, 1, 0, 0, 0, 0x00, 0x5A, 0x00, 0x80]);
+/// block[504..508].copy_from_slice(&0x80026A55_u32.to_le_bytes());
+/// block[508..].copy_from_slice(&0x012FA1D5_u32.to_le_bytes());
+/// let mut words = [0; BLOCK_WORDS];
+/// assert_eq!(calls::read_block(&block, &mut words), Ok(Block { width: 16, number: 1, count: 2 }));
+/// assert_eq!(words[..2], [0x5A00, 0x8000]);
+/// ```
+pub fn read_block(block: &[u8], results: &mut [u64]) -> Result<Block, Refusal> {
+    let (size, room) = (block.len(), results.len());
+    let answer = unsafe { face::takum_read_block(block.as_ptr(), size, results.as_mut_ptr(), room) };
+    Refusal::unless(answer.refusal, Block { width: answer.width, number: answer.number, count: answer.count })
+}

@@ -1,0 +1,87 @@
+//! The archive's functions as crates/takum exports them. include/takum.h says what each answers.
+
+#[repr(C)]
+pub struct WordAnswer {
+    pub refusal: u32,
+    pub word: u64,
+}
+
+#[repr(C)]
+pub struct ReadingAnswer {
+    pub refusal: u32,
+    pub kind: u32,
+    pub negative: bool,
+    pub h: i32,
+    pub m: u64,
+    pub p: u32,
+}
+
+/// The values of `kind`; any other is that of a number.
+pub const ZERO: u32 = 0;
+pub const NAR: u32 = 1;
+
+#[repr(C)]
+pub struct OrderAnswer {
+    pub refusal: u32,
+    pub order: i32,
+}
+
+#[repr(C)]
+pub struct LimitAnswer {
+    pub refusal: u32,
+    pub limit: u64,
+}
+
+#[repr(C)]
+pub struct WholeAnswer {
+    pub refusal: u32,
+    pub whole: i64,
+}
+
+#[repr(C)]
+pub struct NumberAnswer {
+    pub refusal: u32,
+    pub real: bool,
+    pub number: f64,
+}
+
+#[repr(C)]
+pub struct ColumnAnswer {
+    pub refusal: u32,
+    pub position: usize,
+    pub moved: usize,
+}
+
+#[repr(C)]
+pub struct BlockAnswer {
+    pub refusal: u32,
+    pub width: u32,
+    pub number: u32,
+    pub count: u32,
+}
+
+extern "C" {
+    pub fn takum_largest(n: u32) -> WordAnswer;
+    pub fn takum_smallest(n: u32) -> WordAnswer;
+    pub fn takum_nar(n: u32) -> WordAnswer;
+    pub fn takum_limit(n: u32) -> LimitAnswer;
+    pub fn takum_read(n: u32, word: u64) -> ReadingAnswer;
+    pub fn takum_compare(n: u32, x: u64, y: u64) -> OrderAnswer;
+    pub fn takum_negate(n: u32, word: u64) -> WordAnswer;
+    pub fn takum_write(n: u32, strict: bool, negative: bool, m: u64, k: i32) -> WordAnswer;
+    pub fn takum_move(from: u32, to: u32, strict: bool, word: u64) -> WordAnswer;
+    pub fn takum_write_whole(n: u32, strict: bool, x: i64) -> WordAnswer;
+    pub fn takum_take_whole(n: u32, strict: bool, word: u64) -> WholeAnswer;
+    pub fn takum_write_binary64(n: u32, strict: bool, x: f64) -> WordAnswer;
+    pub fn takum_take_binary64(n: u32, word: u64) -> NumberAnswer;
+    pub fn takum_move_column(
+        from: u32,
+        to: u32,
+        strict: bool,
+        words: *const u64,
+        words_length: usize,
+        results: *mut u64,
+        results_length: usize,
+    ) -> ColumnAnswer;
+    pub fn takum_read_block(block: *const u8, block_length: usize, results: *mut u64, results_length: usize) -> BlockAnswer;
+}

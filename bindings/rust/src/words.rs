@@ -1,0 +1,178 @@
+//! A width and a word that have been accepted once.
+use crate::answers::{Reading, Rule, Taking, Value};
+use crate::calls;
+use crate::refusals::{ColumnRefusal, Refusal};
+use core::cmp::Ordering;
+use core::ops::Neg;
+
+/// A width from 2 to 64.
+///
+/// ```
+/// use takum::{Refusal, Width};
+///
+/// assert_eq!(Width::new(16)?.limit(), 512);
+/// assert_eq!(Width::new(65), Err(Refusal::Width));
+/// # Ok::<(), Refusal>(())
+/// ```
+#[derive(Clone, Copy, Debug, PartialEq, Eq, PartialOrd, Ord, Hash)]
+pub struct Width {
+    bits: u32,
+}
+
+/// A word with its width.
+///
+/// ```
+/// use takum::{Refusal, Rule, Takum, Width};
+///
+/// let one_and_a_half = Takum::new(Width::new(16)?, 0x4400)?;
+/// assert_eq!(one_and_a_half.take_binary64(), Some(1.5));
+/// assert_eq!((-one_and_a_half).word(), 0xBC00);
+/// assert_eq!(one_and_a_half.move_to(Width::new(64)?, Rule::Strict)?.take_binary64(), Some(1.5));
+/// # Ok::<(), Refusal>(())
+/// ```
+#[derive(Clone, Copy, Debug, PartialEq, Eq, Hash)]
+pub struct Takum {
+    width: Width,
+    word: u64,
+}
+
+/// The answer of a call that the library refuses only for a bad width or a stray bit, given a width and words that it accepted before.
+fn accepted<T>(answer: Result<T, Refusal>) -> T {
+    answer.expect("the library accepted this width and word before")
+}
+
+impl Width {
+    /// The least width, 2.
+    pub const LEAST: Width = Width { bits: 2 };
+
+    /// The greatest width, 64.
+    pub const GREATEST: Width = Width { bits: 64 };
+
+    /// A width, or [`Refusal::Width`] if it isn't 2 to 64.
+    pub fn new(bits: u32) -> Result<Width, Refusal> {
+        calls::nar(bits).map(|_| Width { bits })
+    }
+
+    /// Its number of bits.
+    pub fn bits(self) -> u32 {
+        self.bits
+    }
+
+    /// A word that the library gave for this width.
+    fn given(self, word: u64) -> Takum {
+        Takum { width: self, word }
+    }
+
+    /// The largest positive word.
+    pub fn largest(self) -> Takum {
+        self.given(accepted(calls::largest(self.bits)))
+    }
+
+    /// The smallest positive word.
+    pub fn smallest(self) -> Takum {
+        self.given(accepted(calls::smallest(self.bits)))
+    }
+
+    /// NaR, "not a real".
+    pub fn nar(self) -> Takum {
+        self.given(accepted(calls::nar(self.bits)))
+    }
+
+    /// The exact-count limit: each whole number from -limit to limit has a word, and limit + 1 has none.
+    pub fn limit(self) -> u64 {
+        accepted(calls::limit(self.bits))
+    }
+
+    /// The word for a value, or [`Refusal::Inexact`] by the strict rule.
+    ///
+    /// ```
+    /// use takum::{Refusal, Rule, Value, Width};
+    ///
+    /// let three_quarters = Value { negative: false, m: 3, k: -2 };
+    /// assert_eq!(Width::new(16)?.write(Rule::Strict, three_quarters)?.take_binary64(), Some(0.75));
+    /// # Ok::<(), Refusal>(())
+    /// ```
+    pub fn write(self, rule: Rule, value: Value) -> Result<Takum, Refusal> {
+        calls::write(self.bits, rule, value).map(|word| self.given(word))
+    }
+
+    /// The word for a whole number, or [`Refusal::Inexact`] by the strict rule.
+    pub fn write_whole(self, rule: Rule, x: i64) -> Result<Takum, Refusal> {
+        calls::write_whole(self.bits, rule, x).map(|word| self.given(word))
+    }
+
+    /// The word for a binary64 number, or [`Refusal::Inexact`] by the strict rule. NaN and both infinities give NaR, both zeros give zero.
+    pub fn write_binary64(self, rule: Rule, x: f64) -> Result<Takum, Refusal> {
+        calls::write_binary64(self.bits, rule, x).map(|word| self.given(word))
+    }
+
+    /// Moves a column of words of this width to another; see [`calls::move_column`].
+    pub fn move_column(self, to: Width, rule: Rule, words: &[u64], results: &mut [u64]) -> Result<usize, ColumnRefusal> {
+        calls::move_column(self.bits, to.bits, rule, words, results)
+    }
+}
+
+impl Takum {
+    /// A word of a width, or [`Refusal::Stray`] if it has a bit set at or above the width.
+    pub fn new(width: Width, word: u64) -> Result<Takum, Refusal> {
+        calls::negate(width.bits, word).map(|_| width.given(word))
+    }
+
+    /// Its width.
+    pub fn width(self) -> Width {
+        self.width
+    }
+
+    /// Its bits, the low ones of 64; all others are zero.
+    pub fn word(self) -> u64 {
+        self.word
+    }
+
+    /// Its value by its parts.
+    pub fn read(self) -> Reading {
+        accepted(calls::read(self.width.bits, self.word))
+    }
+
+    /// The word of another width for its value, or [`Refusal::Inexact`] by the strict rule. Going wider never changes a value.
+    pub fn move_to(self, to: Width, rule: Rule) -> Result<Takum, Refusal> {
+        calls::move_word(self.width.bits, to.bits, rule, self.word).map(|word| to.given(word))
+    }
+
+    /// Its whole number, or [`Refusal::NotReal`], [`Refusal::Over`] or, by the strict rule, [`Refusal::Inexact`].
+    pub fn take_whole(self, taking: Taking) -> Result<i64, Refusal> {
+        calls::take_whole(self.width.bits, taking, self.word)
+    }
+
+    /// Its binary64 number, none for NaR; see [`calls::take_binary64`].
+    pub fn take_binary64(self) -> Option<f64> {
+        accepted(calls::take_binary64(self.width.bits, self.word))
+    }
+}
+
+/// The word with the negated value; zero and NaR stay.
+impl Neg for Takum {
+    type Output = Takum;
+
+    fn neg(self) -> Takum {
+        self.width.given(accepted(calls::negate(self.width.bits, self.word)))
+    }
+}
+
+/// The order of values within one width, NaR below everything; words of two widths have none.
+///
+/// ```
+/// use takum::{Refusal, Width};
+///
+/// let width = Width::new(16)?;
+/// assert!(width.nar() < -width.largest() && width.smallest() < width.largest());
+/// assert_eq!(width.nar().partial_cmp(&Width::GREATEST.nar()), None);
+/// # Ok::<(), Refusal>(())
+/// ```
+impl PartialOrd for Takum {
+    fn partial_cmp(&self, other: &Takum) -> Option<Ordering> {
+        if self.width != other.width {
+            return None;
+        }
+        Some(accepted(calls::compare(self.width.bits, self.word, other.word)))
+    }
+}

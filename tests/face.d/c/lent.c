@@ -1,0 +1,94 @@
+/* The calls that are lent slices. Each slice lies between guards, and what the call may not change is compared afterwards. */
+#include "calls.h"
+
+#include "takum.h"
+
+#include <inttypes.h>
+#include <string.h>
+
+enum { GUARDS = 8, MOST_WORDS = 600, MOST_BYTES = 1100 };
+
+/* What stands in each place of the results, and of the guards around them, before the call. */
+static uint64_t sentinel(size_t place) {
+    return 0xa5a5a5a5a5a5a5a5u ^ place;
+}
+
+/* A result slice of `room` words, with its guards. */
+static uint64_t row[GUARDS + MOST_WORDS + GUARDS];
+
+static uint64_t *lend_results(size_t room) {
+    if (room > MOST_WORDS) {
+        stop("too much room", "");
+    }
+    for (size_t i = 0; i < GUARDS + room + GUARDS; i++) {
+        row[i] = sentinel(i);
+    }
+    return row + GUARDS;
+}
+
+/* Says so where a place changed that is not one of the `written` first results. */
+static void put_changes(answer *to, size_t room, size_t written) {
+    for (size_t i = 0; i < GUARDS + room + GUARDS; i++) {
+        bool may_change = i >= GUARDS && i < GUARDS + written;
+        if (!may_change && row[i] != sentinel(i)) {
+            put(to, ", with place %ld of the results changed to 0x%" PRIx64, (long)i - GUARDS, row[i]);
+        }
+    }
+}
+
+/* What was lent to be read, and a copy made before the call: guards and all are compared. */
+static void put_difference(answer *to, const void *lent, const void *copy, size_t size) {
+    if (memcmp(lent, copy, size) != 0) {
+        put(to, ", with what was lent to be read changed");
+    }
+}
+
+void of_move_column(given *from, answer *to) {
+    uint32_t source = take_width(from);
+    uint32_t target = take_width(from);
+    bool strict = take_choice(from, "rounded", "strict");
+    static uint64_t lent[GUARDS + MOST_WORDS + GUARDS], copy[GUARDS + MOST_WORDS + GUARDS];
+    size_t count = take_words(from, lent + GUARDS, MOST_WORDS);
+    size_t room;
+    take_room(from, &room);
+    uint64_t *results = lend_results(room);
+    memcpy(copy, lent, sizeof lent);
+
+    takum_column_answer got = takum_move_column(source, target, strict, lent + GUARDS, count, results, room);
+
+    bool has_position = got.refusal == TAKUM_STRAY || got.refusal == TAKUM_INEXACT;
+    if (put_refusal(to, got.refusal, got.moved == 0 && (has_position || got.position == 0))) {
+        if (has_position) {
+            put(to, " at %zu", got.position);
+        }
+        put_changes(to, room, 0);
+    } else {
+        put(to, "moved %zu ", got.moved);
+        put_words(to, results, got.moved <= room ? got.moved : room);
+        if (got.position != 0) {
+            put(to, " beside a position that is not zero");
+        }
+        put_changes(to, room, got.moved);
+    }
+    put_difference(to, lent, copy, sizeof lent);
+}
+
+void of_read_block(given *from, answer *to) {
+    static uint8_t lent[GUARDS + MOST_BYTES + GUARDS], copy[GUARDS + MOST_BYTES + GUARDS];
+    size_t size = take_bytes(from, lent + GUARDS, MOST_BYTES);
+    size_t room;
+    take_room(from, &room);
+    uint64_t *results = lend_results(room);
+    memcpy(copy, lent, sizeof lent);
+
+    takum_block_answer got = takum_read_block(lent + GUARDS, size, results, room);
+
+    if (put_refusal(to, got.refusal, got.width == 0 && got.number == 0 && got.count == 0)) {
+        put_changes(to, room, 0);
+    } else {
+        put(to, "block %" PRIu32 " %" PRIu32 " %" PRIu32 " ", got.width, got.number, got.count);
+        put_words(to, results, got.count <= room ? got.count : room);
+        put_changes(to, room, got.count);
+    }
+    put_difference(to, lent, copy, sizeof lent);
+}

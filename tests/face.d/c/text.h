@@ -1,0 +1,40 @@
+/* The text of a case: the parts of what a call is given are taken from the front, and its answer is put together. */
+#ifndef TEXT_H
+#define TEXT_H
+
+#include <stdbool.h>
+#include <stddef.h>
+#include <stdint.h>
+
+/* What is still to be taken. */
+typedef struct given {
+    const char *rest;
+} given;
+
+/* The next part, up to a space: a word of the case's language, or a number, decimal or in hex after 0x. A part that is none of them ends the
+ * program. */
+bool take_choice(given *from, const char *no, const char *yes);
+uint64_t take_number(given *from);
+int64_t take_signed(given *from);
+uint32_t take_width(given *from);
+void take_room(given *from, size_t *room);
+
+/* A row of words, `-` where it is empty. The answer is their number. */
+size_t take_words(given *from, uint64_t *words, size_t most);
+
+/* The bytes of a block: pieces of hex digits, each piece perhaps repeated, as 5410,00*3 for 5410000000; `-` where there are none. */
+size_t take_bytes(given *from, uint8_t *bytes, size_t most);
+
+/* The answer, put together piece by piece. */
+typedef struct answer {
+    char text[16384];
+    size_t length;
+} answer;
+
+void put(answer *to, const char *format, ...);
+void put_words(answer *to, const uint64_t *words, size_t count);
+
+/* Ends the program: the case can't be understood. */
+void stop(const char *why, const char *text);
+
+#endif

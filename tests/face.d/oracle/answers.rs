@@ -1,0 +1,46 @@
+//! The text of what the independent program answers.
+use crate::binary64::Binary64;
+use crate::reading::Reading;
+use crate::refusals::Refusal;
+
+/// The text of an answer, or of its refusal.
+pub fn text<T>(answer: Result<T, Refusal>, text_of: impl FnOnce(T) -> String) -> String {
+    match answer {
+        Ok(answer) => text_of(answer),
+        Err(refusal) => format!("refused {}", refusal as u32),
+    }
+}
+
+pub fn word(answer: Result<u64, Refusal>) -> String {
+    text(answer, |word| format!("word {word:#x}"))
+}
+
+pub fn sign(minus: bool) -> &'static str {
+    if minus {
+        "minus"
+    } else {
+        "plus"
+    }
+}
+
+pub fn reading(answer: Result<Reading, Refusal>) -> String {
+    text(answer, |reading| match reading {
+        Reading::Zero => "zero".to_string(),
+        Reading::NaR => "nar".to_string(),
+        Reading::Number { minus, h, m, p } => format!("number {} {h} {m} {p}", sign(minus)),
+    })
+}
+
+pub fn binary64(answer: Result<Binary64, Refusal>) -> String {
+    text(answer, |number| match number {
+        Binary64::Number(pattern) => format!("number {pattern:#x}"),
+        Binary64::NoReading => "nar".to_string(),
+    })
+}
+
+pub fn row(words: &[u64]) -> String {
+    if words.is_empty() {
+        return "-".to_string();
+    }
+    words.iter().map(|word| format!("{word:#x}")).collect::<Vec<_>>().join(",")
+}

@@ -1,0 +1,122 @@
+//! Pseudo-random choices of widths, words, values and numbers, the edges among them.
+use crate::binary64::{finest, nearest_pattern, with_sign, INFINITY, NAN};
+use crate::census::{low_bits, Sequence, BAD_WIDTHS};
+use crate::nearest::value_of;
+use crate::offers::{itself, just_above, just_below, Offer};
+use crate::refusals::make_width;
+use crate::whole::whole_in;
+use crate::widths::{largest_word, nar_word};
+
+pub struct Choices(Sequence);
+
+impl Choices {
+    pub fn new(start: u32) -> Choices {
+        Choices(Sequence::new(start))
+    }
+
+    pub fn number(&mut self) -> u64 {
+        self.0.next_number()
+    }
+
+    /// A number below `count`.
+    pub fn below(&mut self, count: u64) -> u64 {
+        self.number() % count
+    }
+
+    /// True in one of `count` choices.
+    pub fn once_in(&mut self, count: u64) -> bool {
+        self.below(count) == 0
+    }
+
+    pub fn one_of<T: Copy>(&mut self, these: &[T]) -> T {
+        these[self.below(these.len() as u64) as usize]
+    }
+
+    pub fn good_width(&mut self) -> u32 {
+        2 + self.below(63) as u32
+    }
+
+    /// A width, seldom a bad one.
+    pub fn width(&mut self) -> u32 {
+        if self.once_in(24) {
+            self.one_of(&BAD_WIDTHS)
+        } else {
+            self.good_width()
+        }
+    }
+
+    /// A word of a width: any, or one of a few digits, of a whole number, at an edge, or with stray bits; at a bad width any number.
+    pub fn word(&mut self, width: u32) -> u64 {
+        if make_width(width).is_err() {
+            return self.number();
+        }
+        match self.below(16) {
+            0 if width < 64 => self.number() | 1 << (u64::from(width) + self.below(u64::from(64 - width))),
+            1 => {
+                let nar = nar_word(width).unwrap();
+                let edge = self.one_of(&[0, 1, nar / 2, nar - 1, nar, nar + 1]);
+                low_bits(if self.once_in(2) { edge } else { edge.wrapping_neg() }, width)
+            }
+            2..=5 => {
+                let whole = self.whole();
+                whole_in(width, whole).rounded.unwrap()
+            }
+            6..=9 => {
+                let narrow = 2 + self.below(u64::from(width) - 1) as u32;
+                self.0.next_word(narrow) << (width - narrow)
+            }
+            _ => self.0.next_word(width),
+        }
+    }
+
+    /// A whole number of any length; seldom one at an edge.
+    pub fn whole(&mut self) -> i64 {
+        let shift = self.below(64);
+        match self.below(8) {
+            0 => self.one_of(&[i64::MIN, i64::MIN + 1, i64::MAX, i64::MAX - 1, 0, 1, -1]),
+            1 => (1_i64 << (shift % 63)).wrapping_add(self.below(5) as i64 - 2),
+            _ => self.number() as i64 >> shift,
+        }
+    }
+
+    /// The midpoint between two neighbouring positive words, held times 2^400.
+    fn midpoint(&mut self, width: u32) -> crate::exact::Whole {
+        let largest = largest_word(width).unwrap();
+        let a = if largest == 1 { 0 } else { 1 + self.below(largest - 1) };
+        value_of(width, a).plus(&value_of(width, a + 1)).divided_by_power_of_two(1)
+    }
+
+    /// A value to write: any, one on or beside a midpoint between two words, or one with any exponent.
+    pub fn offer(&mut self, width: u32) -> Offer {
+        let minus = self.once_in(2);
+        let (m, k) = match self.below(8) {
+            0 | 1 if make_width(width).is_ok() => {
+                let midpoint = self.midpoint(width);
+                match self.below(3) {
+                    0 => itself(&midpoint).unwrap_or_else(|| just_below(&midpoint)),
+                    1 => just_below(&midpoint),
+                    _ => just_above(&midpoint),
+                }
+            }
+            2 => (self.number() >> self.below(64), self.number() as i32 >> self.below(32)),
+            3 => (self.one_of(&[0, 1, u64::MAX, 1 << 63]), self.one_of(&[i32::MIN, -308, -307, -255, 0, 191, 254, 255, i32::MAX])),
+            _ => (self.number() >> self.below(64), self.below(640) as i32 - 352),
+        };
+        Offer { minus, m, k }
+    }
+
+    /// The pattern of a binary64 number: any, one in the range of words, one on or beside a midpoint between two words, or a special one.
+    pub fn pattern(&mut self, width: u32) -> u64 {
+        let minus = self.once_in(2);
+        let size = match self.below(8) {
+            0 => self.number() >> 1,
+            1 => self.one_of(&[0, 1, (1 << 52) - 1, 1 << 52, INFINITY - 1, INFINITY, INFINITY + 1, NAN]),
+            2..=4 if make_width(width).is_ok() => {
+                let midpoint = self.midpoint(width);
+                nearest_pattern(&finest(&midpoint)) - 1 + self.below(3)
+            }
+            _ => ((1023 - 260 + self.below(520)) << 52) + ((self.number() >> 12) & u64::MAX << self.below(53)),
+        };
+        with_sign(minus, size)
+    }
+}

@@ -1,0 +1,124 @@
+//! The calls of one word, each by plain numbers and by the types, which must answer the same.
+use crate::text::{put, Given};
+use std::cmp::Ordering;
+use std::fmt::{Debug, Write};
+use takum::{calls, Reading, Refusal, Rule, Taking, Takum, Value, Width};
+
+/// The answer by plain numbers; where the one by the types is another, the text says so.
+pub fn same<T: PartialEq + Debug>(to: &mut String, plain: T, typed: T) -> T {
+    if plain != typed {
+        write!(to, "by the types {typed:?} but otherwise ").expect("a text takes all that is put");
+    }
+    plain
+}
+
+fn put_word(to: &mut String, plain: Result<u64, Refusal>, typed: Result<Takum, Refusal>) {
+    let answer = same(to, plain, typed.map(Takum::word));
+    put(to, answer, |to, word| write!(to, "word {word:#x}"));
+}
+
+pub fn rule(given: &mut Given) -> Rule {
+    given.choice(("rounded", Rule::Rounded), ("strict", Rule::Strict))
+}
+
+fn takum(n: u32, word: u64) -> Result<Takum, Refusal> {
+    let takum = Takum::new(Width::new(n)?, word)?;
+    assert!(takum.width().bits() == n && takum.word() == word);
+    Ok(takum)
+}
+
+pub fn largest(given: &mut Given, to: &mut String) {
+    let n = given.width();
+    put_word(to, calls::largest(n), Width::new(n).map(Width::largest));
+}
+
+pub fn smallest(given: &mut Given, to: &mut String) {
+    let n = given.width();
+    put_word(to, calls::smallest(n), Width::new(n).map(Width::smallest));
+}
+
+pub fn nar(given: &mut Given, to: &mut String) {
+    let n = given.width();
+    put_word(to, calls::nar(n), Width::new(n).map(Width::nar));
+}
+
+pub fn limit(given: &mut Given, to: &mut String) {
+    let n = given.width();
+    let answer = same(to, calls::limit(n), Width::new(n).map(Width::limit));
+    put(to, answer, |to, limit| write!(to, "limit {limit}"));
+}
+
+pub fn read(given: &mut Given, to: &mut String) {
+    let (n, word) = (given.width(), given.number());
+    let answer = same(to, calls::read(n, word), takum(n, word).map(Takum::read));
+    put(to, answer, |to, reading| match reading {
+        Reading::Zero => write!(to, "zero"),
+        Reading::NotReal => write!(to, "nar"),
+        Reading::Number { negative, h, m, p } => write!(to, "number {} {h} {m} {p}", if negative { "minus" } else { "plus" }),
+    });
+}
+
+pub fn compare(given: &mut Given, to: &mut String) {
+    let (n, x, y) = (given.width(), given.number(), given.number());
+    let typed = takum(n, x).and_then(|x| takum(n, y).map(|y| x.partial_cmp(&y)));
+    let answer = same(to, calls::compare(n, x, y).map(Some), typed);
+    put(to, answer, |to, order| {
+        let order = match order {
+            Some(Ordering::Less) => "-1",
+            Some(Ordering::Equal) => "0",
+            Some(Ordering::Greater) => "1",
+            None => "none",
+        };
+        write!(to, "order {order}")
+    });
+}
+
+pub fn negate(given: &mut Given, to: &mut String) {
+    let (n, word) = (given.width(), given.number());
+    put_word(to, calls::negate(n, word), takum(n, word).map(|takum| -takum));
+}
+
+pub fn write(given: &mut Given, to: &mut String) {
+    let (n, rule) = (given.width(), rule(given));
+    let negative = given.choice(("plus", false), ("minus", true));
+    let value = Value { negative, m: given.number(), k: given.signed() as i32 };
+    put_word(to, calls::write(n, rule, value), Width::new(n).and_then(|width| width.write(rule, value)));
+}
+
+pub fn move_word(given: &mut Given, to: &mut String) {
+    let (source, target, rule, word) = (given.width(), given.width(), rule(given), given.number());
+    let typed = || {
+        let (source, target) = (Width::new(source)?, Width::new(target)?);
+        Takum::new(source, word)?.move_to(target, rule)
+    };
+    put_word(to, calls::move_word(source, target, rule, word), typed());
+}
+
+pub fn write_whole(given: &mut Given, to: &mut String) {
+    let (n, rule, x) = (given.width(), rule(given), given.signed());
+    put_word(to, calls::write_whole(n, rule, x), Width::new(n).and_then(|width| width.write_whole(rule, x)));
+}
+
+pub fn take_whole(given: &mut Given, to: &mut String) {
+    let n = given.width();
+    let taking = given.choice(("cut", Taking::Cut), ("strict", Taking::Strict));
+    let word = given.number();
+    let answer = same(to, calls::take_whole(n, taking, word), takum(n, word).and_then(|takum| takum.take_whole(taking)));
+    put(to, answer, |to, whole| write!(to, "whole {whole}"));
+}
+
+pub fn write_binary64(given: &mut Given, to: &mut String) {
+    let (n, rule, x) = (given.width(), rule(given), f64::from_bits(given.number()));
+    put_word(to, calls::write_binary64(n, rule, x), Width::new(n).and_then(|width| width.write_binary64(rule, x)));
+}
+
+pub fn take_binary64(given: &mut Given, to: &mut String) {
+    let (n, word) = (given.width(), given.number());
+    let pattern = |number: Option<f64>| number.map(f64::to_bits);
+    let typed = takum(n, word).map(|takum| pattern(takum.take_binary64()));
+    let answer = same(to, calls::take_binary64(n, word).map(pattern), typed);
+    put(to, answer, |to, pattern| match pattern {
+        Some(pattern) => write!(to, "number {pattern:#x}"),
+        None => write!(to, "nar"),
+    });
+}

@@ -1,0 +1,109 @@
+//! The text of a case, taken apart and put together.
+use std::fmt::Write;
+use takum::Refusal;
+
+/// Ends the program: the case can't be understood.
+pub fn stop(why: &str, text: &str) -> ! {
+    println!("from Rust: a case can't be understood, {why}: {text}");
+    std::process::exit(1);
+}
+
+/// What a call is given; its parts are taken from the front.
+pub struct Given<'a> {
+    pub rest: &'a str,
+}
+
+fn number_of(part: &str) -> u64 {
+    let parsed = match part.strip_prefix("0x") {
+        Some(digits) => u64::from_str_radix(digits, 16),
+        None => part.parse(),
+    };
+    parsed.unwrap_or_else(|_| stop("no number", part))
+}
+
+impl<'a> Given<'a> {
+    /// The next part, up to a space.
+    fn part(&mut self) -> &'a str {
+        let (part, rest) = self.rest.split_once(' ').unwrap_or((self.rest, ""));
+        self.rest = rest;
+        part
+    }
+
+    /// A number, decimal or in hex after 0x.
+    pub fn number(&mut self) -> u64 {
+        number_of(self.part())
+    }
+
+    pub fn signed(&mut self) -> i64 {
+        let part = self.part();
+        part.parse().unwrap_or_else(|_| stop("no number", part))
+    }
+
+    pub fn width(&mut self) -> u32 {
+        self.number() as u32
+    }
+
+    /// One of two choices by its name.
+    pub fn choice<T>(&mut self, first: (&str, T), second: (&str, T)) -> T {
+        match self.part() {
+            part if part == first.0 => first.1,
+            part if part == second.0 => second.1,
+            part => stop("no such choice", part),
+        }
+    }
+
+    pub fn room(&mut self) -> usize {
+        if self.part() != "room" {
+            stop("no room", self.rest);
+        }
+        self.number() as usize
+    }
+
+    /// The pieces of a row, none where it is `-`.
+    fn pieces(&mut self) -> impl Iterator<Item = &'a str> {
+        let part = self.part();
+        let row = if part == "-" { None } else { Some(part.split(',')) };
+        row.into_iter().flatten()
+    }
+
+    pub fn words(&mut self) -> Vec<u64> {
+        self.pieces().map(number_of).collect()
+    }
+
+    /// The bytes of a block: pieces of hex digits, each piece perhaps repeated, as 5410,00*3 for 5410000000.
+    pub fn bytes(&mut self) -> Vec<u8> {
+        let mut bytes = Vec::new();
+        for piece in self.pieces() {
+            let (digits, times) = piece.split_once('*').unwrap_or((piece, "1"));
+            if digits.len() % 2 != 0 {
+                stop("half a byte", piece);
+            }
+            let byte = |at: usize| u8::from_str_radix(&digits[at..at + 2], 16).unwrap_or_else(|_| stop("no byte", piece));
+            let start = bytes.len();
+            bytes.extend((0..digits.len()).step_by(2).map(byte));
+            for _ in 1..number_of(times) {
+                bytes.extend_from_within(start..start + digits.len() / 2);
+            }
+        }
+        bytes
+    }
+}
+
+/// Puts the text of an answer, or of its refusal.
+pub fn put<T>(to: &mut String, answer: Result<T, Refusal>, text: impl FnOnce(&mut String, T) -> std::fmt::Result) {
+    match answer {
+        Ok(answer) => text(to, answer),
+        Err(refusal) => write!(to, "refused {}", refusal.number()),
+    }
+    .expect("a text takes all that is put");
+}
+
+pub fn put_words(to: &mut String, words: &[u64]) -> std::fmt::Result {
+    if words.is_empty() {
+        to.push('-');
+    }
+    for (place, word) in words.iter().enumerate() {
+        write!(to, "{}{word:#x}", if place == 0 { "" } else { "," })?;
+    }
+    Ok(())
+}

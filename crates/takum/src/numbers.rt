@@ -1,0 +1,46 @@
+// Whole numbers and binary64 numbers, in and out.
+use crate::handed::HandedNumber;
+use crate::handed::HandedWhole;
+use crate::handed::HandedWord;
+use crate::handed::hand_number;
+use crate::handed::hand_whole;
+use crate::handed::hand_word;
+use crate::rules::rule_of;
+use crate::rules::taking_of;
+use binary64::taking::take_binary64;
+use binary64::writing::write_binary64;
+use whole::taking::take_whole;
+use whole::writing::write_whole;
+use word::width::Width;
+ghost use Rattle.whole.specs.Wholes.{WritesWhole, TakesWhole};
+ghost use Rattle.binary64.specs.Takes.{TakesBinary64};
+ghost use Rattle.binary64.specs.Writes.{WritesBinary64};
+ghost use Rattle.takum.specs.Handed.{HandsOver, wordHanded, wholeHanded, numberHanded, ruleOf, takingOf};
+
+#[no_mangle]
+pub extern "C" fn takum_write_whole(n: u32, strict: bool, x: i64) -> HandedWord
+    ensures { λ r. ⌜ HandsOver wordHanded (WritesWhole n (ruleOf strict) x) r ⌝ }
+{
+    hand_word(write_whole(Width { bits: n }, rule_of(strict), x))
+}
+
+#[no_mangle]
+pub extern "C" fn takum_take_whole(n: u32, strict: bool, word: u64) -> HandedWhole
+    ensures { λ r. ⌜ HandsOver wholeHanded (TakesWhole n (takingOf strict) word) r ⌝ }
+{
+    hand_whole(take_whole(Width { bits: n }, taking_of(strict), word))
+}
+
+#[no_mangle]
+pub extern "C" fn takum_write_binary64(n: u32, strict: bool, x: f64) -> HandedWord
+    ensures { λ r. ⌜ HandsOver wordHanded (WritesBinary64 n (ruleOf strict) x) r ⌝ }
+{
+    hand_word(write_binary64(Width { bits: n }, rule_of(strict), x))
+}
+
+#[no_mangle]
+pub extern "C" fn takum_take_binary64(n: u32, word: u64) -> HandedNumber
+    ensures { λ r. ⌜ HandsOver numberHanded (TakesBinary64 n word) r ⌝ }
+{
+    hand_number(take_binary64(Width { bits: n }, word))
+}

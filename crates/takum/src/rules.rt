@@ -1,0 +1,23 @@
+// The rule of a call, chosen by a flag: a flag has no third value that would have to be refused.
+use whole::taking::Taking;
+use write::value::Rule;
+ghost use mathlib.Core.Path.{_≡_};
+ghost use Rattle.takum.specs.Handed.{ruleOf, takingOf};
+
+pub(crate) fn rule_of(strict: bool) -> Rule
+    ensures { λ r. ⌜ r ≡ ruleOf strict ⌝ }
+{
+    if strict {
+        return Rule::Strict;
+    }
+    Rule::Rounded
+}
+
+pub(crate) fn taking_of(strict: bool) -> Taking
+    ensures { λ r. ⌜ r ≡ takingOf strict ⌝ }
+{
+    if strict {
+        return Taking::Strict;
+    }
+    Taking::Cut
+}

@@ -22,10 +22,10 @@ returns : tie.Need-returns
 returns c = rw (c .before .answer .given .1)
 
 returns-2 : tie.Need-returns-2
-returns-2 c = rw (c .before .before .answer2 .given .1, c .number .ensures)
+returns-2 c = rw (c .before .before .answer2 .given .1, ← c .number .ensures)
 
 returns-3 : tie.Need-returns-3
-returns-3 c = rw (c .before .before .answer3 .given .1, c .number2 .ensures)
+returns-3 c = rw (c .before .before .answer3 .given .1, ← c .number2 .ensures)
 
 pub hand-column-spec : {M : Type 1} → statement M
 hand-column-spec = tie.close (tie.spec enum-known-answer enum-known-answer-2 number-requires enum-known-answer-3 number-requires-2 returns returns-2 returns-3)

@@ -16,7 +16,7 @@ returns : tie.Need-returns
 returns c = rw (c .before .answer .given .1)
 
 returns-2 : tie.Need-returns-2
-returns-2 c = rw (c .before .before .answer2 .given .1, c .number .ensures)
+returns-2 c = rw (c .before .before .answer2 .given .1, ← c .number .ensures)
 
 pub hand-limit-spec : {M : Type 1} → statement M
 hand-limit-spec = tie.close (tie.spec enum-known-answer enum-known-answer-2 number-requires returns returns-2)

@@ -22,7 +22,7 @@ returns-2 : tie.Need-returns-2
 returns-2 c = rw (c .enum-told .given .1)
 
 returns-3 : tie.Need-returns-3
-returns-3 c = rw (c .before .before .answer2 .given .1, c .number .ensures)
+returns-3 c = rw (c .before .before .answer2 .given .1, ← c .number .ensures)
 
 pub hand-number-spec : {M : Type 1} → statement M
 hand-number-spec = tie.close (tie.spec enum-known-answer enum-told enum-known-answer-2 number-requires returns returns-2 returns-3)

@@ -29,7 +29,7 @@ returns-3 : tie.Need-returns-3
 returns-3 c = rw (c .before .answer .given .1, toZ-ofZ (sfits-of (c .known-told .given .1 .0 .1)))
 
 returns-4 : tie.Need-returns-4
-returns-4 c = rw (c .before .before .answer2 .given .1, c .number .ensures)
+returns-4 c = rw (c .before .before .answer2 .given .1, ← c .number .ensures)
 
 pub hand-reading-spec : {M : Type 1} → statement M
 hand-reading-spec = tie.close (tie.spec enum-told enum-told-2 enum-known-answer enum-known-answer-2 number-requires returns returns-2 returns-3 returns-4)

@@ -3,14 +3,15 @@ use crate::handed::HandedBlock;
 use crate::handed::HandedColumn;
 use crate::handed::hand_block;
 use crate::handed::hand_column;
-use crate::rules::rule_of;
 use column::moving::move_column;
 use sheet::block::read_block;
 use word::width::Width;
+use write::value::Rule;
 ghost use lib.ListN.{length};
 ghost use Rattle.sheet.specs.Reads.{ReadsBlock, FillsResults};
 ghost use Rattle.takum.specs.Handed.{HandsOver, MovesTheColumn, columnHanded, blockHanded, ruleOf};
 
+// The flag is asked first, so that each rule's loop is compiled by itself.
 #[no_mangle]
 pub extern "C" fn takum_move_column(
     from: u32,
@@ -21,10 +22,19 @@ pub extern "C" fn takum_move_column(
 ) -> HandedColumn
     ensures { λ r. ⌜ HandsOver columnHanded (MovesTheColumn from to (ruleOf strict) (now (words .entry)) (now (results .entry)) (now (results .exit))) r ⌝ }
 {
+    if strict {
+        return hand_column(move_column(
+            Width { bits: from },
+            Width { bits: to },
+            Rule::Strict,
+            words,
+            results,
+        ));
+    }
     hand_column(move_column(
         Width { bits: from },
         Width { bits: to },
-        rule_of(strict),
+        Rule::Rounded,
         words,
         results,
     ))

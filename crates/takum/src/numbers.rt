@@ -6,9 +6,9 @@ use crate::handed::hand_number;
 use crate::handed::hand_whole;
 use crate::handed::hand_word;
 use crate::rules::rule_of;
-use crate::rules::taking_of;
 use binary64::taking::take_binary64;
 use binary64::writing::write_binary64;
+use whole::taking::Taking;
 use whole::taking::take_whole;
 use whole::writing::write_whole;
 use word::width::Width;
@@ -24,11 +24,15 @@ pub extern "C" fn takum_write_whole(n: u32, strict: bool, x: i64) -> HandedWord
     hand_word(write_whole(Width { bits: n }, rule_of(strict), x))
 }
 
+// The flag is asked first, so that each rule's call is compiled by itself.
 #[no_mangle]
 pub extern "C" fn takum_take_whole(n: u32, strict: bool, word: u64) -> HandedWhole
     ensures { λ r. ⌜ HandsOver wholeHanded (TakesWhole n (takingOf strict) word) r ⌝ }
 {
-    hand_whole(take_whole(Width { bits: n }, taking_of(strict), word))
+    if strict {
+        return hand_whole(take_whole(Width { bits: n }, Taking::Strict, word));
+    }
+    hand_whole(take_whole(Width { bits: n }, Taking::Cut, word))
 }
 
 #[no_mangle]

@@ -1,8 +1,7 @@
 // The rule of a call, chosen by a flag: a flag has no third value that would have to be refused.
-use whole::taking::Taking;
 use write::value::Rule;
 ghost use mathlib.Core.Path.{_≡_};
-ghost use Rattle.takum.specs.Handed.{ruleOf, takingOf};
+ghost use Rattle.takum.specs.Handed.{ruleOf};
 
 pub(crate) fn rule_of(strict: bool) -> Rule
     ensures { λ r. ⌜ r ≡ ruleOf strict ⌝ }
@@ -11,13 +10,4 @@ pub(crate) fn rule_of(strict: bool) -> Rule
         return Rule::Strict;
     }
     Rule::Rounded
-}
-
-pub(crate) fn taking_of(strict: bool) -> Taking
-    ensures { λ r. ⌜ r ≡ takingOf strict ⌝ }
-{
-    if strict {
-        return Taking::Strict;
-    }
-    Taking::Cut
 }

@@ -11,7 +11,7 @@ ghost use lib.ListN.{length};
 ghost use Rattle.sheet.specs.Reads.{ReadsBlock, FillsResults};
 ghost use Rattle.takum.specs.Handed.{HandsOver, MovesTheColumn, columnHanded, blockHanded, ruleOf};
 
-// The flag is asked first, so that each rule's loop is compiled by itself.
+// The flag is asked first, so that each rule has a loop of its own.
 #[no_mangle]
 pub extern "C" fn takum_move_column(
     from: u32,

@@ -2,6 +2,5 @@
 pub mod columns;
 pub mod handed;
 pub mod numbers;
-mod rules;
 pub mod widths;
 pub mod words;

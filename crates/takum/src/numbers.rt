@@ -1,17 +1,17 @@
-// Whole numbers and binary64 numbers, in and out.
+// Whole numbers and binary64 numbers, in and out. A flag is asked first, so that each rule's call is compiled by itself.
 use crate::handed::HandedNumber;
 use crate::handed::HandedWhole;
 use crate::handed::HandedWord;
 use crate::handed::hand_number;
 use crate::handed::hand_whole;
 use crate::handed::hand_word;
-use crate::rules::rule_of;
 use binary64::taking::take_binary64;
 use binary64::writing::write_binary64;
 use whole::taking::Taking;
 use whole::taking::take_whole;
 use whole::writing::write_whole;
 use word::width::Width;
+use write::value::Rule;
 ghost use Rattle.whole.specs.Wholes.{WritesWhole, TakesWhole};
 ghost use Rattle.binary64.specs.Takes.{TakesBinary64};
 ghost use Rattle.binary64.specs.Writes.{WritesBinary64};
@@ -21,10 +21,12 @@ ghost use Rattle.takum.specs.Handed.{HandsOver, wordHanded, wholeHanded,
 pub extern "C" fn takum_write_whole(n: u32, strict: bool, x: i64) -> HandedWord
     ensures { λ r. ⌜ HandsOver wordHanded (WritesWhole n (ruleOf strict) x) r ⌝ }
 {
-    hand_word(write_whole(Width { bits: n }, rule_of(strict), x))
+    if strict {
+        return hand_word(write_whole(Width { bits: n }, Rule::Strict, x));
+    }
+    hand_word(write_whole(Width { bits: n }, Rule::Rounded, x))
 }
 
-// The flag is asked first, so that each rule's call is compiled by itself.
 #[no_mangle]
 pub extern "C" fn takum_take_whole(n: u32, strict: bool, word: u64) -> HandedWhole
     ensures { λ r. ⌜ HandsOver wholeHanded (TakesWhole n (takingOf strict) word) r ⌝ }
@@ -39,7 +41,10 @@ pub extern "C" fn takum_take_whole(n: u32, strict: bool, word: u64) -> HandedWho
 pub extern "C" fn takum_write_binary64(n: u32, strict: bool, x: f64) -> HandedWord
     ensures { λ r. ⌜ HandsOver wordHanded (WritesBinary64 n (ruleOf strict) x) r ⌝ }
 {
-    hand_word(write_binary64(Width { bits: n }, rule_of(strict), x))
+    if strict {
+        return hand_word(write_binary64(Width { bits: n }, Rule::Strict, x));
+    }
+    hand_word(write_binary64(Width { bits: n }, Rule::Rounded, x))
 }
 
 #[no_mangle]

@@ -1,16 +1,17 @@
-// One word: reading, comparing and negating it, writing a value as one, and moving it to another width.
+// One word: reading, comparing and negating it, writing a value as one, and moving it to another width. A flag is asked first, so that each
+// rule's call is compiled by itself.
 use crate::handed::HandedComparison;
 use crate::handed::HandedReading;
 use crate::handed::HandedWord;
 use crate::handed::hand_comparison;
 use crate::handed::hand_reading;
 use crate::handed::hand_word;
-use crate::rules::rule_of;
 use word::order::compare;
 use word::order::negate;
 use word::reading::read;
 use word::width::Width;
 use write::moving::move_word;
+use write::value::Rule;
 use write::value::Value;
 use write::writing::write;
 ghost use Rattle.word.specs.Orders.{Compares, Negates};
@@ -45,17 +46,23 @@ pub extern "C" fn takum_write(n: u32, strict: bool, negative: bool, m: u64, k: i
     ensures { λ r. ⌜ HandsOver wordHanded (Writes n (ruleOf strict) (record { negative = negative; m = m; k = k })) r ⌝ }
 {
     let value = Value { negative, m, k };
-    hand_word(write(Width { bits: n }, rule_of(strict), value))
+    if strict {
+        return hand_word(write(Width { bits: n }, Rule::Strict, value));
+    }
+    hand_word(write(Width { bits: n }, Rule::Rounded, value))
 }
 
 #[no_mangle]
 pub extern "C" fn takum_move(from: u32, to: u32, strict: bool, word: u64) -> HandedWord
     ensures { λ r. ⌜ HandsOver wordHanded (Moves from to (ruleOf strict) word) r ⌝ }
 {
+    if strict {
+        return hand_word(move_word(Width { bits: from }, Width { bits: to }, Rule::Strict, word));
+    }
     hand_word(move_word(
         Width { bits: from },
         Width { bits: to },
-        rule_of(strict),
+        Rule::Rounded,
         word,
     ))
 }

@@ -1,5 +1,5 @@
 -- How an answer is handed over to C and Rust: the refusal's number, 0 where nothing was refused, with the answer beside it, which is all zeros
--- where it was refused. Nothing else is decided here.
+-- where it was refused, but for the position of a column's refused word. Nothing else is decided here.
 use mathlib.Core.Path.{_≡_}
 use mathlib.Core.Bool.{Bool, true, false}
 use mathlib.Core.List.{List}

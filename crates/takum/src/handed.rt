@@ -53,7 +53,7 @@ pub struct HandedNumber {
     pub number: f64,
 }
 
-// The position is that of the word that was refused.
+// The position is that of the word that was refused, where it was for a word.
 #[repr(C)]
 pub struct HandedColumn {
     pub refusal: u32,

@@ -1,5 +1,6 @@
-// Both sides answer the same at every width, the narrow and the refused ones too; asked before anything is timed.
-use crate::calls::{on_block, on_column, Bits, Move, One, Write, MOVE, MOVE_COLUMN, READ_BLOCK, TAKE_BINARY64, TAKE_WHOLE, WRITE, WRITE_BINARY64, WRITE_WHOLE};
+// Both sides hand over the same at every width, the narrow and the refused ones too, and refuse by the same number; asked before anything is timed.
+use crate::calls::{on_block, on_column, Move, One, Write, MOVE, MOVE_COLUMN, READ_BLOCK, TAKE_BINARY64, TAKE_WHOLE, WRITE, WRITE_BINARY64, WRITE_WHOLE};
+use crate::handed::Parts;
 use crate::values::{self, Block, Offer, COUNT};
 
 pub fn agree_everywhere(offers: &[Offer], words: &[u64], wholes: &[i64], floats: &[f64]) {
@@ -23,7 +24,7 @@ fn perhaps_stray(n: u32, word: u64) -> u64 {
 
 fn agree_on_writes(calls: [Write; 3], n: u32, offers: &[Offer]) {
     for o in offers.iter().step_by(16) {
-        let [ours, theirs] = [0, 1].map(|i| unsafe { calls[i](n, o.negative, o.m, o.k) });
+        let [ours, theirs] = [0, 1].map(|i| unsafe { calls[i](n, false, o.negative, o.m, o.k) }.parts());
         if ours != theirs {
             differ(&format!("writing at {}: negative {}, m {:x}, k {}", n, o.negative, o.m, o.k), ours, theirs);
         }
@@ -33,16 +34,16 @@ fn agree_on_writes(calls: [Write; 3], n: u32, offers: &[Offer]) {
 fn agree_on_moves(calls: [Move; 3], from: u32, to: u32, words: &[u64]) {
     for w in words.iter().step_by(512) {
         let word = perhaps_stray(from, *w);
-        let [ours, theirs] = [0, 1].map(|i| unsafe { calls[i](from, to, word) });
+        let [ours, theirs] = [0, 1].map(|i| unsafe { calls[i](from, to, false, word) }.parts());
         if ours != theirs {
             differ(&format!("moving {:x} from {} to {}", word, from, to), ours, theirs);
         }
     }
 }
 
-fn agree_on<'a, T: Bits + 'a, R: Bits>(name: &str, calls: [One<T, R>; 3], n: u32, given: impl Iterator<Item = &'a T>) {
+fn agree_on<'a, T: Parts + 'a, R: Parts>(name: &str, calls: [impl One<T, R>; 3], n: u32, given: impl Iterator<Item = &'a T>) {
     for x in given {
-        let [ours, theirs] = [0, 1].map(|i| unsafe { calls[i](n, *x) }.bits());
+        let [ours, theirs] = [0, 1].map(|i| calls[i].on(n, *x).parts());
         if ours != theirs {
             differ(&format!("{} at {}: bits {:x}", name, n, x.bits()), ours, theirs);
         }
@@ -66,7 +67,7 @@ pub fn agree_on_columns(wide: &[u64], narrow: &[u64]) {
 fn agree_on_column(from: u32, to: u32, words: &[u64], room: usize) {
     let [ours, theirs] = [0, 1].map(|i| {
         let mut results = vec![9; room];
-        (on_column(MOVE_COLUMN[i], from, to, words, &mut results), results)
+        (on_column(MOVE_COLUMN[i], from, to, words, &mut results).parts(), results)
     });
     agree_on_slices(|| format!("column of {} from {} to {}", words.len(), from, to), ours, theirs);
 }
@@ -92,22 +93,23 @@ pub fn agree_on_blocks(blocks: &[Block]) {
 fn agree_on_block(block: &[u8], room: usize) {
     let [ours, theirs] = [0, 1].map(|i| {
         let mut results = vec![9; room];
-        (on_block(READ_BLOCK[i], block, &mut results) as usize, results)
+        (on_block(READ_BLOCK[i], block, &mut results).parts(), results)
     });
     agree_on_slices(|| format!("block {:x?}", block), ours, theirs);
 }
 
-fn agree_on_slices(what: impl Fn() -> String, ours: (usize, Vec<u64>), theirs: (usize, Vec<u64>)) {
+fn agree_on_slices(what: impl Fn() -> String, ours: ([u64; 4], Vec<u64>), theirs: ([u64; 4], Vec<u64>)) {
     if ours.1 != theirs.1 {
         eprintln!("{}: the results differ", what());
         std::process::exit(1);
     }
     if ours.0 != theirs.0 {
-        differ(&what(), ours.0 as u64, theirs.0 as u64);
+        differ(&what(), ours.0, theirs.0);
     }
 }
 
-fn differ(what: &str, ours: u64, theirs: u64) -> ! {
-    eprintln!("{}: library {:x}, plain {:x}", what, ours, theirs);
+// The refusal's number comes first.
+fn differ(what: &str, ours: [u64; 4], theirs: [u64; 4]) -> ! {
+    eprintln!("{}: library {:x?}, plain {:x?}", what, ours, theirs);
     std::process::exit(1);
 }

@@ -1,11 +1,13 @@
 // Times the library against bench/plain.rs in one process; see bench/README.md.
 mod agreement;
 mod calls;
+mod handed;
 mod plain;
 mod timing;
 mod values;
 
-use calls::{on_block, on_column, Bits, One, MOVE, MOVE_COLUMN, READ_BLOCK, TAKE_BINARY64, TAKE_WHOLE, WRITE, WRITE_BINARY64, WRITE_WHOLE};
+use calls::{on_block, on_column, One, MOVE, MOVE_COLUMN, READ_BLOCK, TAKE_BINARY64, TAKE_WHOLE, WRITE, WRITE_BINARY64, WRITE_WHOLE};
+use handed::Parts;
 use timing::compare;
 use values::{Block, BLOCKS, COUNT};
 
@@ -21,8 +23,8 @@ fn sum(answers: impl Iterator<Item = u64>) -> u64 {
     answers.fold(0u64, |sum, answer| (sum.rotate_left(5) ^ answer).wrapping_add(answer))
 }
 
-fn compare_one<T: Bits, R: Bits>(name: &str, calls: [One<T, R>; 3], n: u32, given: &[T]) -> bool {
-    let side = |i: usize| { let call = hidden(&calls[i]); move || sum(given.iter().map(|&x| unsafe { call(n, x) }.bits())) };
+fn compare_one<T: Copy, R: Parts>(name: &str, calls: [impl One<T, R>; 3], n: u32, given: &[T]) -> bool {
+    let side = |i: usize| { let call = hidden(&calls[i]); move || sum(given.iter().map(|&x| call.on(n, x).bits())) };
     compare(&format!("{} {}", name, n), COUNT, [&mut side(0), &mut side(1), &mut side(2)])
 }
 
@@ -30,7 +32,7 @@ fn compare_one<T: Bits, R: Bits>(name: &str, calls: [One<T, R>; 3], n: u32, give
 fn compare_columns(from: u32, to: u32, words: &[u64]) -> bool {
     let side = |i: usize| {
         let (call, mut results) = (hidden(&MOVE_COLUMN[i]), vec![0; COUNT]);
-        move || on_column(call, from, to, words, &mut results) as u64 ^ results[COUNT - 1]
+        move || on_column(call, from, to, words, &mut results).bits() ^ results[COUNT - 1]
     };
     compare(&format!("column {} to {}", from, to), COUNT, [&mut side(0), &mut side(1), &mut side(2)])
 }
@@ -38,7 +40,7 @@ fn compare_columns(from: u32, to: u32, words: &[u64]) -> bool {
 fn compare_blocks(blocks: &[Block]) -> bool {
     let side = |i: usize| {
         let (call, mut results) = (hidden(&READ_BLOCK[i]), vec![0; 496]);
-        move || sum(blocks.iter().map(|block| on_block(call, block, &mut results) as u64 ^ results[0]))
+        move || sum(blocks.iter().map(|block| on_block(call, block, &mut results).bits() ^ results[0]))
     };
     compare("blocks", BLOCKS, [&mut side(0), &mut side(1), &mut side(2)])
 }
@@ -56,11 +58,11 @@ fn main() {
 
     let mut within = true;
     for n in [16, 64] {
-        let side = |i: usize| { let (call, offers) = (hidden(&WRITE[i]), &offers); move || sum(offers.iter().map(|o| unsafe { call(n, o.negative, o.m, o.k) })) };
+        let side = |i: usize| { let (call, offers) = (hidden(&WRITE[i]), &offers); move || sum(offers.iter().map(|o| unsafe { call(n, false, o.negative, o.m, o.k) }.bits())) };
         within &= compare(&format!("writing at {}", n), COUNT, [&mut side(0), &mut side(1), &mut side(2)]);
     }
     for (from, to, words) in [(64, 16, &wide), (16, 64, &narrow)] {
-        let side = |i: usize| { let call = hidden(&MOVE[i]); move || sum(words.iter().map(|&w| unsafe { call(from, to, w) })) };
+        let side = |i: usize| { let call = hidden(&MOVE[i]); move || sum(words.iter().map(|&w| unsafe { call(from, to, false, w) }.bits())) };
         within &= compare(&format!("moving {} to {}", from, to), COUNT, [&mut side(0), &mut side(1), &mut side(2)]);
     }
     for n in [16, 64] {

@@ -1,0 +1,160 @@
+// What both sides hand over: the structs of crates/takum/src/handed.rt, and the plain version's answers as such.
+use crate::plain::block::Header;
+
+#[repr(C)]
+#[derive(Clone, Copy)]
+pub struct HandedWord {
+    pub refusal: u32,
+    pub word: u64,
+}
+
+#[repr(C)]
+#[derive(Clone, Copy)]
+pub struct HandedWhole {
+    pub refusal: u32,
+    pub whole: i64,
+}
+
+#[repr(C)]
+#[derive(Clone, Copy)]
+pub struct HandedNumber {
+    pub refusal: u32,
+    pub real: bool,
+    pub number: f64,
+}
+
+#[repr(C)]
+#[derive(Clone, Copy)]
+pub struct HandedColumn {
+    pub refusal: u32,
+    pub position: usize,
+    pub moved: usize,
+}
+
+#[repr(C)]
+#[derive(Clone, Copy)]
+pub struct HandedBlock {
+    pub refusal: u32,
+    pub width: u32,
+    pub number: u32,
+    pub count: u32,
+}
+
+impl From<Result<u64, u32>> for HandedWord {
+    #[inline(always)]
+    fn from(answer: Result<u64, u32>) -> Self {
+        match answer {
+            Ok(word) => HandedWord { refusal: 0, word },
+            Err(refusal) => HandedWord { refusal, word: 0 },
+        }
+    }
+}
+
+impl From<Result<i64, u32>> for HandedWhole {
+    #[inline(always)]
+    fn from(answer: Result<i64, u32>) -> Self {
+        match answer {
+            Ok(whole) => HandedWhole { refusal: 0, whole },
+            Err(refusal) => HandedWhole { refusal, whole: 0 },
+        }
+    }
+}
+
+impl From<Result<Option<f64>, u32>> for HandedNumber {
+    #[inline(always)]
+    fn from(answer: Result<Option<f64>, u32>) -> Self {
+        match answer {
+            Ok(Some(number)) => HandedNumber { refusal: 0, real: true, number },
+            Ok(None) => HandedNumber { refusal: 0, real: false, number: 0.0 },
+            Err(refusal) => HandedNumber { refusal, real: false, number: 0.0 },
+        }
+    }
+}
+
+impl From<Result<usize, (u32, Option<usize>)>> for HandedColumn {
+    #[inline(always)]
+    fn from(answer: Result<usize, (u32, Option<usize>)>) -> Self {
+        match answer {
+            Ok(moved) => HandedColumn { refusal: 0, position: 0, moved },
+            Err((refusal, position)) => HandedColumn { refusal, position: position.unwrap_or(0), moved: 0 },
+        }
+    }
+}
+
+impl From<Result<Header, u32>> for HandedBlock {
+    #[inline(always)]
+    fn from(answer: Result<Header, u32>) -> Self {
+        match answer {
+            Ok(header) => HandedBlock { refusal: 0, width: header.width, number: header.number, count: header.count as u32 },
+            Err(refusal) => HandedBlock { refusal, width: 0, number: 0, count: 0 },
+        }
+    }
+}
+
+// What is given and what is handed over, as rows of numbers, so that all can be compared and printed alike.
+pub trait Parts: Copy {
+    fn parts(self) -> [u64; 4];
+
+    // In one number, for the checksums of the timed rounds.
+    #[inline(always)]
+    fn bits(self) -> u64 {
+        let [a, b, c, d] = self.parts();
+        a.rotate_left(48) ^ b ^ c.rotate_left(16) ^ d.rotate_left(32)
+    }
+}
+
+impl Parts for u64 {
+    #[inline(always)]
+    fn parts(self) -> [u64; 4] {
+        [0, self, 0, 0]
+    }
+}
+
+impl Parts for i64 {
+    #[inline(always)]
+    fn parts(self) -> [u64; 4] {
+        [0, self as u64, 0, 0]
+    }
+}
+
+impl Parts for f64 {
+    #[inline(always)]
+    fn parts(self) -> [u64; 4] {
+        [0, self.to_bits(), 0, 0]
+    }
+}
+
+impl Parts for HandedWord {
+    #[inline(always)]
+    fn parts(self) -> [u64; 4] {
+        [self.refusal as u64, self.word, 0, 0]
+    }
+}
+
+impl Parts for HandedWhole {
+    #[inline(always)]
+    fn parts(self) -> [u64; 4] {
+        [self.refusal as u64, self.whole as u64, 0, 0]
+    }
+}
+
+impl Parts for HandedNumber {
+    #[inline(always)]
+    fn parts(self) -> [u64; 4] {
+        [self.refusal as u64, self.number.to_bits(), self.real as u64, 0]
+    }
+}
+
+impl Parts for HandedColumn {
+    #[inline(always)]
+    fn parts(self) -> [u64; 4] {
+        [self.refusal as u64, self.position as u64, self.moved as u64, 0]
+    }
+}
+
+impl Parts for HandedBlock {
+    #[inline(always)]
+    fn parts(self) -> [u64; 4] {
+        [self.refusal as u64, self.width as u64, self.number as u64, self.count as u64]
+    }
+}

@@ -1,0 +1,6 @@
+// The face for C and Rust: every public call of the base, its answer handed over as plain numbers. There is no rule in here.
+pub mod columns;
+pub mod handed;
+pub mod numbers;
+pub mod widths;
+pub mod words;

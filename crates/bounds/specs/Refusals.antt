@@ -35,6 +35,10 @@ widthTest n = cond (leb 2 n && leb n 64) Through (Refused Width)
 unfoldable pub strayTest : ℕ → ℕ → Verdict
 strayTest n w = cond (ltb w (2 ^ n)) Through (Refused Stray)
 
+-- the two in the paper's order
+abbrev pub wordTest : ℕ → ℕ → Verdict
+wordTest n w = widthTest n then strayTest n w
+
 -- What both tests let through: a word w of the width n.
 pub record IsWord (n w : ℕ) : Type 0 where
   pub least : 2 ≤ n

@@ -69,7 +69,7 @@ rounded-column-moves n n' words room a h h' fits inside x = by a (answered (pass
     by (Column.Moved count) y = ap Column.Moved (y .0)
     by (Column.Refused q) y = absurd y
     by (Column.RefusedAt position q) y =
-        let movable = rounded-movable n n' (getD words position 0) h h' (stray-fits n (getD words position 0) (inside position (y .inside))) in
+        let movable = rounded-movable n n' (getD words position 0) h' (rw h (stray-fits n (getD words position 0) (inside position (y .inside)))) in
         absurd (not-refused n n' (getD words position 0) Rule.Rounded (Answer.Refused q) (y .is) q movable refl)
 
 -- ---- a column that was moved

@@ -9,7 +9,7 @@ use Rattle.bounds.specs.declared.refusal.Refusal.{Refusal}
 use Rattle.bounds.specs.declared.refusal.Verdict.{Verdict}
 use Rattle.word.specs.Takum.{Takum, real, NaR, takum}
 use Rattle.word.specs.Reads.{signedSize}
-use Rattle.bounds.specs.Refusals.{widthTest, strayTest, _then_, Decided}
+use Rattle.bounds.specs.Refusals.{widthTest, wordTest, _then_, Decided}
 use Rattle.write.specs.declared.value.Rule.{Rule}
 use Rattle.write.specs.Writes.{IsWritten, isNegative}
 use Rattle.whole.specs.declared.taking.Taking.{Taking}
@@ -43,4 +43,4 @@ WritesWhole n rule x r = Decided (widthTest n) (λ q. r ≡ Answer.Refused q) (I
 
 -- WIDTH, then STRAY, then NAR, OVER and INEXACT
 unfoldable pub TakesWhole : ℕ → Taking → ℕ → Whole → Type 0
-TakesWhole n rule w a = Decided (widthTest n then strayTest n w) (λ q. a ≡ Whole.Refused q) (IsTaken rule (takum n w) a)
+TakesWhole n rule w a = Decided (wordTest n w) (λ q. a ≡ Whole.Refused q) (IsTaken rule (takum n w) a)

@@ -1,4 +1,4 @@
--- The block that paper 01 gives as a case is read, with the A and B that it gives; and the room for words of each width. Assumes nothing.
+-- The block that paper 01 gives as a case is read, with the A and B that it gives. Assumes nothing.
 use mathlib.Core.Path.{_≡_, refl}
 use mathlib.Core.List.{List, [], _∷_, _++_}
 use Prim.Native.Nat.{ℕ}

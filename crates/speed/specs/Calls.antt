@@ -8,7 +8,6 @@ use lib.Ieee.{Float, binary64, ofBits}
 use lib.ListN.{length}
 use Rattle.bounds.specs.declared.answer.Answer.{Answer}
 use Rattle.write.specs.declared.value.Rule.{Rule}
-use Rattle.write.specs.declared.value.Value.{Value}
 use Rattle.write.specs.Writes.{Writes, Moves}
 use Rattle.whole.specs.declared.taking.Taking.{Taking}
 use Rattle.whole.specs.declared.taking.Whole.{Whole}

@@ -1,7 +1,7 @@
 -- With the other sign, the word of the same place: nearest and exact go over. A word with exactly the value is the nearest. Assumes nothing.
 use mathlib.Core.Path.{_≡_, refl, sym, ap, _∙_, subst}
 use mathlib.Core.Bool.{Bool, true, false, cond}
-use mathlib.Core.Logic.{_⊎_, inl, ⊎-elim}
+use mathlib.Core.Logic.{inl, ⊎-elim}
 use Prim.Native.Nat.{ℕ, zero, suc, _+_, _-_, _*_, _^_, _≤_, _<_, zero-le}
 use native.Mathlib.Nat.{le-of-eq, le-trans, sub-self, eq-of-mul-eq-mul-right, eq-or-lt-of-le, zero-mul}
 use native.Mathlib.Omega.{arith}
@@ -15,11 +15,11 @@ use Rattle.word.specs.Sizes.{withoutSign}
 use lib.Pow.{pow-pos}
 use Rattle.bounds.proofs.Powers.{pow-sum}
 use Rattle.word.proofs.Signed.{negated-other}
-use Rattle.word.proofs.Values.{grown, words-differ}
+use Rattle.word.proofs.Values.{words-differ}
 use Rattle.write.specs.Writes.{HasValue, distance, Nearest, IsExact}
 use Rattle.write.specs.Offers.{withSign}
 use Rattle.write.proofs.Nearest.{distance-below, distance-above, either-side}
-use Rattle.write.proofs.Places.{twice, wordOf, Place, has-value, value-is, place-of, to-word, from-word, nearest-one}
+use Rattle.write.proofs.Places.{twice, wordOf, has-value, value-is, to-word, from-word}
 
 -- the distance is nothing only from the number itself
 no-distance : (a x : ℕ) → distance a x ≡ 0 → x ≡ a

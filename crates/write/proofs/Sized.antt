@@ -16,7 +16,7 @@ use Rattle.word.specs.Takum.{takum, real, p, F, c}
 use Rattle.bounds.proofs.Powers.{pow-sum}
 use Rattle.word.proofs.Values.{real-inj, absolute}
 use Rattle.write.specs.Writes.{HasValue}
-use Rattle.write.proofs.Places.{twice, wordOf, Place, place-of}
+use Rattle.write.proofs.Places.{twice, wordOf, place-of}
 use Rattle.write.proofs.Signs.{unsigned-word, unsigned-value}
 use Rattle.write.proofs.Tops.{significand, has-size}
 

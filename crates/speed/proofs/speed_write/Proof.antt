@@ -1,6 +1,6 @@
 -- `speed_write` meets its contract: the exponent goes through a field of 32 bits unchanged. Assumes nothing.
 use mathlib.Core.Path.{subst}
-use borrow.Author.Needs.{needs, sfits-of}
+use borrow.Author.Needs.{needs}
 use lib.IntN.{ℤ}
 use mir.Facts.{toZ-ofZ}
 use Rattle.write.specs.declared.value.Rule.{Rule}

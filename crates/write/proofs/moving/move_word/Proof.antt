@@ -12,7 +12,7 @@ use mir.Val.{SFits, toZ, ofZ}
 use Rattle.bounds.specs.declared.answer.Answer.{Answer}
 use Rattle.bounds.specs.declared.refusal.Verdict.{Verdict}
 use Rattle.bounds.specs.Refusals.{widthTest, strayTest, _then_, IsWord, through, refused}
-use Rattle.word.specs.Takum.{Takum, real, NaR, takum}
+use Rattle.word.specs.Takum.{Takum, real, takum}
 use Rattle.word.specs.Reads.{IsSize, signedSize}
 use Rattle.bounds.specs.Widths.{GivesWord}
 use Rattle.bounds.proofs.Verdicts.{once, told-three, move-through, width-through, answered}

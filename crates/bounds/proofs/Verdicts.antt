@@ -1,12 +1,12 @@
 -- When the tests of a width and of a word refuse, and what a contract says then. Assumes nothing.
 use mathlib.Core.Path.{_≡_, refl, sym, ap₂, _∙_, subst}
-use mathlib.Core.Bool.{Bool, true, false, cond, _&&_, false≢true}
+use mathlib.Core.Bool.{Bool, true, false, _&&_, false≢true}
 use Prim.Native.Nat.{ℕ, _^_, _≤_, _<_}
 use lib.Dec.{leb, ltb}
 use borrow.Author.Tests.{le-leb, lt-leb, lt-ltb, le-ltb, leb-true, ltb-true}
 use Rattle.bounds.specs.declared.refusal.Refusal.{Refusal}
 use Rattle.bounds.specs.declared.refusal.Verdict.{Verdict}
-use Rattle.bounds.specs.Refusals.{widthTest, strayTest, wordTest, _then_, IsWord, Decided, through, refused}
+use Rattle.bounds.specs.Refusals.{unless, widthTest, strayTest, wordTest, _then_, IsWord, Decided, through, refused}
 
 pub width-fits : (n : ℕ) → 2 ≤ n → n ≤ 64 → widthTest n ≡ Verdict.Through
 unfolding widthTest
@@ -33,7 +33,7 @@ refuses : Verdict → Type 0
 refuses Verdict.Through = ⊥
 refuses (Verdict.Refused q) = Unit {0}
 
-pub open-when : (b : Bool) (q : Refusal) → cond b Verdict.Through (Verdict.Refused q) ≡ Verdict.Through → b ≡ true
+pub open-when : (b : Bool) (q : Refusal) → unless q b ≡ Verdict.Through → b ≡ true
 unfolding refuses
 open-when true q h = refl
 open-when false q h = absurd (subst refuses h tt)

@@ -7,13 +7,13 @@ use lib.ListN.{length, getD}
 use Rattle.bounds.specs.declared.answer.Answer.{Answer}
 use Rattle.bounds.specs.declared.refusal.Refusal.{Refusal}
 use Rattle.bounds.specs.declared.refusal.Verdict.{Verdict}
-use Rattle.bounds.specs.Refusals.{widthTest, _then_, through, refused}
+use Rattle.bounds.specs.Refusals.{widthTest, _then_, through, refused, roomTest}
 use Rattle.bounds.proofs.Verdicts.{stray-fits, then-through, answered, refused-as}
 use Rattle.write.specs.declared.value.Rule.{Rule}
 use Rattle.write.specs.Writes.{Moves}
 use Rattle.write.proofs.OneOutcome.{moves-one}
 use Rattle.column.specs.declared.moving.Column.{Column}
-use Rattle.column.specs.Columns.{roomTest, MovableUpTo, FirstRefusal, IsTried, MovesColumn, Holds}
+use Rattle.column.specs.Columns.{MovableUpTo, FirstRefusal, IsTried, MovesColumn, Holds}
 use Rattle.column.proofs.Rooms.{room-fits, room-short, room-through}
 use Rattle.column.proofs.Trials.{rounded-movable, not-refused}
 

@@ -12,14 +12,14 @@ use Rattle.bounds.specs.declared.refusal.Refusal.{Refusal}
 use Rattle.word.specs.Takum.{Takum}
 use Rattle.word.specs.Reads.{signedSize}
 use Rattle.bounds.proofs.Powers.{pow-sum}
-use Rattle.word.proofs.Values.{absolute}
+use Rattle.word.proofs.Values.{absolute, no-sign}
 use Rattle.whole.specs.declared.taking.Taking.{Taking}
 use Rattle.whole.specs.declared.taking.Whole.{Whole}
 use Rattle.whole.specs.Wholes.{IsWholePart, IsTaken}
 use Rattle.whole.specs.Parts.{greatestSize, byRule, TakesSize}
 use Rattle.whole.proofs.Amounts.{amount, under-one}
 use Rattle.whole.proofs.Fractions.{not-above, next-above, nothing-lost}
-use Rattle.whole.proofs.WholeParts.{no-sign, whole-part}
+use Rattle.whole.proofs.WholeParts.{whole-part}
 use Rattle.whole.proofs.Answers.{inside, outside, taken-inside, taken-over}
 
 -- what is left of a significand without its fraction

@@ -15,14 +15,13 @@ use Rattle.bounds.specs.Refusals.{IsWord}
 use Rattle.word.specs.Takum.{real, p, N, takum, fractionBits}
 use Rattle.word.specs.Reads.{signedSize}
 use Rattle.bounds.proofs.Powers.{pow-sum, shl-below}
-use Rattle.word.proofs.Readings.{exponent-small}
+use Rattle.word.proofs.Readings.{Holds, holds}
 use Rattle.word.proofs.Values.{real-inj, not-NaR}
 use Rattle.word.proofs.Words.{Lies, at-zero, above, at-NaR, under, lies, takum-zero, takum-NaR}
 use Rattle.write.specs.Writes.{isNegative}
 use Rattle.binary64.specs.declared.taking.Binary64.{Binary64}
 use Rattle.binary64.specs.Takes.{TakesBinary64}
 use Rattle.binary64.proofs.Values.{value-same}
-use Rattle.binary64.proofs.Numbers.{Holds, holds}
 use Rattle.binary64.proofs.Scaling.{scaled}
 use Rattle.binary64.proofs.Taken.{taken}
 use Rattle.binary64.proofs.Raised.{raise, same-size, number-sign}
@@ -49,7 +48,7 @@ few-bits n w narrow = omega arith
 module _ (n w : ℕ) (i : IsWord n w) (narrow : n ≤ 57) where
   number-exact : (x : Holds n w) → HasValue (round binary64 (x .sign) (x .number .v) (2 ^ 307)) (x .sign) (x .number .v) (2 ^ 307)
   number-exact x =
-      let up = raise (x .h) (exponent-small n w i (x .number)) in
+      let up = raise (x .h) (x .small) in
       let few = few-bits n w narrow in
       let j = up .0 - fractionBits n w in
       let back : j + fractionBits n w ≡ up .0 = omega (arith, few, up .2) in

@@ -5,7 +5,6 @@ pub mod Exactness
 pub mod Fractions
 pub mod Held
 pub mod Negation
-pub mod Numbers
 pub mod OneOutcome
 pub mod Order
 pub mod Patterns

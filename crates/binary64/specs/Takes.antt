@@ -3,7 +3,7 @@ use mathlib.Core.Path.{_≡_}
 use Prim.Native.Nat.{ℕ, _^_}
 use lib.IntN.{natAbs}
 use lib.Ieee.{binary64, round}
-use Rattle.bounds.specs.Refusals.{widthTest, strayTest, _then_, Decided}
+use Rattle.bounds.specs.Refusals.{wordTest, Decided}
 use Rattle.word.specs.Takum.{Takum, real, NaR, takum}
 use Rattle.write.specs.Writes.{isNegative}
 use Rattle.binary64.specs.declared.taking.Binary64.{Binary64}
@@ -17,4 +17,4 @@ IsTaken NaR a = a ≡ Binary64.NotReal
 -- ---- what the call answers
 -- WIDTH, then STRAY
 unfoldable pub TakesBinary64 : ℕ → ℕ → Binary64 → Type 0
-TakesBinary64 n w a = Decided (widthTest n then strayTest n w) (λ q. a ≡ Binary64.Refused q) (IsTaken (takum n w) a)
+TakesBinary64 n w a = Decided (wordTest n w) (λ q. a ≡ Binary64.Refused q) (IsTaken (takum n w) a)

@@ -20,7 +20,7 @@ pub enum Binary64 {
 pub fn take_binary64(width: Width, word: u64) -> Binary64
     ensures { λ a. ⌜ TakesBinary64 (width .bits) word a ⌝ }
 {
-    let verdict = width.test().then(width.test_word(word));
+    let verdict = width.test_word(word);
     if let Verdict::Refused(q) = verdict {
         return Binary64::Refused(q);
     }

@@ -14,6 +14,10 @@ not-more f = le-of-suc-le-suc (lt-of-not-le f)
 pub pow-sum : (a b c : ℕ) → a + b ≡ c → 2 ^ a * 2 ^ b ≡ 2 ^ c
 pow-sum a b c h = sym (pow-add 2 a b) ∙ ap (λ (x : ℕ). 2 ^ x) h
 
+-- NaR's word twice
+pub twice : (n : ℕ) → 2 ≤ n → 2 ^ (n - 1) * 2 ≡ 2 ^ n
+twice n lo = pow-sum (n - 1) 1 n (omega (arith, lo))
+
 pub shl-below : {x : ℕ} (a b c : ℕ) → x < 2 ^ a → a + b ≡ c → x * 2 ^ b < 2 ^ c
 shl-below {x} a b c h q = subst (λ (n : ℕ). x * 2 ^ b < 2 ^ n) q (shl-lt a b h)
 

@@ -1,12 +1,12 @@
 -- When the tests of a width and of a word refuse, and what a contract says then. Assumes nothing.
 use mathlib.Core.Path.{_≡_, refl, sym, ap₂, _∙_, subst}
-use mathlib.Core.Bool.{Bool, true, false, cond, _&&_, false≢true}
+use mathlib.Core.Bool.{Bool, true, false, _&&_, false≢true}
 use Prim.Native.Nat.{ℕ, _^_, _≤_, _<_}
 use lib.Dec.{leb, ltb}
 use borrow.Author.Tests.{le-leb, lt-leb, lt-ltb, le-ltb, leb-true, ltb-true}
 use Rattle.bounds.specs.declared.refusal.Refusal.{Refusal}
 use Rattle.bounds.specs.declared.refusal.Verdict.{Verdict}
-use Rattle.bounds.specs.Refusals.{widthTest, strayTest, _then_, IsWord, Decided, through, refused}
+use Rattle.bounds.specs.Refusals.{unless, widthTest, strayTest, wordTest, _then_, IsWord, Decided, through, refused}
 
 pub width-fits : (n : ℕ) → 2 ≤ n → n ≤ 64 → widthTest n ≡ Verdict.Through
 unfolding widthTest
@@ -33,7 +33,7 @@ refuses : Verdict → Type 0
 refuses Verdict.Through = ⊥
 refuses (Verdict.Refused q) = Unit {0}
 
-pub open-when : (b : Bool) (q : Refusal) → cond b Verdict.Through (Verdict.Refused q) ≡ Verdict.Through → b ≡ true
+pub open-when : (b : Bool) (q : Refusal) → unless q b ≡ Verdict.Through → b ≡ true
 unfolding refuses
 open-when true q h = refl
 open-when false q h = absurd (subst refuses h tt)
@@ -53,19 +53,24 @@ width-through n h = (leb-true 2 n (t .0), leb-true n 64 (t .1))
     t : (leb 2 n ≡ true) × (leb n 64 ≡ true)
     t = both (leb 2 n) (leb n 64) (open-when (leb 2 n && leb n 64) Refusal.Width h)
 
--- the verdict v of a call that made the tests in their order
-pub told-word : (n w : ℕ) {a b v u : Verdict} → a ≡ widthTest n → b ≡ strayTest n w → v ≡ (a then b) → v ≡ u → widthTest n then strayTest n w ≡ u
-told-word n w ha hb hv hu = sym (hv ∙ ap₂ (λ (x y : Verdict). x then y) ha hb) ∙ hu
+-- a test that is made again changes nothing
+pub once : (a b c : Verdict) → a then b then (a then c) ≡ a then b then c
+once Verdict.Through b c = refl
+once (Verdict.Refused q) b c = refl
+
+-- the verdict v of a call that made two tests in their order, and of one that made three
+pub told-two : {a a' b b' v u : Verdict} → a ≡ a' → b ≡ b' → v ≡ (a then b) → v ≡ u → a' then b' ≡ u
+told-two ha hb hv hu = sym (hv ∙ ap₂ (λ (p q : Verdict). p then q) ha hb) ∙ hu
 
 pub told-three : {a a' b b' c c' v v' u : Verdict} → a ≡ a' → b ≡ b' → v ≡ (a then b) → c ≡ c' → v' ≡ (v then c) → v' ≡ u → a' then b' then c' ≡ u
-told-three ha hb hv hc hv' hu = sym (hv' ∙ ap₂ (λ (p q : Verdict). p then q) (hv ∙ ap₂ (λ (p q : Verdict). p then q) ha hb) hc) ∙ hu
+told-three ha hb hv hc hv' hu = told-two (sym (told-two ha hb refl (sym hv))) hc hv' hu
 
 pub then-through : (a b : Verdict) → a then b ≡ Verdict.Through → (a ≡ Verdict.Through) × (b ≡ Verdict.Through)
 unfolding refuses
 then-through Verdict.Through b h = (refl, h)
 then-through (Verdict.Refused q) b h = absurd (subst refuses h tt)
 
-pub word-through : (n w : ℕ) → widthTest n then strayTest n w ≡ Verdict.Through → IsWord n w
+pub word-through : (n w : ℕ) → wordTest n w ≡ Verdict.Through → IsWord n w
 word-through n w h = record { least = width-through n (t .0) .0; most = width-through n (t .0) .1; fits = stray-through n w (t .1) }
   where
     t : (widthTest n ≡ Verdict.Through) × (strayTest n w ≡ Verdict.Through)
@@ -90,7 +95,7 @@ move-through n n' w h = (record { least = width-through n (u .0) .0; most = widt
     u = then-through (widthTest n) (widthTest n') (t .0)
 
 -- and the other way round
-pub word-passes : (n w : ℕ) → IsWord n w → widthTest n then strayTest n w ≡ Verdict.Through
+pub word-passes : (n w : ℕ) → IsWord n w → wordTest n w ≡ Verdict.Through
 word-passes n w i = rw (width-fits n (i .least) (i .most)) (stray-fits n w (i .fits))
 
 pub words-pass : (n x y : ℕ) → IsWord n x → IsWord n y → widthTest n then strayTest n x then strayTest n y ≡ Verdict.Through

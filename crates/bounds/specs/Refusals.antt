@@ -1,6 +1,6 @@
 -- When a call is refused: the refusal numbers of paper 01 as one table, and the tests that come first in the paper's order.
 use mathlib.Core.Path.{_≡_}
-use mathlib.Core.Bool.{cond, _&&_}
+use mathlib.Core.Bool.{Bool, cond, _&&_}
 use Prim.Native.Nat.{ℕ, _^_, _≤_, _<_}
 use lib.Dec.{leb, ltb}
 use Rattle.bounds.specs.declared.refusal.Refusal.{Refusal}
@@ -27,15 +27,27 @@ abbrev pub _then_ : Verdict → Verdict → Verdict
 Through then v = v
 Refused q then v = Refused q
 
+-- a test that lets through what it holds of
+abbrev pub unless : Refusal → Bool → Verdict
+unless q holds = cond holds Through (Refused q)
+
 -- 1 WIDTH: a width isn't 2 to 64
 unfoldable pub widthTest : ℕ → Verdict
-widthTest n = cond (leb 2 n && leb n 64) Through (Refused Width)
+widthTest n = unless Width (leb 2 n && leb n 64)
 
 -- 2 STRAY: a word has a bit set at or above its width
 unfoldable pub strayTest : ℕ → ℕ → Verdict
-strayTest n w = cond (ltb w (2 ^ n)) Through (Refused Stray)
+strayTest n w = unless Stray (ltb w (2 ^ n))
 
--- What both tests let through: a word w of the width n.
+-- the two in the paper's order
+abbrev pub wordTest : ℕ → ℕ → Verdict
+wordTest n w = widthTest n then strayTest n w
+
+-- 6 ROOM: a result slice has fewer places than there are words to write
+unfoldable pub roomTest : ℕ → ℕ → Verdict
+roomTest count places = unless Room (leb count places)
+
+-- What both tests of a word let through: a word w of the width n.
 pub record IsWord (n w : ℕ) : Type 0 where
   pub least : 2 ≤ n
   pub most : n ≤ 64

@@ -3,10 +3,10 @@ use crate::answer::Answer;
 use crate::refusal::Refusal;
 use crate::refusal::Verdict;
 ghost use mathlib.Core.Path.{_≡_};
-ghost use Rattle.bounds.specs.Refusals.{widthTest, strayTest};
+ghost use Rattle.bounds.specs.Refusals.{widthTest, strayTest, wordTest};
 ghost use Rattle.bounds.specs.Widths.{Greatest, largest, smallest, narWord, Makes, GivesWord, GivesLimit};
 
-// Anybody can make one of any number, so every call on a width tests it.
+// Anybody can make one of any number, so every public call on a width tests it.
 pub struct Width {
     pub bits: u32,
 }
@@ -40,8 +40,15 @@ impl Width {
         Verdict::Through
     }
 
-    // Refuses a word that has a bit at or above the width.
+    // Refuses what isn't a word of the width: the width is tested first, then the word.
     pub fn test_word(self, word: u64) -> Verdict
+        ensures { λ r. ⌜ r ≡ wordTest (self .bits) word ⌝ }
+    {
+        self.test().then(self.test_bits(word))
+    }
+
+    // Refuses a word that has a bit at or above the width.
+    fn test_bits(self, word: u64) -> Verdict
         ensures { λ r. ⌜ r ≡ strayTest (self .bits) word ⌝ }
     {
         let n = self.bits;

@@ -5,7 +5,7 @@ use Prim.Native.Nat.{ℕ, _≤_, _<_}
 use native.Mathlib.Decide.{decLt}
 use native.Mathlib.Nat.{le-antisymm}
 use native.Mathlib.Omega.{arith}
-use lib.ListN.{length, getD}
+use lib.ListN.{getD}
 use lib.Seq.{ext-getD}
 use Rattle.bounds.specs.declared.answer.Answer.{Answer}
 use Rattle.bounds.specs.declared.refusal.Refusal.{Refusal}
@@ -65,10 +65,3 @@ module _ (n n' : ℕ) (rule : Rule) (words : List ℕ) where
   holds-one before (Column.Moved count) after after' x y = are-moved-one count before after after' x y
   holds-one before (Column.Refused q) after after' x y = x ∙ sym y
   holds-one before (Column.RefusedAt position q) after after' x y = x ∙ sym y
-
-  -- the answer and the content together
-  pub column-outcome-one : (before : List ℕ) (a b : Column) (after after' : List ℕ) → MovesColumn n n' rule words (length before) a → Holds n n' rule words before a after → MovesColumn n n' rule words (length before) b → Holds n n' rule words before b after' → (a ≡ b) × (after ≡ after')
-  column-outcome-one before a b after after' x h y h' = (same, holds-one before b after after' (subst (λ (a : Column). Holds n n' rule words before a after) same h) h')
-    where
-      same : a ≡ b
-      same = moves-column-one (length before) a b x y

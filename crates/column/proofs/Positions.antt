@@ -7,13 +7,13 @@ use lib.ListN.{length, getD}
 use Rattle.bounds.specs.declared.answer.Answer.{Answer}
 use Rattle.bounds.specs.declared.refusal.Refusal.{Refusal}
 use Rattle.bounds.specs.declared.refusal.Verdict.{Verdict}
-use Rattle.bounds.specs.Refusals.{widthTest, _then_, through, refused}
+use Rattle.bounds.specs.Refusals.{widthTest, _then_, through, refused, roomTest}
 use Rattle.bounds.proofs.Verdicts.{stray-fits, then-through, answered, refused-as}
 use Rattle.write.specs.declared.value.Rule.{Rule}
 use Rattle.write.specs.Writes.{Moves}
 use Rattle.write.proofs.OneOutcome.{moves-one}
 use Rattle.column.specs.declared.moving.Column.{Column}
-use Rattle.column.specs.Columns.{roomTest, MovableUpTo, FirstRefusal, IsTried, MovesColumn, Holds}
+use Rattle.column.specs.Columns.{MovableUpTo, FirstRefusal, IsTried, MovesColumn, Holds}
 use Rattle.column.proofs.Rooms.{room-fits, room-short, room-through}
 use Rattle.column.proofs.Trials.{rounded-movable, not-refused}
 
@@ -69,7 +69,7 @@ rounded-column-moves n n' words room a h h' fits inside x = by a (answered (pass
     by (Column.Moved count) y = ap Column.Moved (y .0)
     by (Column.Refused q) y = absurd y
     by (Column.RefusedAt position q) y =
-        let movable = rounded-movable n n' (getD words position 0) h h' (stray-fits n (getD words position 0) (inside position (y .inside))) in
+        let movable = rounded-movable n n' (getD words position 0) h' (rw h (stray-fits n (getD words position 0) (inside position (y .inside)))) in
         absurd (not-refused n n' (getD words position 0) Rule.Rounded (Answer.Refused q) (y .is) q movable refl)
 
 -- ---- a column that was moved

@@ -6,7 +6,7 @@ use borrow.Author.Tests.{le-leb, lt-leb, leb-true}
 use Rattle.bounds.specs.declared.refusal.Refusal.{Refusal}
 use Rattle.bounds.specs.declared.refusal.Verdict.{Verdict}
 use Rattle.bounds.proofs.Verdicts.{open-when}
-use Rattle.column.specs.Columns.{roomTest}
+use Rattle.bounds.specs.Refusals.{roomTest}
 
 pub room-fits : (count room : ℕ) → count ≤ room → roomTest count room ≡ Verdict.Through
 unfolding roomTest

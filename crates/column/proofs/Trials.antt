@@ -4,7 +4,7 @@ use Prim.Native.Nat.{ℕ}
 use Rattle.bounds.specs.declared.answer.Answer.{Answer}
 use Rattle.bounds.specs.declared.refusal.Refusal.{Refusal}
 use Rattle.bounds.specs.declared.refusal.Verdict.{Verdict}
-use Rattle.bounds.specs.Refusals.{widthTest, strayTest, refused}
+use Rattle.bounds.specs.Refusals.{widthTest, wordTest, refused}
 use Rattle.bounds.proofs.Answers.{GivesAWord}
 use Rattle.bounds.proofs.Verdicts.{width-through, word-through}
 use Rattle.write.specs.declared.value.Rule.{Rule}
@@ -15,14 +15,14 @@ use Rattle.column.specs.Columns.{Movable}
 use Rattle.column.specs.Trials.{TriesWord}
 
 -- Rounded, only a stray bit is refused: every word of the width is moved to some word.
-pub rounded-movable : (n n' w : ℕ) → widthTest n ≡ Verdict.Through → widthTest n' ≡ Verdict.Through → strayTest n w ≡ Verdict.Through → Movable n n' Rule.Rounded w
+pub rounded-movable : (n n' w : ℕ) → widthTest n' ≡ Verdict.Through → wordTest n w ≡ Verdict.Through → Movable n n' Rule.Rounded w
 unfolding Movable
-rounded-movable n n' w h h' s = let t = width-through n' h' in rounded-moves n n' w (word-through n w (rw h s)) (t .0) (t .1)
+rounded-movable n n' w h' s = let t = width-through n' h' in rounded-moves n n' w (word-through n w s) (t .0) (t .1)
 
-pub rounded-tried : (n n' w : ℕ) (v : Verdict) → widthTest n ≡ Verdict.Through → widthTest n' ≡ Verdict.Through → v ≡ strayTest n w → TriesWord n n' Rule.Rounded w v
+pub rounded-tried : (n n' w : ℕ) (v : Verdict) → widthTest n ≡ Verdict.Through → widthTest n' ≡ Verdict.Through → v ≡ wordTest n w → TriesWord n n' Rule.Rounded w v
 unfolding TriesWord Moves
-rounded-tried n n' w Verdict.Through h h' s = rounded-movable n n' w h h' (sym s)
-rounded-tried n n' w (Verdict.Refused q) h h' s = refused {q = q} (rw (h, h') (sym s)) refl
+rounded-tried n n' w Verdict.Through h h' s = rounded-movable n n' w h' (sym s)
+rounded-tried n n' w (Verdict.Refused q) h h' s = refused {q = q} (rw (h, h') (rw h at (sym s))) refl
 
 -- By either rule, the move itself tells.
 module _ (n n' w : ℕ) (rule : Rule) (a : Answer) (is : Moves n n' rule w a) where

@@ -1,21 +1,14 @@
 -- What moving a column means (paper 01, "Columns"): the answer, and what the result slice holds afterwards.
 use mathlib.Core.Path.{_≡_}
-use mathlib.Core.Bool.{cond}
 use mathlib.Core.List.{List}
 use Prim.Native.Nat.{ℕ, _≤_, _<_}
-use lib.Dec.{leb}
 use lib.ListN.{length, getD}
 use Rattle.bounds.specs.declared.answer.Answer.{Answer}
 use Rattle.bounds.specs.declared.refusal.Refusal.{Refusal}
-use Rattle.bounds.specs.declared.refusal.Verdict.{Verdict}
-use Rattle.bounds.specs.Refusals.{widthTest, _then_, Decided}
+use Rattle.bounds.specs.Refusals.{widthTest, roomTest, _then_, Decided}
 use Rattle.write.specs.declared.value.Rule.{Rule}
 use Rattle.write.specs.Writes.{Moves}
 use Rattle.column.specs.declared.moving.Column.{Column}
-
--- 6 ROOM: the result slice is too short
-unfoldable pub roomTest : ℕ → ℕ → Verdict
-roomTest count room = cond (leb count room) Verdict.Through (Verdict.Refused Refusal.Room)
 
 -- the word is moved to some word
 unfoldable pub Movable : ℕ → ℕ → Rule → ℕ → Type 0

@@ -10,9 +10,9 @@ ghost use Prim.Native.Nat.{_≤_};
 ghost use lib.ListN.{length};
 ghost use Rattle.bounds.specs.declared.answer.Answer.{Answer};
 ghost use Rattle.bounds.specs.declared.refusal.Verdict.{Verdict};
-ghost use Rattle.bounds.specs.Refusals.{widthTest};
+ghost use Rattle.bounds.specs.Refusals.{widthTest, roomTest};
 ghost use Rattle.write.specs.Writes.{Moves};
-ghost use Rattle.column.specs.Columns.{roomTest, Movable, MovableUpTo, IsTried, AreMoved, MovesColumn, Holds};
+ghost use Rattle.column.specs.Columns.{Movable, MovableUpTo, IsTried, AreMoved, MovesColumn, Holds};
 ghost use Rattle.column.specs.Trials.{TriesWord};
 
 // How many words were moved, or why none was: a refusal of the whole column, or of the word at a position.

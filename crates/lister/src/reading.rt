@@ -1,6 +1,5 @@
 // Filling a lent buffer from standard input, in as many pieces as it comes.
 use libc::STDIN_FILENO;
-ghost use mathlib.Core.Path.{_≡_};
 ghost use Prim.Native.Nat.{_+_, _≤_, _<_};
 ghost use lib.ListN.{length};
 

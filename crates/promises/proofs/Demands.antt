@@ -9,7 +9,7 @@ use Rattle.word.specs.declared.order.Comparison.{Comparison}
 use Rattle.bounds.specs.declared.refusal.Refusal.{Refusal}
 use Rattle.bounds.specs.declared.refusal.Verdict.{Verdict}
 use Rattle.word.specs.Takum.{takum}
-use Rattle.bounds.specs.Refusals.{numberOf, widthTest, strayTest, _then_, Decided}
+use Rattle.bounds.specs.Refusals.{numberOf, widthTest, strayTest, _then_, Decided, roomTest}
 use Rattle.bounds.specs.Widths.{Makes, GivesWord, GivesLimit}
 use Rattle.word.specs.Reads.{Reads}
 use Rattle.word.specs.Orders.{Compares, Negates, negated}
@@ -19,7 +19,7 @@ use Rattle.word.proofs.Values.{order-of-values, order-same, NaR-below, above-Na
 use Rattle.word.proofs.Binades.{meaning-one}
 use Rattle.write.specs.Writes.{Writes, Moves}
 use Rattle.whole.specs.Wholes.{WritesWhole, TakesWhole}
-use Rattle.column.specs.Columns.{roomTest, MovesColumn}
+use Rattle.column.specs.Columns.{MovesColumn}
 use Rattle.binary64.specs.Takes.{TakesBinary64}
 use Rattle.binary64.specs.Writes.{WritesBinary64}
 use Rattle.promises.specs.Demands.{RefusedAs, RefusesWidths, RefusesStrays, WidthRefused, StrayRefused, ReadingIsTheDefinition, ReadingTellsWordsApart, ComparisonIsTheOrderOfValues, NaRIsBelowEveryValue, EveryValueIsAboveNaR, EveryWordEqualsItself, NegationNegates}

@@ -3,14 +3,14 @@ use mathlib.Core.Path.{refl, sym, subst}
 use Prim.Native.Nat.{ℕ, _<_}
 use borrow.Author.Tests.{lt-leb}
 use Rattle.bounds.specs.declared.refusal.Refusal.{Refusal}
-use Rattle.bounds.specs.Refusals.{_then_, through, refused}
+use Rattle.bounds.specs.Refusals.{_then_, through, refused, roomTest}
 use Rattle.bounds.proofs.Verdicts.{width-fits, then-through, refused-as}
 use Rattle.column.specs.Columns.{Holds}
 use Rattle.column.proofs.Positions.{short-room-refused, every-word-counted, word-at, others-unchanged, first, none-refused-before}
 use Rattle.column.proofs.Strict.{strict-column-keeps}
 use Rattle.sheet.specs.declared.block.Block.{Block}
 use Rattle.sheet.specs.Layout.{count}
-use Rattle.sheet.specs.Reads.{unless, sizeTest, markTest, checkTest, widthTest, countTest, fillTest, roomTest, blockTest, ReadsBlock, FillsResults}
+use Rattle.sheet.specs.Reads.{sizeTest, markTest, checkTest, widthTest, countTest, fillTest, blockTest, ReadsBlock, FillsResults}
 use Rattle.sheet.proofs.Passing.{other-size, was-read}
 use Rattle.sheet.proofs.Results.{result-at, result-kept, result-is-word}
 use Rattle.sheet.proofs.Changes.{change-noticed}
@@ -32,10 +32,10 @@ a-short-result-slice-is-refused n n' rule words room a lo hi lo' hi' h x =
     record { q = Refusal.Room; is = short-room-refused n n' rule words room a (width-fits n lo hi) (width-fits n' lo' hi') h x; known = refl }
 
 pub a-short-slice-for-a-block-is-refused : promise.AShortSliceForABlockIsRefused
-unfolding promise.AShortSliceForABlockIsRefused ReadsBlock blockTest roomTest unless
+unfolding promise.AShortSliceForABlockIsRefused ReadsBlock blockTest roomTest
 a-short-slice-for-a-block-is-refused block places places' w i n a r short x =
     let t = was-read block places' w i n r in
-    let good = then-through (sizeTest block then markTest block then checkTest block then widthTest block then countTest block then fillTest block) (roomTest block places') (t .0) .0 in
+    let good = then-through (sizeTest block then markTest block then checkTest block then widthTest block then countTest block then fillTest block) (roomTest (count block) places') (t .0) .0 in
     record { q = Refusal.Room; is = refused-as Refusal.Room (rw (good, lt-leb (count block) places (subst (λ (k : ℕ). places < k) (t .2) short))) x; known = refl }
 
 pub another-size-is-refused : promise.AnotherSizeIsRefused

@@ -6,8 +6,7 @@ use mathlib.Core.Logic.{inl, inr}
 use Prim.Native.Nat.{ℕ, zero, _-_, _^_, _≤_, _<_}
 use native.Mathlib.Nat.{mul-pos}
 use native.Mathlib.Omega.{arith}
-use lib.IntN.{ℤ, pos, _+ℤ_, _-ℤ_}
-use lib.Pow.{pow-mono}
+use lib.IntN.{pos, _+ℤ_, _-ℤ_}
 use Rattle.bounds.specs.declared.answer.Answer.{Answer}
 use Rattle.bounds.specs.declared.refusal.Refusal.{Refusal}
 use Rattle.word.specs.Takum.{Takum, real, NaR, takum}
@@ -25,7 +24,7 @@ use Rattle.write.specs.declared.value.Value.{Value}
 use Rattle.write.specs.Writes.{Nearest, IsRounded, zero, other, IsWritten, IsMoved, Writes, Moves}
 use Rattle.write.specs.Offers.{withSign}
 use Rattle.write.proofs.Exponents.{unit-some}
-use Rattle.write.proofs.Places.{wordOf, has-value}
+use Rattle.write.proofs.Places.{two, wordOf, has-value}
 use Rattle.write.proofs.Rules.{number-written}
 use Rattle.write.proofs.Signs.{signed-word}
 use Rattle.write.proofs.Rounding.{rounded-exists, rounded-one, rounded-not-zero-nor-NaR, past-the-largest, before-the-smallest, rounded-negated, exact-written, written-one}
@@ -77,9 +76,6 @@ unfolding promise.RoundedIsNeverZeroNorNaR narWord
 rounded-is-never-zero-nor-NaR n v w lo hi some x = rounded-not-zero-nor-NaR n lo hi (v .negative) (numerator v) (denominator v) w (nearest-one v some n w lo hi x)
 
 module _ (n : ℕ) (lo : 2 ≤ n) (hi : n ≤ 64) where
-  two : 2 ≤ 2 ^ (n - 1)
-  two = pow-mono {i = 1} {j = n - 1} (omega arith)
-
   -- an answer whose word is known for the nearest one
   end-word : (v : Value) (r : Answer) (e : ℕ) → 0 < e → e < 2 ^ (n - 1) → 0 < v .m → Writes n Rule.Rounded v r → ((w : ℕ) → Nearest n (v .negative) (numerator v) (denominator v) w → w ≡ wordOf n (v .negative) e) → r ≡ Answer.Word (withSign n (v .negative) e)
   unfolding promise.RoundedIsTheNearest wordOf

@@ -1,14 +1,15 @@
--- The block that paper 01 gives as a case is read, with the A and B that it gives; and the room for words of each width. Assumes nothing.
+-- The block that paper 01 gives as a case is read, with the A and B that it gives. Assumes nothing.
 use mathlib.Core.Path.{_≡_, refl}
 use mathlib.Core.List.{List, [], _∷_, _++_}
 use Prim.Native.Nat.{ℕ}
 use lib.ListN.{replicate}
 use Rattle.bounds.specs.declared.refusal.Verdict.{Verdict}
 use Rattle.bounds.proofs.Verdicts.{answered}
+use Rattle.bounds.specs.Refusals.{roomTest}
 use Rattle.sheet.specs.declared.block.Block.{Block}
 use Rattle.sheet.specs.Layout.{number, numberAt, packed, mark, width, count, blockNumber, size, end, words, unused, A, B, numbers}
 use Rattle.sheet.specs.Sums.{total, sumA, running, sumB}
-use Rattle.sheet.specs.Reads.{unless, isBlockWidth, allZero, sizeTest, markTest, checkTest, widthTest, countTest, fillTest, roomTest, blockTest, ReadsBlock, FillsResults}
+use Rattle.sheet.specs.Reads.{isBlockWidth, allZero, sizeTest, markTest, checkTest, widthTest, countTest, fillTest, blockTest, ReadsBlock, FillsResults}
 
 -- bytes 54 10 02 00 01 00 00 00 00 5A 00 80, zeros up to byte 503, A = 0x80026A55, B = 0x012FA1D5
 unfoldable pub case : List ℕ
@@ -22,7 +23,7 @@ unfolding case A B numberAt number
 case-sums = (refl, refl)
 
 pub case-passes : blockTest case 2 ≡ Verdict.Through
-unfolding case A B numberAt number packed mark width count size end unused numbers total sumA running sumB unless isBlockWidth allZero sizeTest markTest checkTest widthTest countTest fillTest roomTest blockTest
+unfolding case A B numberAt number packed mark width count size end unused numbers total sumA running sumB isBlockWidth allZero sizeTest markTest checkTest widthTest countTest fillTest roomTest blockTest
 case-passes = refl
 
 -- width 16, block 1, two words

@@ -1,4 +1,4 @@
--- The laws of blocks, one idea a file. From OneOutcome on they are for the reader of the contract; no function's proof uses them.
+-- The laws of blocks, one idea a file. From OneOutcome on they are for the reader of the contract; no function's proof in this crate uses them.
 pub mod LittleEndian
 pub mod Packing
 pub mod Checks

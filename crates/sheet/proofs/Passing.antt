@@ -8,28 +8,28 @@ use lib.Dec.{eqb}
 use lib.ListN.{length}
 use Rattle.bounds.specs.declared.refusal.Refusal.{Refusal}
 use Rattle.bounds.specs.declared.refusal.Verdict.{Verdict}
-use Rattle.bounds.specs.Refusals.{_then_, through, refused}
-use Rattle.bounds.proofs.Verdicts.{both, then-through}
+use Rattle.bounds.specs.Refusals.{_then_, through, refused, roomTest}
+use Rattle.bounds.proofs.Verdicts.{open-when, both, then-through}
 use Rattle.sheet.specs.declared.block.Block.{Block}
 use Rattle.sheet.specs.Layout.{mark, width, count, blockNumber, end, A, B, numbers}
 use Rattle.sheet.specs.Sums.{sumA, sumB}
-use Rattle.sheet.specs.Reads.{unless, sizeTest, markTest, checkTest, widthTest, countTest, fillTest, roomTest, blockTest, ReadsBlock}
-use Rattle.sheet.proofs.Tests.{OneOfFour, held, is-width, a-differs}
+use Rattle.sheet.specs.Reads.{sizeTest, markTest, checkTest, widthTest, countTest, fillTest, blockTest, ReadsBlock}
+use Rattle.sheet.proofs.Tests.{OneOfFour, is-width, a-differs}
 
 pub other-size : (block : List ℕ) (places : ℕ) → (length block ≡ 512 → ⊥) → Verdict.Refused Refusal.Size ≡ blockTest block places
-unfolding blockTest sizeTest unless
+unfolding blockTest sizeTest
 other-size block places h = rw (ne-eqb (length block) 512 h)
 
 pub other-mark : (block : List ℕ) (places : ℕ) → length block ≡ 512 → (mark block ≡ 0x54 → ⊥) → blockTest block places ≡ Verdict.Refused Refusal.Mark
-unfolding blockTest sizeTest markTest unless
+unfolding blockTest sizeTest markTest
 other-mark block places h m = rw (eq-eqb (length block) 512 h, ne-eqb (mark block) 0x54 m)
 
 pub other-A : (block : List ℕ) (places : ℕ) → length block ≡ 512 → mark block ≡ 0x54 → (sumA (numbers block) ≡ A block → ⊥) → blockTest block places ≡ Verdict.Refused Refusal.Check
-unfolding blockTest sizeTest markTest unless
+unfolding blockTest sizeTest markTest
 other-A block places h m a = rw (eq-eqb (length block) 512 h, eq-eqb (mark block) 0x54 m, ← a-differs block a)
 
-pub in-order : (block : List ℕ) (places : ℕ) {m s w n f r v₁ v₂ v₃ v₄ v₅ : Verdict} → length block ≡ 512 → m ≡ markTest block → s ≡ checkTest block → v₁ ≡ (m then s) → w ≡ widthTest block → v₂ ≡ (v₁ then w) → n ≡ countTest block → v₃ ≡ (v₂ then n) → f ≡ fillTest block → v₄ ≡ (v₃ then f) → r ≡ roomTest block places → v₅ ≡ (v₄ then r) → v₅ ≡ blockTest block places
-unfolding blockTest sizeTest unless
+pub in-order : (block : List ℕ) (places : ℕ) {m s w n f r v₁ v₂ v₃ v₄ v₅ : Verdict} → length block ≡ 512 → m ≡ markTest block → s ≡ checkTest block → v₁ ≡ (m then s) → w ≡ widthTest block → v₂ ≡ (v₁ then w) → n ≡ countTest block → v₃ ≡ (v₂ then n) → f ≡ fillTest block → v₄ ≡ (v₃ then f) → r ≡ roomTest (count block) places → v₅ ≡ (v₄ then r) → v₅ ≡ blockTest block places
+unfolding blockTest sizeTest
 in-order block places h hm hs h₁ hw h₂ hn h₃ hf h₄ hr h₅ = rw (eq-eqb (length block) 512 h) (after (after (after (after (after hm hs h₁) hw h₂) hn h₃) hf h₄) hr h₅)
   where
     after : {a a' b b' v : Verdict} → a ≡ a' → b ≡ b' → v ≡ (a then b) → v ≡ (a' then b')
@@ -48,21 +48,21 @@ pub record Passes (block : List ℕ) (places : ℕ) : Type 0 where
 pub passes : (block : List ℕ) (places : ℕ) → blockTest block places ≡ Verdict.Through → Passes block places
 unfolding blockTest sizeTest markTest checkTest widthTest countTest fillTest roomTest
 passes block places h =
-    let to-fill = then-through (sizeTest block then markTest block then checkTest block then widthTest block then countTest block then fillTest block) (roomTest block places) h in
+    let to-fill = then-through (sizeTest block then markTest block then checkTest block then widthTest block then countTest block then fillTest block) (roomTest (count block) places) h in
     let to-count = then-through (sizeTest block then markTest block then checkTest block then widthTest block then countTest block) (fillTest block) (to-fill .0) in
     let to-width = then-through (sizeTest block then markTest block then checkTest block then widthTest block) (countTest block) (to-count .0) in
     let to-check = then-through (sizeTest block then markTest block then checkTest block) (widthTest block) (to-width .0) in
     let to-mark = then-through (sizeTest block then markTest block) (checkTest block) (to-check .0) in
     let to-size = then-through (sizeTest block) (markTest block) (to-mark .0) in
-    let sums = both (eqb (sumA (numbers block)) (A block)) (eqb (sumB (numbers block)) (B block)) (held Refusal.Check _ (to-mark .1)) in
+    let sums = both (eqb (sumA (numbers block)) (A block)) (eqb (sumB (numbers block)) (B block)) (open-when _ Refusal.Check (to-mark .1)) in
     record {
-      bytes = eqb-true _ _ (held Refusal.Size _ (to-size .0));
-      marked = eqb-true _ _ (held Refusal.Mark _ (to-size .1));
+      bytes = eqb-true _ _ (open-when _ Refusal.Size (to-size .0));
+      marked = eqb-true _ _ (open-when _ Refusal.Mark (to-size .1));
       a = eqb-true _ _ (sums .0);
       b = eqb-true _ _ (sums .1);
-      wide = is-width _ (held Refusal.Width _ (to-check .1));
-      inside = leb-true _ _ (held Refusal.Count _ (to-width .1));
-      room = leb-true _ _ (held Refusal.Room _ (to-fill .1));
+      wide = is-width _ (open-when _ Refusal.Width (to-check .1));
+      inside = leb-true _ _ (open-when _ Refusal.Count (to-width .1));
+      room = leb-true _ _ (open-when _ Refusal.Room (to-fill .1));
     }
 
 -- its answer

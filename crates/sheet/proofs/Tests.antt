@@ -8,17 +8,15 @@ use borrow.Author.Tests.{eq-eqb, ne-eqb, eqb-true, le-leb, lt-leb}
 use lib.Dec.{eqb, leb}
 use Rattle.bounds.specs.declared.refusal.Refusal.{Refusal}
 use Rattle.bounds.specs.declared.refusal.Verdict.{Verdict}
-use Rattle.bounds.proofs.Verdicts.{open-when}
+use Rattle.bounds.specs.Refusals.{unless}
 use Rattle.sheet.specs.Layout.{numbers, A, B}
 use Rattle.sheet.specs.Sums.{sumA, sumB}
-use Rattle.sheet.specs.Reads.{unless, isBlockWidth, checkTest}
+use Rattle.sheet.specs.Reads.{isBlockWidth, checkTest}
 
 pub holds : (q : Refusal) {b : Bool} → b ≡ true → Verdict.Through ≡ unless q b
-unfolding unless
 holds q h = rw h
 
 pub fails : (q : Refusal) {b : Bool} → b ≡ false → Verdict.Refused q ≡ unless q b
-unfolding unless
 fails q h = rw h
 
 -- a number n that a call has given as m is tested against a most
@@ -28,23 +26,19 @@ at-most q {m} {n} most e h = holds q (le-leb n most (subst (λ (x : ℕ). x ≤ 
 pub past : (q : Refusal) {m n : ℕ} (most : ℕ) → m ≡ n → most < m → Verdict.Refused q ≡ unless q (leb n most)
 past q {m} {n} most e h = fails q (lt-leb n most (subst (λ (x : ℕ). most < x) e h))
 
-pub held : (q : Refusal) (b : Bool) → unless q b ≡ Verdict.Through → b ≡ true
-unfolding unless
-held q b h = open-when b q h
-
 -- ---- the sums
 module _ (block : List ℕ) where
   pub a-differs : (sumA (numbers block) ≡ A block → ⊥) → Verdict.Refused Refusal.Check ≡ checkTest block
   unfolding checkTest
-  a-differs h = fails Refusal.Check (rw (ne-eqb (sumA (numbers block)) (A block) h))
+  a-differs h = rw (ne-eqb (sumA (numbers block)) (A block) h)
 
   pub b-differs : (sumB (numbers block) ≡ B block → ⊥) → Verdict.Refused Refusal.Check ≡ checkTest block
   unfolding checkTest
-  b-differs h = fails Refusal.Check (rw (ne-eqb (sumB (numbers block)) (B block) h) (and-false (eqb (sumA (numbers block)) (A block))))
+  b-differs h = rw (ne-eqb (sumB (numbers block)) (B block) h, and-false (eqb (sumA (numbers block)) (A block)))
 
   pub sums-agree : sumA (numbers block) ≡ A block → sumB (numbers block) ≡ B block → Verdict.Through ≡ checkTest block
   unfolding checkTest
-  sums-agree p q = holds Refusal.Check (rw (eq-eqb (sumA (numbers block)) (A block) p, eq-eqb (sumB (numbers block)) (B block) q))
+  sums-agree p q = rw (eq-eqb (sumA (numbers block)) (A block) p, eq-eqb (sumB (numbers block)) (B block) q)
 
 -- ---- the width
 abbrev pub OneOfFour : ℕ → Type 0

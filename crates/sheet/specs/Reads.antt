@@ -1,22 +1,16 @@
 -- What reading a block answers, and what it leaves in the lent result slice (paper 01).
 use mathlib.Core.Path.{_≡_}
-use mathlib.Core.Bool.{Bool, true, cond, _&&_, _||_}
+use mathlib.Core.Bool.{Bool, true, _&&_, _||_}
 use mathlib.Core.List.{List, [], _∷_, _++_}
 use Prim.Native.Nat.{ℕ}
 use lib.Dec.{eqb, leb}
 use lib.ListN.{length, drop}
-use Rattle.bounds.specs.declared.refusal.Refusal.{Refusal}
-use Rattle.bounds.specs.declared.refusal.Refusal.the-variants.{Width, Room, Size, Mark, Check, Count, Fill}
+use Rattle.bounds.specs.declared.refusal.Refusal.the-variants.{Width, Size, Mark, Check, Count, Fill}
 use Rattle.bounds.specs.declared.refusal.Verdict.{Verdict}
-use Rattle.bounds.specs.declared.refusal.Verdict.the-variants.{Through, Refused}
-use Rattle.bounds.specs.Refusals.{_then_, Decided}
+use Rattle.bounds.specs.Refusals.{unless, roomTest, _then_, Decided}
 use Rattle.sheet.specs.declared.block.Block.{Block}
 use Rattle.sheet.specs.Layout.{mark, width, count, blockNumber, end, words, unused, A, B, numbers}
 use Rattle.sheet.specs.Sums.{sumA, sumB}
-
--- a test that lets through what it holds of
-unfoldable pub unless : Refusal → Bool → Verdict
-unless q holds = cond holds Through (Refused q)
 
 -- one of 8, 16, 32, 64
 unfoldable pub isBlockWidth : ℕ → Bool
@@ -51,12 +45,9 @@ module _ (block : List ℕ) where
   unfoldable pub fillTest : Verdict
   fillTest = unless Fill (allZero (unused block))
 
-  -- 6 ROOM: the result slice is too short; it has this many places
-  unfoldable pub roomTest : ℕ → Verdict
-  roomTest places = unless Room (leb (count block) places)
-
+  -- 6 ROOM comes last; the result slice has this many places
   unfoldable pub blockTest : ℕ → Verdict
-  blockTest places = sizeTest then markTest then checkTest then widthTest then countTest then fillTest then roomTest places
+  blockTest places = sizeTest then markTest then checkTest then widthTest then countTest then fillTest then roomTest (count block) places
 
 -- ---- what the call answers, and what it leaves in the result slice
 unfoldable pub ReadsBlock : List ℕ → ℕ → Block → Type 0

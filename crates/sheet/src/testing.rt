@@ -9,9 +9,10 @@ use bounds::refusal::Refusal;
 use bounds::refusal::Verdict;
 ghost use mathlib.Core.Path.{_≡_};
 ghost use lib.ListN.{length};
-ghost use Rattle.sheet.specs.Layout.{unused};
+ghost use Rattle.bounds.specs.Refusals.{roomTest};
+ghost use Rattle.sheet.specs.Layout.{count, unused};
 ghost use Rattle.sheet.specs.Sums.{total};
-ghost use Rattle.sheet.specs.Reads.{markTest, checkTest, widthTest, countTest, fillTest, roomTest, blockTest};
+ghost use Rattle.sheet.specs.Reads.{markTest, checkTest, widthTest, countTest, fillTest, blockTest};
 
 pub(crate) fn test(block: &[u8], places: usize) -> Verdict
     ensures { λ v. ⌜ v ≡ blockTest (now (block .entry)) places ⌝ }
@@ -83,7 +84,7 @@ fn test_fill(block: &[u8]) -> Verdict
 
 fn test_room(block: &[u8], places: usize) -> Verdict
     requires { ⌜ length (now block) ≡ 512 ⌝ }
-    ensures { λ v. ⌜ v ≡ roomTest (now (block .entry)) places ⌝ }
+    ensures { λ v. ⌜ v ≡ roomTest (count (now (block .entry))) places ⌝ }
 {
     if count_of(block) as usize <= places {
         return Verdict::Through;

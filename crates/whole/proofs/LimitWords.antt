@@ -16,6 +16,7 @@ use Rattle.word.proofs.Values.{grown-suc}
 use Rattle.write.specs.Writes.{HasValue}
 use Rattle.write.proofs.Places.{wordOf, Place, has-value, place-of}
 use Rattle.write.proofs.Rules.{zero-value}
+use Rattle.write.proofs.Sized.{nar-shifted}
 use Rattle.whole.specs.Limits as promise
 use Rattle.whole.proofs.LimitBinades.{beginning, WholeBinade, whole-binade}
 use Rattle.whole.proofs.LimitStrings.{wholeBits, whole-some, whole-below, whole-size}
@@ -41,11 +42,8 @@ module _ (n : ℕ) (lo : 2 ≤ n) (hi : n ≤ 64) where
   word-of-string : (s : Bool) (w u z : ℕ) → w * 2 ^ (64 - n) ≡ u → zero < w → u < 2 ^ 63 → size u ≡ z → HasValue n s z (wordOf n s w)
   word-of-string s w u z cut some below is = subst (λ (x : ℕ). HasValue n s x (wordOf n s w)) (grown-suc n w some ∙ ap size cut ∙ is) (has-value n lo hi s w some short)
     where
-      whole : 2 ^ (n - 1) * 2 ^ (64 - n) ≡ 2 ^ 63
-      whole = pow-sum (n - 1) (64 - n) 63 (omega (arith, lo, hi))
-
       short : w < 2 ^ (n - 1)
-      short = lt-of-mul-lt-mul-right (2 ^ (64 - n)) (subst₂ (λ (x y : ℕ). x < y) (sym cut) (sym whole) below)
+      short = lt-of-mul-lt-mul-right (2 ^ (64 - n)) (subst₂ (λ (x y : ℕ). x < y) (sym cut) (sym (nar-shifted n lo hi)) below)
 
   -- 1 has a word at every width, also where no number is one of the rule
   one-has-a-word : (s : Bool) → HasValue n s (1 * 2 ^ 307) (wordOf n s (2 ^ (n - 2)))

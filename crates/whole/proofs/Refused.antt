@@ -1,7 +1,7 @@
 -- Each refusal of taking out is given exactly when the table of paper 01 says: NAR of NaR, OVER outside 64 bits, INEXACT where strict and no whole
 -- number has the value. Assumes nothing.
 use mathlib.Core.Path.{_≡_, refl, sym, ap, _∙_, subst}
-use mathlib.Core.Bool.{Bool, true, false, cond}
+use mathlib.Core.Bool.{Bool, true, false}
 use mathlib.Core.Logic.{_⊎_, inl, inr}
 use Prim.Native.Nat.{ℕ, suc, _*_, _^_}
 use native.Mathlib.Omega.{arith}
@@ -10,7 +10,7 @@ use lib.Dec.{eqb, leb, ltb}
 use lib.IntN.{ℤ, pos, negsuc, natAbs}
 use Rattle.bounds.specs.declared.refusal.Refusal.{Refusal}
 use Rattle.bounds.specs.declared.refusal.Verdict.{Verdict}
-use Rattle.bounds.specs.Refusals.{IsWord}
+use Rattle.bounds.specs.Refusals.{IsWord, unless}
 use Rattle.word.specs.Takum.{Takum, real, NaR, takum}
 use Rattle.word.proofs.Values.{absolute}
 use Rattle.bounds.proofs.Verdicts.{word-passes, answered}
@@ -34,7 +34,7 @@ whole-size z x y part q =
     let same : x ≡ y = one-whole-part z x y part (subst (λ (z : ℤ). IsWholePart z y) (sym q) (is-its-whole-part y)) in
     ap (λ (x : ℤ). natAbs x * 2 ^ 307) same ∙ sym (ap natAbs q ∙ absolute (isNegative y) (natAbs y * 2 ^ 307))
 
-either : (b : Bool) → (cond b Verdict.Through (Verdict.Refused Refusal.Over) ≡ Verdict.Through) ⊎ (cond b Verdict.Through (Verdict.Refused Refusal.Over) ≡ Verdict.Refused Refusal.Over)
+either : (b : Bool) → (unless Refusal.Over b ≡ Verdict.Through) ⊎ (unless Refusal.Over b ≡ Verdict.Refused Refusal.Over)
 either true = inl refl
 either false = inr refl
 

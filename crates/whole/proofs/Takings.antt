@@ -2,7 +2,7 @@
 use mathlib.Core.Path.{_≡_, sym, ap, ap₂, _∙_, subst}
 use mathlib.Core.Bool.{Bool, true, false}
 use Prim.Native.Nat.{ℕ, suc, _+_, _-_, _*_, _/_, _^_, _≤_, _<_, zero-le}
-use native.Mathlib.Nat.{le-trans, le-of-eq, mul-le-mul, mul-le-mul-right, mul-assoc, le-div-iff-mul-le, zero-mul, one-mul, le-refl, ne-of-lt, mul-lt-mul-of-pos-right, lt-of-lt-of-le, lt-of-le-of-lt}
+use native.Mathlib.Nat.{le-trans, le-of-eq, mul-le-mul, mul-assoc, le-div-iff-mul-le, zero-mul, one-mul, le-refl, ne-of-lt, mul-lt-mul-of-pos-right, lt-of-lt-of-le, lt-of-le-of-lt}
 use native.Mathlib.Omega.{arith}
 use borrow.Author.Tests.{ne-eqb}
 use lib.Dec.{eqb, lit<}
@@ -12,14 +12,14 @@ use Rattle.bounds.specs.declared.refusal.Refusal.{Refusal}
 use Rattle.word.specs.Takum.{Takum}
 use Rattle.word.specs.Reads.{signedSize}
 use Rattle.bounds.proofs.Powers.{pow-sum}
-use Rattle.word.proofs.Values.{absolute}
+use Rattle.word.proofs.Values.{absolute, no-sign}
 use Rattle.whole.specs.declared.taking.Taking.{Taking}
 use Rattle.whole.specs.declared.taking.Whole.{Whole}
 use Rattle.whole.specs.Wholes.{IsWholePart, IsTaken}
 use Rattle.whole.specs.Parts.{greatestSize, byRule, TakesSize}
 use Rattle.whole.proofs.Amounts.{amount, under-one}
 use Rattle.whole.proofs.Fractions.{not-above, next-above, nothing-lost}
-use Rattle.whole.proofs.WholeParts.{no-sign, whole-part}
+use Rattle.whole.proofs.WholeParts.{whole-part}
 use Rattle.whole.proofs.Answers.{inside, outside, taken-inside, taken-over}
 
 -- what is left of a significand without its fraction

@@ -3,7 +3,7 @@ use mathlib.Core.Path.{_≡_, refl, sym, ap, _∙_, subst, subst₂}
 use mathlib.Core.Bool.{Bool, true, false}
 use Prim.Native.Nat.{ℕ, zero, suc, _*_, _^_, _≤_, _<_}
 use native.Mathlib.Nat.{le-of-suc-le-suc, lt-of-le-of-lt, lt-of-lt-of-le, lt-irrefl, lt-of-mul-lt-mul-right, le-antisymm, mul-pos, zero-lt-suc}
-use lib.IntN.{ℤ, pos, natAbs}
+use lib.IntN.{ℤ, natAbs}
 use lib.Pow.{pow-pos}
 use Rattle.word.specs.Reads.{signedSize}
 use Rattle.word.proofs.Values.{absolute}
@@ -12,12 +12,6 @@ use Rattle.whole.specs.Wholes.{IsWholePart}
 
 pub one-whole-part : (z x y : ℤ) → IsWholePart z x → IsWholePart z y → x ≡ y
 one-whole-part z x y a b = a .sign ∙ ap (signedSize (isNegative z)) (le-antisymm (b .greatest (natAbs x) (a .within)) (a .greatest (natAbs y) (b .within))) ∙ sym (b .sign)
-
--- zero has no sign
-pub no-sign : (s : Bool) → signedSize s 0 ≡ pos 0
-unfolding signedSize
-no-sign false = refl
-no-sign true = refl
 
 -- no whole number above zero is within a size of nothing
 none-within : (i u : ℕ) → 0 < u → suc i * u ≤ 0 → ⊥

@@ -1,6 +1,5 @@
 -- Whole numbers in and out (paper 01, "Whole numbers and binary64"), as properties of the word or of the whole number that is given.
 use mathlib.Core.Path.{_≡_}
-use mathlib.Core.Bool.{cond}
 use Prim.Native.Nat.{ℕ, suc, _*_, _^_, _≤_}
 use lib.Dec.{eqb, leb, ltb}
 use lib.IntN.{ℤ, pos, negsuc, natAbs}
@@ -9,7 +8,7 @@ use Rattle.bounds.specs.declared.refusal.Refusal.{Refusal}
 use Rattle.bounds.specs.declared.refusal.Verdict.{Verdict}
 use Rattle.word.specs.Takum.{Takum, real, NaR, takum}
 use Rattle.word.specs.Reads.{signedSize}
-use Rattle.bounds.specs.Refusals.{widthTest, strayTest, _then_, Decided}
+use Rattle.bounds.specs.Refusals.{unless, widthTest, wordTest, _then_, Decided}
 use Rattle.write.specs.declared.value.Rule.{Rule}
 use Rattle.write.specs.Writes.{IsWritten, isNegative}
 use Rattle.whole.specs.declared.taking.Taking.{Taking}
@@ -23,13 +22,13 @@ pub record IsWholePart (z x : ℤ) : Type 0 where
 
 -- 5 OVER: the whole number falls outside signed 64 bits, -2^63 to 2^63 - 1
 unfoldable pub overTest : ℤ → Verdict
-overTest (pos i) = cond (ltb i (2 ^ 63)) Verdict.Through (Verdict.Refused Refusal.Over)
-overTest (negsuc i) = cond (leb (suc i) (2 ^ 63)) Verdict.Through (Verdict.Refused Refusal.Over)
+overTest (pos i) = unless Refusal.Over (ltb i (2 ^ 63))
+overTest (negsuc i) = unless Refusal.Over (leb (suc i) (2 ^ 63))
 
 -- 4 INEXACT: strict, and the value z * 2^-307 isn't whole, x being its whole part
 unfoldable pub inexactTest : Taking → ℤ → ℤ → Verdict
 inexactTest Taking.Cut z x = Verdict.Through
-inexactTest Taking.Strict z x = cond (eqb (natAbs x * 2 ^ 307) (natAbs z)) Verdict.Through (Verdict.Refused Refusal.Inexact)
+inexactTest Taking.Strict z x = unless Refusal.Inexact (eqb (natAbs x * 2 ^ 307) (natAbs z))
 
 -- what the rule gives for what a word means: NAR, then OVER, then INEXACT
 unfoldable pub IsTaken : Taking → Takum → Whole → Type 0
@@ -43,4 +42,4 @@ WritesWhole n rule x r = Decided (widthTest n) (λ q. r ≡ Answer.Refused q) (I
 
 -- WIDTH, then STRAY, then NAR, OVER and INEXACT
 unfoldable pub TakesWhole : ℕ → Taking → ℕ → Whole → Type 0
-TakesWhole n rule w a = Decided (widthTest n then strayTest n w) (λ q. a ≡ Whole.Refused q) (IsTaken rule (takum n w) a)
+TakesWhole n rule w a = Decided (wordTest n w) (λ q. a ≡ Whole.Refused q) (IsTaken rule (takum n w) a)

@@ -25,7 +25,7 @@ pub enum Whole {
 pub fn take_whole(width: Width, rule: Taking, word: u64) -> Whole
     ensures { λ a. ⌜ TakesWhole (width .bits) rule word a ⌝ }
 {
-    let verdict = width.test().then(width.test_word(word));
+    let verdict = width.test_word(word);
     if let Verdict::Refused(q) = verdict {
         return Whole::Refused(q);
     }

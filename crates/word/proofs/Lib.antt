@@ -1,5 +1,5 @@
--- The laws of words, one idea a file. Casts and Readings are for the crates that stand on this one: those that make a sign and a size of
--- a signed number (`write`, `census` and `figures`), and `write`, which reads the words it compares with; nothing in this crate uses them.
+-- The laws of words, one idea a file. Casts, Binades and Readings are for the crates that stand on this one: those that make a sign and a size
+-- of a signed number, and those that say what a reading must be; nothing in this crate uses them.
 pub mod Integers
 pub mod Heads
 pub mod Cut

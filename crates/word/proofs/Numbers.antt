@@ -13,7 +13,7 @@ use lib.Pow.{pow-pos, pow-add, pow-mono}
 use lib.Signed.{mag}
 use Rattle.word.specs.Takum.{Takum, real, characteristicOf, S, D, r, p, C, F, c, e, value}
 use Rattle.word.specs.Reads.{num, den, IsSize, signedSize, IsNumber}
-use Rattle.bounds.proofs.Powers.{pow-sum}
+use Rattle.bounds.proofs.Powers.{twice}
 use Rattle.word.proofs.Integers.{sub-add, neg-add, neg-mul}
 use Rattle.word.proofs.Signed.{difference, short-by}
 use Rattle.word.proofs.Cut.{regime-le}
@@ -134,7 +134,7 @@ module _ (n T : ℕ) (lo : 12 ≤ n) (hi : n ≤ 64) (fits : T < 2 ^ n) where
   -- a sign bit that is not 0 is 1
   pub sign-one : (S n T ≡ 0 → ⊥) → S n T ≡ 1
   unfolding S
-  sign-one f = le-antisymm (le-of-suc-le-suc (div-lt-iff-lt-mul {x = T} {y = 2} (pow-pos (n - 1)) .1 (omega (arith, pow-sum (n - 1) 1 n (omega arith))))) (pos-of-ne-zero f)
+  sign-one f = le-antisymm (le-of-suc-le-suc (div-lt-iff-lt-mul {x = T} {y = 2} (pow-pos (n - 1)) .1 (omega (arith, twice n (omega arith))))) (pos-of-ne-zero f)
 
 -- the same number by equal parts
 pub same-number : (t : Takum) (b : ℕ) (s : Bool) {h h' : ℤ} {m m' p p' : ℕ} → h ≡ h' → m ≡ m' → p ≡ p' → IsNumber t b s h' m' p' → IsNumber t b s h m p

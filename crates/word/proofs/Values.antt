@@ -16,7 +16,7 @@ use Rattle.word.specs.Takum.{Takum, real, NaR, takum}
 use Rattle.word.specs.Reads.{signedSize}
 use Rattle.word.specs.Orders.{signed, order, negated, opposite}
 use Rattle.bounds.specs.Refusals.{IsWord}
-use Rattle.bounds.proofs.Powers.{not-more, pow-sum, shl-below}
+use Rattle.bounds.proofs.Powers.{not-more, shl-below, twice}
 use Rattle.word.proofs.Sizes.{size, size-lt, size-above, size-below}
 use Rattle.word.proofs.Signed.{signed-low, signed-high, negated-zero, negated-other, order-below, order-above, order-equal}
 use Rattle.word.proofs.Words.{Lies, at-zero, above, at-NaR, under, lies, takum-zero, takum-positive, takum-NaR, takum-negative}
@@ -59,9 +59,6 @@ pub form : (n w : ℕ) → IsWord n w → (w ≡ 2 ^ (n - 1) → ⊥) → Form n
 unfolding signedSize grown
 form n w i f = by (lies n w)
   where
-    twice : 2 ^ (n - 1) * 2 ≡ 2 ^ n
-    twice = pow-sum (n - 1) 1 n (omega (arith, i .least))
-
     next : suc (2 ^ n - 1 - w) ≡ 2 ^ n - w
     next = omega (arith, i .fits)
 
@@ -74,7 +71,7 @@ form n w i f = by (lies n w)
         record {
           negative = true;
           v = 2 ^ n - w;
-          bound = omega (arith, b, twice);
+          bound = omega (arith, b, twice n (i .least));
           word = signed-high n w (le-of-lt b) (i .fits) ∙ ap (λ (x : ℕ). negℤ (pos x)) next;
           means = takum-negative n w (i .least) (i .most) b (i .fits) ∙ ap (λ (x : ℕ). real (negℤ (pos x))) (sym (grown-suc n (2 ^ n - w) (omega (arith, i .fits))));
         }
@@ -143,7 +140,7 @@ NaR-signed : (n w : ℕ) → IsWord n w → w ≡ 2 ^ (n - 1) → signed n w ≡
 NaR-signed n w i q = signed-high n w (le-of-eq (sym q)) (i .fits) ∙ ap (λ (x : ℕ). negℤ (pos x)) half
   where
     half : suc (2 ^ n - 1 - w) ≡ 2 ^ (n - 1)
-    half = omega (arith, q, pow-sum (n - 1) 1 n (omega (arith, i .least)), pow-pos (n - 1))
+    half = omega (arith, q, twice n (i .least), pow-pos (n - 1))
 
 below-all : (B : ℕ) (s : Bool) (v : ℕ) → v < B → ltZ (negℤ (pos B)) (signedSize s v) ≡ true
 unfolding signedSize
@@ -191,6 +188,12 @@ signed-inj n x y ix iy h = by (decLt x (2 ^ (n - 1))) (decLt y (2 ^ (n - 1)))
     by (yes p) (no q) = absurd (pos-ne-negsuc x (2 ^ n - 1 - y) (sym (signed-low n x p) ∙ h ∙ signed-high n y (not-more q) (iy .fits)))
     by (no p) (yes q) = absurd (pos-ne-negsuc y (2 ^ n - 1 - x) (sym (signed-low n y q) ∙ sym h ∙ signed-high n x (not-more p) (ix .fits)))
     by (no p) (no q) = omega (arith, ap mag (sym (signed-high n x (not-more p) (ix .fits)) ∙ h ∙ signed-high n y (not-more q) (iy .fits)), ix .fits, iy .fits)
+
+-- zero has no sign
+pub no-sign : (s : Bool) → signedSize s 0 ≡ pos 0
+unfolding signedSize
+no-sign false = refl
+no-sign true = refl
 
 pub absolute : (s : Bool) (v : ℕ) → natAbs (signedSize s v) ≡ v
 unfolding signedSize
@@ -268,22 +271,19 @@ pub negation-negates : (n w : ℕ) → IsWord n w → takum n (negated n w) ≡ 
 unfolding opposite
 negation-negates n w i = by (lies n w)
   where
-    twice : 2 ^ (n - 1) * 2 ≡ 2 ^ n
-    twice = pow-sum (n - 1) 1 n (omega (arith, i .least))
-
     back : 2 ^ n - (2 ^ n - w) ≡ w
     back = omega (arith, i .fits)
 
     by : Lies n w → takum n (negated n w) ≡ opposite (takum n w)
     by (at-zero q) = ap (λ (x : ℕ). takum n (negated n x)) q ∙ ap (takum n) (negated-zero n) ∙ takum-zero n ∙ sym (ap opposite (ap (takum n) q ∙ takum-zero n))
     by (above h b) =
-        ap (takum n) (negated-other n w h (i .fits)) ∙ takum-negative n (2 ^ n - w) (i .least) (i .most) (omega (arith, b, twice)) (omega (arith, h, pow-pos n))
+        ap (takum n) (negated-other n w h (i .fits)) ∙ takum-negative n (2 ^ n - w) (i .least) (i .most) (omega (arith, b, twice n (i .least))) (omega (arith, h, pow-pos n))
         ∙ ap (λ (x : ℕ). real (negℤ (pos (size (x * 2 ^ (64 - n)))))) back ∙ sym (ap opposite (takum-positive n w (i .least) (i .most) h b))
     by (at-NaR q) =
-        ap (takum n) (negated-other n w (omega (arith, q, pow-pos (n - 1))) (i .fits)) ∙ takum-NaR n (2 ^ n - w) (i .least) (i .most) (omega (arith, q, twice))
+        ap (takum n) (negated-other n w (omega (arith, q, pow-pos (n - 1))) (i .fits)) ∙ takum-NaR n (2 ^ n - w) (i .least) (i .most) (omega (arith, q, twice n (i .least)))
         ∙ sym (ap opposite (takum-NaR n w (i .least) (i .most) q))
     by (under b) =
-        ap (takum n) (negated-other n w (omega (arith, b)) (i .fits)) ∙ takum-positive n (2 ^ n - w) (i .least) (i .most) (omega (arith, i .fits)) (omega (arith, b, twice))
+        ap (takum n) (negated-other n w (omega (arith, b)) (i .fits)) ∙ takum-positive n (2 ^ n - w) (i .least) (i .most) (omega (arith, i .fits)) (omega (arith, b, twice n (i .least)))
         ∙ ap real (sym (negℤ-negℤ (pos (size ((2 ^ n - w) * 2 ^ (64 - n)))))) ∙ sym (ap opposite (takum-negative n w (i .least) (i .most) b (i .fits)))
 
 -- every value is below 2^255 in size

@@ -8,7 +8,7 @@ use lib.Signed.{ltZ}
 use Rattle.bounds.specs.declared.answer.Answer.{Answer}
 use Rattle.word.specs.declared.order.Comparison.{Comparison}
 use Rattle.word.specs.Takum.{Takum, real, NaR}
-use Rattle.bounds.specs.Refusals.{widthTest, strayTest, _then_, Decided}
+use Rattle.bounds.specs.Refusals.{widthTest, strayTest, wordTest, _then_, Decided}
 
 -- the word as an n-bit two's complement number
 unfoldable pub signed : ℕ → ℕ → ℤ
@@ -32,4 +32,4 @@ unfoldable pub Compares : ℕ → ℕ → ℕ → Comparison → Type 0
 Compares n x y a = Decided (widthTest n then strayTest n x then strayTest n y) (λ q. a ≡ Comparison.Refused q) (a ≡ Comparison.Is (order (signed n x) (signed n y)))
 
 unfoldable pub Negates : ℕ → ℕ → Answer → Type 0
-Negates n w a = Decided (widthTest n then strayTest n w) (λ q. a ≡ Answer.Refused q) (a ≡ Answer.Word (negated n w))
+Negates n w a = Decided (wordTest n w) (λ q. a ≡ Answer.Refused q) (a ≡ Answer.Word (negated n w))

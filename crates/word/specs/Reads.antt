@@ -4,7 +4,7 @@ use mathlib.Core.Bool.{Bool, true, false}
 use Prim.Native.Nat.{ℕ, suc, _+_, _*_, _^_, _≤_, _<_}
 use lib.IntN.{ℤ, pos, negsuc, negℤ, _+ℤ_, _-ℤ_}
 use Rattle.word.specs.declared.reading.Reading.{Reading}
-use Rattle.bounds.specs.Refusals.{widthTest, strayTest, _then_, Decided}
+use Rattle.bounds.specs.Refusals.{wordTest, Decided}
 use Rattle.word.specs.Takum.{Takum, real, NaR, takum, fractionBits}
 
 -- 2^k as a fraction of two whole numbers
@@ -42,4 +42,4 @@ IsReading meaning fraction-bits (Reading.Refused q) = ⊥
 
 -- ---- what the call answers
 unfoldable pub Reads : ℕ → ℕ → Reading → Type 0
-Reads n w a = Decided (widthTest n then strayTest n w) (λ q. a ≡ Reading.Refused q) (IsReading (takum n w) (fractionBits n w) a)
+Reads n w a = Decided (wordTest n w) (λ q. a ≡ Reading.Refused q) (IsReading (takum n w) (fractionBits n w) a)

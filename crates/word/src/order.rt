@@ -18,10 +18,7 @@ pub enum Comparison {
 pub fn compare(width: Width, x: u64, y: u64) -> Comparison
     ensures { λ r. ⌜ Compares (width .bits) x y r ⌝ }
 {
-    let verdict = width
-        .test()
-        .then(width.test_word(x))
-        .then(width.test_word(y));
+    let verdict = width.test_word(x).then(width.test_word(y));
     if let Verdict::Refused(q) = verdict {
         return Comparison::Refused(q);
     }
@@ -33,7 +30,7 @@ pub fn compare(width: Width, x: u64, y: u64) -> Comparison
 pub fn negate(width: Width, word: u64) -> Answer
     ensures { λ r. ⌜ Negates (width .bits) word r ⌝ }
 {
-    let verdict = width.test().then(width.test_word(word));
+    let verdict = width.test_word(word);
     if let Verdict::Refused(q) = verdict {
         return Answer::Refused(q);
     }

@@ -28,7 +28,7 @@ pub enum Reading {
 pub fn read(width: Width, word: u64) -> Reading
     ensures { λ r. ⌜ Reads (width .bits) word r ⌝ }
 {
-    let verdict = width.test().then(width.test_word(word));
+    let verdict = width.test_word(word);
     if let Verdict::Refused(q) = verdict {
         return Reading::Refused(q);
     }

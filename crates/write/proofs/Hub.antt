@@ -10,19 +10,19 @@ use lib.Pow.{pow-pos, pow-mono, shr-lt}
 use Rattle.word.specs.Takum.{S}
 use Rattle.word.specs.Reads.{num, den}
 use Rattle.bounds.proofs.Powers.{pow-sum, shl-below, shr-none}
-use Rattle.word.proofs.Sizes.{size, size-above, size-below}
+use Rattle.word.proofs.Sizes.{size-above, size-below}
 use Rattle.word.proofs.Values.{grown, grown-suc}
 use Rattle.write.specs.declared.size.Rest.{Rest}
 use Rattle.write.specs.declared.size.Side.{Side}
 use Rattle.write.specs.declared.size.Start.{Start}
 use Rattle.write.specs.Writes.{HasValue, Nearest}
-use Rattle.write.specs.Offers.{Begins, firstBits, Amounts, IsOffered, IsNearest, IsRaised, Tells, TellsMidpoint, chosenOf}
+use Rattle.write.specs.Offers.{Begins, firstBits, Amounts, IsOffered, IsNearest, IsRaised, Tells, chosenOf}
 use Rattle.write.proofs.Exponents.{offset-up, offset-down}
 use Rattle.write.proofs.Halves.{within}
 use Rattle.write.proofs.Nearest.{NearestPlace, at-first, at-last, nearer-below, nearer-above, midway}
 use Rattle.write.proofs.Strings.{binade-of}
 use Rattle.write.proofs.Floors.{floorString, floor-lt, word-low, word-high}
-use Rattle.write.proofs.Sides.{floor-is}
+use Rattle.write.proofs.Sides.{TellsMidpoint, floor-is}
 use Rattle.write.proofs.Places.{increasing, two, wordOf, has-value, to-word}
 
 -- a start leaves room for its sign

@@ -1,6 +1,6 @@
 -- A whole number with its top bit moved to 2^63, and the exponent that makes up for it. Assumes nothing.
 use mathlib.Core.Path.{_≡_, sym, ap, _∙_, subst₂}
-use Prim.Native.Nat.{ℕ, zero, suc, _+_, _-_, _*_, _%_, _^_, _≤_, _<_}
+use Prim.Native.Nat.{ℕ, zero, suc, _-_, _*_, _%_, _^_, _≤_, _<_}
 use native.Mathlib.Nat.{le-of-suc-le-suc, le-trans, le-of-eq, mul-le-mul-right}
 use native.Mathlib.Omega.{arith}
 use lib.Count.{leadingZeros}

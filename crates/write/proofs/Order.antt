@@ -9,14 +9,14 @@ use borrow.Author.Tests.{ltb-true}
 use lib.IntN.{ℤ, pos, negsuc, natAbs, pos-ne-negsuc}
 use lib.Pow.{pow-pos}
 use lib.Signed.{ltZ}
+use Rattle.bounds.proofs.Powers.{twice}
 use Rattle.word.specs.Orders.{signed, order}
 use Rattle.word.specs.Reads.{signedSize}
 use Rattle.word.proofs.Signed.{signed-low, signed-high}
-use Rattle.word.proofs.Values.{grown, grown-lt}
+use Rattle.word.proofs.Values.{grown, grown-lt, no-sign}
 use Rattle.write.specs.Writes.{IsRounded, zero, other, AtMost}
 use Rattle.write.proofs.Nearest.{NearestPlace, place-order}
-use Rattle.write.proofs.Rules.{no-sign}
-use Rattle.write.proofs.Places.{twice, wordOf, from-word}
+use Rattle.write.proofs.Places.{wordOf, from-word}
 
 -- ---- the order of signed sizes
 greater : (x y : ℤ) → order x y ≡ pos 1 → ltZ y x ≡ true
@@ -57,7 +57,7 @@ module _ (n : ℕ) (lo : 2 ≤ n) (hi : n ≤ 64) where
   signed-word : (s : Bool) (v : ℕ) → 0 < v → v < 2 ^ (n - 1) → signed n (wordOf n s v) ≡ signedSize s v
   unfolding wordOf signedSize
   signed-word false v f l = signed-low n v l
-  signed-word true (suc i) f l = signed-high n (2 ^ n - suc i) (omega (arith, l, twice n lo hi)) (omega (arith, l, twice n lo hi)) ∙ ap negsuc (omega (arith, l, twice n lo hi))
+  signed-word true (suc i) f l = signed-high n (2 ^ n - suc i) (omega (arith, l, twice n lo)) (omega (arith, l, twice n lo)) ∙ ap negsuc (omega (arith, l, twice n lo))
   signed-word true zero f l = absurd (omega (arith, f))
 
   at : (s : Bool) (a b w : ℕ) → IsRounded n s a b w → At s a b w

@@ -2,7 +2,7 @@
 -- Assumes nothing.
 use mathlib.Core.Path.{_≡_, refl, sym, ap, _∙_, subst}
 use mathlib.Core.Bool.{Bool, true, false}
-use mathlib.Core.Logic.{_⊎_, inl, inr, ⊎-elim}
+use mathlib.Core.Logic.{inl, inr, ⊎-elim}
 use Prim.Native.Nat.{ℕ, zero, _-_, _*_, _%_, _^_, _≤_, _<_, zero-le}
 use native.Mathlib.Nat.{lt-irrefl, lt-of-le-of-lt}
 use native.Mathlib.Omega.{arith}
@@ -10,7 +10,7 @@ use lib.IntN.{pos, negℤ, natAbs}
 use lib.Pow.{pow-pos, pow-mono}
 use Rattle.word.specs.Takum.{takum, real}
 use Rattle.word.specs.Reads.{signedSize}
-use Rattle.bounds.proofs.Powers.{pow-sum}
+use Rattle.bounds.proofs.Powers.{twice}
 use Rattle.word.proofs.Sizes.{size}
 use Rattle.word.proofs.Words.{Lies, at-zero, above, at-NaR, under, lies, takum-zero, takum-positive, takum-NaR, takum-negative}
 use Rattle.word.proofs.Values.{real-inj, not-NaR, grown, grown-suc, grown-lt}
@@ -27,26 +27,23 @@ module _ (n : ℕ) (lo : 2 ≤ n) (hi : n ≤ 64) where
   pub two : 2 ≤ 2 ^ (n - 1)
   two = pow-mono {i = 1} {j = n - 1} (omega arith)
 
-  pub twice : 2 ^ (n - 1) * 2 ≡ 2 ^ n
-  twice = pow-sum (n - 1) 1 n (omega arith)
-
   pub has-value : (s : Bool) (v : ℕ) → zero < v → v < 2 ^ (n - 1) → HasValue n s (grown n v) (wordOf n s v)
   unfolding wordOf signedSize
   has-value false v h b =
       record {
-        word = record { least = lo; most = hi; fits = omega (arith, b, twice) };
+        word = record { least = lo; most = hi; fits = omega (arith, b, twice n lo) };
         means = takum-positive n v lo hi h b ∙ ap (λ (x : ℕ). real (pos x)) (sym (grown-suc n v h));
       }
   has-value true v h b =
       record {
         word = record { least = lo; most = hi; fits = omega (arith, h, pow-pos n) };
         means =
-            takum-negative n (2 ^ n - v) lo hi (omega (arith, b, twice)) (omega (arith, h, pow-pos n))
+            takum-negative n (2 ^ n - v) lo hi (omega (arith, b, twice n lo)) (omega (arith, h, pow-pos n))
             ∙ ap (λ (x : ℕ). real (negℤ (pos x))) (ap (λ (y : ℕ). size (y * 2 ^ (64 - n))) back ∙ sym (grown-suc n v h));
       }
     where
       back : 2 ^ n - (2 ^ n - v) ≡ v
-      back = omega (arith, b, twice)
+      back = omega (arith, b, twice n lo)
 
   pub record Place (s : Bool) (z w : ℕ) : Type 0 where
     pub v : ℕ
@@ -70,7 +67,7 @@ module _ (n : ℕ) (lo : 2 ≤ n) (hi : n ≤ 64) where
           record {
             v = 2 ^ n - w;
             first = omega (arith, x .word .fits);
-            last = omega (arith, b, twice);
+            last = omega (arith, b, twice n lo);
             size-is = t .1 ∙ sym (grown-suc n (2 ^ n - w) (omega (arith, x .word .fits)));
             word-is = subst (λ (s : Bool). w ≡ wordOf n s (2 ^ n - w)) (sym (t .0)) (omega (arith, x .word .fits));
           }
@@ -86,12 +83,12 @@ module _ (n : ℕ) (lo : 2 ≤ n) (hi : n ≤ 64) where
   word-inj : (s : Bool) (u v : ℕ) → u < 2 ^ (n - 1) → v < 2 ^ (n - 1) → wordOf n s u ≡ wordOf n s v → u ≡ v
   unfolding wordOf
   word-inj false u v hu hv q = q
-  word-inj true u v hu hv q = omega (arith, q, hu, hv, twice)
+  word-inj true u v hu hv q = omega (arith, q, hu, hv, twice n lo)
 
   parity : (s : Bool) (v : ℕ) → v < 2 ^ (n - 1) → wordOf n s v % 2 ≡ v % 2
   unfolding wordOf
   parity false v b = refl
-  parity true v b = omega (arith, twice, b)
+  parity true v b = omega (arith, twice n lo, b)
 
   -- the nearest word is the word of the nearest place
   pub to-word : (s : Bool) (a b v : ℕ) → NearestPlace (grown n) (2 ^ (n - 1)) a b v → Nearest n s a b (wordOf n s v)

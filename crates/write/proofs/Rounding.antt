@@ -8,6 +8,7 @@ use native.Mathlib.Decide.{decLe}
 use native.Mathlib.Omega.{arith}
 use Rattle.word.specs.Orders.{negated}
 use Rattle.bounds.specs.declared.answer.Answer.{Answer}
+use Rattle.bounds.proofs.Powers.{twice}
 use Rattle.word.proofs.Signed.{negated-zero, negated-other}
 use Rattle.word.proofs.Values.{grown, words-differ}
 use Rattle.word.specs.Takum.{real}
@@ -15,7 +16,7 @@ use Rattle.word.specs.Reads.{signedSize}
 use Rattle.write.specs.declared.value.Rule.{Rule}
 use Rattle.write.specs.Writes.{HasValue, Nearest, IsRounded, zero, other, IsExact, IsWritten}
 use Rattle.write.proofs.Nearest.{at-first, at-last, midway}
-use Rattle.write.proofs.Places.{increasing, two, twice, wordOf, Place, place-of, value-is, to-word, from-word, nearest-exists, nearest-one}
+use Rattle.write.proofs.Places.{increasing, two, wordOf, Place, place-of, value-is, to-word, from-word, nearest-exists, nearest-one}
 use Rattle.write.proofs.Rules.{zero-value}
 use Rattle.write.proofs.Signs.{exact-nearest}
 
@@ -41,7 +42,7 @@ module _ (n : ℕ) (lo : 2 ≤ n) (hi : n ≤ 64) where
     where
       by : (s : Bool) (v : ℕ) → 0 < v → v < 2 ^ (n - 1) → w ≡ wordOf n s v → (w ≡ 0 → ⊥) × (w ≡ 2 ^ (n - 1) → ⊥)
       by false v f l q = (λ e. omega (arith, f, q, e), λ e. omega (arith, l, q, e))
-      by true v f l q = (λ e. omega (arith, f, l, q, e, twice n lo hi), λ e. omega (arith, l, q, e, twice n lo hi))
+      by true v f l q = (λ e. omega (arith, f, l, q, e, twice n lo), λ e. omega (arith, l, q, e, twice n lo))
 
   -- ---- past either end the end word
   pub past-the-largest : (s : Bool) (z a b w : ℕ) → 0 < b → HasValue n false z (2 ^ (n - 1) - 1) → z * b ≤ a → Nearest n s a b w → w ≡ wordOf n s (2 ^ (n - 1) - 1)
@@ -100,8 +101,8 @@ module _ (n : ℕ) (lo : 2 ≤ n) (hi : n ≤ 64) where
       subst (Nearest n (not s) a b) (sym (ap (negated n) (t .2) ∙ by s (t .0) (t .1 .first) (t .1 .last))) (to-word n lo hi (not s) a b (t .0) (t .1))
     where
       by : (s : Bool) (v : ℕ) → 0 < v → v < 2 ^ (n - 1) → negated n (wordOf n s v) ≡ wordOf n (not s) v
-      by false v f l = negated-other n v f (omega (arith, l, twice n lo hi))
-      by true v f l = negated-other n (2 ^ n - v) (omega (arith, l, twice n lo hi)) (omega (arith, f, l, twice n lo hi)) ∙ omega (arith, l, twice n lo hi)
+      by false v f l = negated-other n v f (omega (arith, l, twice n lo))
+      by true v f l = negated-other n (2 ^ n - v) (omega (arith, l, twice n lo)) (omega (arith, f, l, twice n lo)) ∙ omega (arith, l, twice n lo)
 
   pub rounded-negated : (s : Bool) (a b w : ℕ) → IsRounded n s a b w → IsRounded n (not s) a b (negated n w)
   rounded-negated s a b w (zero q e) = zero q (ap (negated n) e ∙ negated-zero n)

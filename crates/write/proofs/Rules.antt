@@ -11,6 +11,7 @@ use Rattle.word.specs.Takum.{Takum, real}
 use Rattle.word.specs.Reads.{num, den, IsSize, IsNumber, signedSize}
 use Rattle.bounds.specs.declared.answer.Answer.{Answer}
 use Rattle.bounds.specs.declared.refusal.Refusal.{Refusal}
+use Rattle.word.proofs.Values.{no-sign}
 use Rattle.word.proofs.Words.{takum-zero}
 use Rattle.write.specs.declared.value.Rule.{Rule}
 use Rattle.write.specs.declared.size.Rest.{Rest}
@@ -20,12 +21,6 @@ use Rattle.write.proofs.Exponents.{unit-some}
 use Rattle.write.proofs.Places.{nearest-one}
 use Rattle.write.proofs.Scales.{plain-offer, written-times}
 use Rattle.write.proofs.Signs.{signed-nearest, nearest-positive, exact-some, exact-nearest}
-
--- zero has no sign
-pub no-sign : (s : Bool) → signedSize s 0 ≡ pos 0
-unfolding signedSize
-no-sign false = refl
-no-sign true = refl
 
 -- zero is the zero word by either rule, whichever its sign
 pub zero-value : (n : ℕ) → 2 ≤ n → n ≤ 64 → (s : Bool) → HasValue n s 0 0

@@ -21,13 +21,18 @@ use Rattle.write.specs.declared.size.Rest.{Rest}
 use Rattle.write.specs.declared.size.Side.{Side}
 use Rattle.write.specs.declared.size.Start.{Start}
 use Rattle.write.specs.Writes.{HasValue}
-use Rattle.write.specs.Offers.{Begins, firstBits, IsOffered, IsRaised, Tells, TellsHalf, TellsPowers, TellsMidpoint, chosenOf, ChoosesByCut}
+use Rattle.write.specs.Offers.{Begins, firstBits, IsOffered, IsRaised, Tells, TellsHalf, TellsPowers, chosenOf, ChoosesByCut}
 use Rattle.write.proofs.Exponents.{raised-inj, unit-law, unit-some}
 use Rattle.write.proofs.Halves.{cancel}
 use Rattle.write.proofs.Strings.{Binade, binade-of, string-regime}
 use Rattle.write.proofs.Floors.{cutFraction, floorString, cut-lt, fine-side, floor-size-low}
 use Rattle.write.proofs.Coarse.{headOf, raisedAt, raised-is, raised-lt, near-enough, low-power, high-power, regime-kept}
 use Rattle.write.proofs.Places.{value-is}
+
+-- the size against the midpoint of the words low and low + 1
+unfoldable pub TellsMidpoint : ℕ → ℕ → ℕ → ℕ → Rest → Side → Type 0
+TellsMidpoint n low e m rest side =
+    (h : ℤ) (a b z z' : ℕ) → IsRaised h e → 0 < b → IsOffered m rest (h -ℤ pos 63) a b → HasValue n false z low → HasValue n false z' (low + 1) → Tells side (2 * a) ((z + z') * b)
 
 pub floor-is : (start : Start) (m : ℕ) → start .r ≤ 7 → firstBits start m ≡ floorString (start .bits) (59 - start .r) m
 unfolding firstBits floorString cutFraction

@@ -1,7 +1,7 @@
 -- With the other sign, the word of the same place: nearest and exact go over. A word with exactly the value is the nearest. Assumes nothing.
 use mathlib.Core.Path.{_≡_, refl, sym, ap, _∙_, subst}
 use mathlib.Core.Bool.{Bool, true, false, cond}
-use mathlib.Core.Logic.{_⊎_, inl, ⊎-elim}
+use mathlib.Core.Logic.{inl, ⊎-elim}
 use Prim.Native.Nat.{ℕ, zero, suc, _+_, _-_, _*_, _^_, _≤_, _<_, zero-le}
 use native.Mathlib.Nat.{le-of-eq, le-trans, sub-self, eq-of-mul-eq-mul-right, eq-or-lt-of-le, zero-mul}
 use native.Mathlib.Omega.{arith}
@@ -13,13 +13,13 @@ use Rattle.word.specs.Orders.{negated}
 use Rattle.word.specs.Reads.{signedSize}
 use Rattle.word.specs.Sizes.{withoutSign}
 use lib.Pow.{pow-pos}
-use Rattle.bounds.proofs.Powers.{pow-sum}
+use Rattle.bounds.proofs.Powers.{twice}
 use Rattle.word.proofs.Signed.{negated-other}
-use Rattle.word.proofs.Values.{grown, words-differ}
+use Rattle.word.proofs.Values.{words-differ}
 use Rattle.write.specs.Writes.{HasValue, distance, Nearest, IsExact}
 use Rattle.write.specs.Offers.{withSign}
 use Rattle.write.proofs.Nearest.{distance-below, distance-above, either-side}
-use Rattle.write.proofs.Places.{twice, wordOf, Place, has-value, value-is, place-of, to-word, from-word, nearest-one}
+use Rattle.write.proofs.Places.{wordOf, has-value, value-is, to-word, from-word}
 
 -- the distance is nothing only from the number itself
 no-distance : (a x : ℕ) → distance a x ≡ 0 → x ≡ a
@@ -32,7 +32,7 @@ module _ (n : ℕ) (lo : 2 ≤ n) (hi : n ≤ 64) where
   pub signed-word : (s : Bool) (v w : ℕ) → zero < v → v < 2 ^ (n - 1) → w ≡ wordOf n false v → wordOf n s v ≡ withSign n s w
   unfolding wordOf withSign
   signed-word false v w h b q = sym q
-  signed-word true v w h b q = sym (ap (negated n) q ∙ negated-other n v h (omega (arith, b, pow-sum (n - 1) 1 n (omega arith))))
+  signed-word true v w h b q = sym (ap (negated n) q ∙ negated-other n v h (omega (arith, b, twice n lo)))
 
   -- the word without its sign is a positive one
   pub unsigned-word : (w : ℕ) → IsWord n w → zero < w → (w ≡ 2 ^ (n - 1) → ⊥) → IsWord n (withoutSign (2 ^ (n - 1)) w) × (zero < withoutSign (2 ^ (n - 1)) w) × (withoutSign (2 ^ (n - 1)) w < 2 ^ (n - 1))
@@ -40,12 +40,12 @@ module _ (n : ℕ) (lo : 2 ≤ n) (hi : n ≤ 64) where
   unsigned-word w i h f = by (ltb w (2 ^ (n - 1))) refl
     where
       positive : (x : ℕ) → zero < x → x < 2 ^ (n - 1) → IsWord n x × (zero < x) × (x < 2 ^ (n - 1))
-      positive x some less = (record { least = lo; most = hi; fits = omega (arith, less, twice n lo hi) }, some, less)
+      positive x some less = (record { least = lo; most = hi; fits = omega (arith, less, twice n lo) }, some, less)
 
       by : (b : Bool) → ltb w (2 ^ (n - 1)) ≡ b → IsWord n (cond b w (2 ^ (n - 1) + 2 ^ (n - 1) - w)) × (zero < cond b w (2 ^ (n - 1) + 2 ^ (n - 1) - w)) × (cond b w (2 ^ (n - 1) + 2 ^ (n - 1) - w) < 2 ^ (n - 1))
       by true q = positive w h (ltb-true w (2 ^ (n - 1)) q)
       by false q =
-          positive (2 ^ (n - 1) + 2 ^ (n - 1) - w) (omega (arith, i .fits, twice n lo hi))
+          positive (2 ^ (n - 1) + 2 ^ (n - 1) - w) (omega (arith, i .fits, twice n lo))
           (⊎-elim (λ (e : 2 ^ (n - 1) ≡ w). absurd (f (sym e))) (λ (e : 2 ^ (n - 1) < w). omega (arith, e, pow-pos (n - 1))) (eq-or-lt-of-le (ltb-false w (2 ^ (n - 1)) q)))
 
   -- a word has the size of the word without its sign
@@ -58,7 +58,7 @@ module _ (n : ℕ) (lo : 2 ≤ n) (hi : n ≤ 64) where
       by false q y =
           let over : 2 ^ (n - 1) < w = above (ltb-false w (2 ^ (n - 1)) q) in
           let u = 2 ^ (n - 1) + 2 ^ (n - 1) - w in
-          let first : zero < u = omega (arith, i .fits, twice n lo hi) in
+          let first : zero < u = omega (arith, i .fits, twice n lo) in
           let last : u < 2 ^ (n - 1) = omega (arith, over) in
           rw (lt-ltb (2 ^ (n - 1)) w over) (ap (takum n) (back over) ∙ has-value n lo hi true u first last .means ∙ ap (λ (z : ℕ). real (signedSize true z)) (sym (value-is n lo hi v u first last y)))
         where
@@ -66,7 +66,7 @@ module _ (n : ℕ) (lo : 2 ≤ n) (hi : n ≤ 64) where
           above l = ⊎-elim (λ (e : 2 ^ (n - 1) ≡ w). absurd (f (sym e))) (λ (e : 2 ^ (n - 1) < w). e) (eq-or-lt-of-le l)
 
           back : 2 ^ (n - 1) < w → w ≡ 2 ^ n - (2 ^ (n - 1) + 2 ^ (n - 1) - w)
-          back l = omega (arith, l, i .fits, twice n lo hi)
+          back l = omega (arith, l, i .fits, twice n lo)
 
   pub signed-nearest : (s : Bool) (a b w : ℕ) → Nearest n false a b w → Nearest n s a b (withSign n s w)
   signed-nearest s a b w x =

@@ -13,10 +13,10 @@ use Rattle.bounds.specs.Refusals.{IsWord}
 use Rattle.word.specs.Reads.{IsSize, signedSize}
 use Rattle.word.specs.Sizes.{withoutSign, Sizes}
 use Rattle.word.specs.Takum.{takum, real, p, F, c}
-use Rattle.bounds.proofs.Powers.{pow-sum}
+use Rattle.bounds.proofs.Powers.{pow-sum, twice}
 use Rattle.word.proofs.Values.{real-inj, absolute}
 use Rattle.write.specs.Writes.{HasValue}
-use Rattle.write.proofs.Places.{twice, wordOf, Place, place-of}
+use Rattle.write.proofs.Places.{wordOf, place-of}
 use Rattle.write.proofs.Signs.{unsigned-word, unsigned-value}
 use Rattle.write.proofs.Tops.{significand, has-size}
 
@@ -37,7 +37,7 @@ shifted-mirror nar w u some = ap (λ (b : Bool). cond b (w * u) (nar * u + nar *
     by true = refl
     by false = ap (λ (x : ℕ). x - w * u) (sym (add-mul nar nar u)) ∙ ap₂ (λ (x y : ℕ). x - y) (mul-comm (nar + nar) u) (mul-comm w u) ∙ sym (mul-sub u (nar + nar) w) ∙ mul-comm u (nar + nar - w)
 
-nar-shifted : (n : ℕ) → 2 ≤ n → n ≤ 64 → 2 ^ (n - 1) * 2 ^ (64 - n) ≡ 2 ^ 63
+pub nar-shifted : (n : ℕ) → 2 ≤ n → n ≤ 64 → 2 ^ (n - 1) * 2 ^ (64 - n) ≡ 2 ^ 63
 nar-shifted n lo hi = pow-sum (n - 1) (64 - n) 63 (omega (arith, lo, hi))
 
 module _ (n w : ℕ) (i : IsWord n w) where
@@ -89,7 +89,7 @@ module _ (n : ℕ) (lo : 2 ≤ n) (hi : n ≤ 64) (negative : Bool) (z w : ℕ) 
     where
       by : (s : Bool) (v : ℕ) → zero < v → v < 2 ^ (n - 1) → w ≡ wordOf n s v → (zero < w) × (w ≡ 2 ^ (n - 1) → ⊥)
       by false v first last q = (omega (arith, q, first), λ e. omega (arith, q, last, e))
-      by true v first last q = (omega (arith, q, last, twice n lo hi), λ e. omega (arith, q, last, e, twice n lo hi))
+      by true v first last q = (omega (arith, q, last, twice n lo), λ e. omega (arith, q, last, e, twice n lo))
 
   pub has-form : (s : Size) → Sizes (w * 2 ^ (64 - n)) s → (2 ^ 63 ≤ s .m) × IsSize (s .m) (s .h -ℤ pos 63) z
   has-form s x =

@@ -87,11 +87,6 @@ IsRaised h e = h +ℤ pos 255 ≡ pos e
 unfoldable pub TellsPowers : ℕ → ℕ → ℕ → ℕ → Rest → Side → Type 0
 TellsPowers i j e m rest side = (unit a : ℕ) → 0 < unit → Amounts m rest a unit → (y z : ℕ) → y * 2 ^ e ≡ 2 ^ (63 + i) * unit → z * 2 ^ e ≡ 2 ^ (63 + j) * unit → Tells side (2 * a) (y + z)
 
--- the size against the midpoint of the words low and low + 1
-unfoldable pub TellsMidpoint : ℕ → ℕ → ℕ → ℕ → Rest → Side → Type 0
-TellsMidpoint n low e m rest side =
-    (h : ℤ) (a b z z' : ℕ) → IsRaised h e → 0 < b → IsOffered m rest (h -ℤ pos 63) a b → HasValue n false z low → HasValue n false z' (low + 1) → Tells side (2 * a) ((z + z') * b)
-
 -- what is written for the size m * 2^(h - 63) with its sign
 unfoldable pub WritesSize : ℕ → Rule → Bool → ℤ → ℕ → Answer → Type 0
 WritesSize n rule negative h m r = (a b : ℕ) → 0 < a → 0 < b → IsOffered m Rest.Nothing (h -ℤ pos 63) a b → IsWritten n rule negative a b r

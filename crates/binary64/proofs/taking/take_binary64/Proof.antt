@@ -13,13 +13,13 @@ use mir.Syntax.{w32}
 use mir.Val.{SFits, toZ, ofZ}
 use Rattle.bounds.specs.declared.refusal.Verdict.{Verdict}
 use Rattle.word.specs.declared.size.Size.{Size}
-use Rattle.bounds.specs.Refusals.{widthTest, strayTest, _then_, IsWord, through, refused}
+use Rattle.bounds.specs.Refusals.{wordTest, IsWord, through, refused}
 use Rattle.word.specs.Takum.{Takum, takum}
 use Rattle.word.specs.Reads.{IsNumber}
 use Rattle.word.specs.Sizes.{Sizes}
 use Rattle.word.proofs.Numbers.{characteristic-of-string}
 use Rattle.bounds.proofs.Powers.{pow-sum}
-use Rattle.bounds.proofs.Verdicts.{told-word, word-through}
+use Rattle.bounds.proofs.Verdicts.{word-through}
 use Rattle.word.proofs.Words.{takum-zero, takum-NaR}
 use Rattle.write.proofs.Sized.{shifted-is, NaR-at-top, word-sized}
 use Rattle.binary64.specs.declared.taking.Binary64.{Binary64}
@@ -30,19 +30,19 @@ use Rattle.binary64.proofs.Taken.{zero-taken, number-taken}
 use Rattle.binary64.proofs.taking.take_binary64.Statement.{statement}
 use Rattle.binary64.proofs.taking.take_binary64.Tie as tie
 
--- the verdict as the tests in their order
-told : (c : tie.After-then) {u : Verdict} → c .then .result ≡ u → widthTest (c .before .before .before .args .width .bits) then strayTest (c .before .before .before .args .width .bits) (c .before .before .before .args .word) ≡ u
-told c h = told-word _ _ (c .before .before .test .ensures) (c .before .test-word .ensures) (c .then .ensures) h
+-- what the verdict tells of the word
+told : (c : tie.After-test-word) {u : Verdict} → c .test-word .result ≡ u → wordTest (c .before .args .width .bits) (c .before .args .word) ≡ u
+told c h = sym (c .test-word .ensures) ∙ h
 
 -- a word that was let through
 module _ (g : tie.After-enum-told) where
   abbrev n : ℕ
-  n = g .before .before .before .before .before .args .width .bits
+  n = g .before .before .before .args .width .bits
 
   abbrev word : ℕ
-  word = g .before .before .before .before .before .args .word
+  word = g .before .before .before .args .word
 
-  let-through : widthTest n then strayTest n word ≡ Verdict.Through
+  let-through : wordTest n word ≡ Verdict.Through
   let-through = told (g .before .before) (g .enum-told .given .1)
 
   is-word : IsWord n word
@@ -92,14 +92,8 @@ module _ (c : tie.After-struct-told) where
       ap (λ (y : ℕ). size .m / 2 ^ 11 * y) (sym (pow-sum 11 (up .0) (up .0 + 11) (omega arith))) ∙ sym (mul-assoc (size .m / 2 ^ 11) (2 ^ 11) (2 ^ up .0))
       ∙ ap (λ (m : ℕ). m * 2 ^ up .0) (lowest-zero (n g) (word g) (is-word g) (omega (arith, h)) size (subst (λ (t : ℕ). Sizes t size) (shifted-is (n g) (word g) (is-word g)) (k .size-of .ensures)))
 
-test-requires : tie.Need-test-requires
-test-requires c κs = search needs
-
 test-word-requires : tie.Need-test-word-requires
 test-word-requires c κs = search needs
-
-then-requires : tie.Need-then-requires
-then-requires c κs = search needs
 
 enum-known-verdict : tie.Need-enum-known-verdict
 enum-known-verdict c = search needs
@@ -163,9 +157,7 @@ pub take-binary64-spec : {M : Type 1} → statement M
 take-binary64-spec =
     tie.close
     (tie.spec
-    test-requires
     test-word-requires
-    then-requires
     enum-known-verdict
     returns
     enum-told

@@ -1,5 +1,5 @@
 -- `exponent` is safe: so near to the origin, the difference fits 32 bits. Assumes nothing.
-use mathlib.Core.Path.{sym, ap, subst}
+use mathlib.Core.Path.{sym, subst}
 use Prim.Native.Nat.{ℕ, _≤_}
 use native.Mathlib.Omega.{arith}
 use borrow.Author.Needs.{needs}

@@ -5,9 +5,9 @@ use native.Mathlib.Nat.{le-refl}
 use borrow.Author.Needs.{needs}
 use lib.ListN.{length}
 use Rattle.bounds.specs.declared.refusal.Verdict.{Verdict}
-use Rattle.bounds.specs.Refusals.{widthTest, _then_, through, refused}
+use Rattle.bounds.specs.Refusals.{widthTest, _then_, through, refused, roomTest}
 use Rattle.bounds.proofs.Verdicts.{told-three, then-through}
-use Rattle.column.specs.Columns.{roomTest, MovesColumn, Holds}
+use Rattle.column.specs.Columns.{MovesColumn, Holds}
 use Rattle.column.proofs.Rooms.{room-through}
 use Rattle.column.proofs.Outcomes.{every-word-movable, nothing-written}
 use Rattle.column.proofs.Walks.{all-tried}

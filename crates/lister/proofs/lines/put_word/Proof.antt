@@ -1,6 +1,5 @@
 -- `put_word` meets its contract. Assumes nothing.
 use mathlib.Core.Path.{refl}
-use Prim.Native.Nat.{_/_}
 use native.Mathlib.Omega.{arith}
 use Rattle.lister.specs.Puts.{PutsSome}
 use Rattle.lister.specs.Text.{IsWordText, hexOf, space, newline}

@@ -1,9 +1,9 @@
 -- `put_digits` meets its contract. The invariant of its loop: the digits from the last one on stand, and the rest of the number gives those in
 -- front of them. Assumes nothing.
-use mathlib.Core.Path.{_≡_, refl, sym, ap, ap₂, _∙_, subst}
-use mathlib.Core.List.{List, _∷_, _++_}
-use Prim.Native.Nat.{ℕ, suc, _+_, _-_, _/_, _%_, _^_, _≤_, _<_}
-use native.Mathlib.Nat.{le-refl, le-trans, le-of-lt, mod-lt, lt-of-lt-of-le, lt-trans}
+use mathlib.Core.Path.{_≡_, refl, ap, ap₂, _∙_, subst}
+use mathlib.Core.List.{List, _++_}
+use Prim.Native.Nat.{ℕ, _+_, _-_, _/_, _%_, _^_, _≤_, _<_}
+use native.Mathlib.Nat.{le-refl, mod-lt, lt-of-lt-of-le, lt-trans}
 use native.Mathlib.Omega.{arith}
 use borrow.Author.Count.{falls-down}
 use borrow.Author.Needs.{needs}

@@ -1,6 +1,6 @@
 -- `test_room` meets its contract. Assumes nothing.
 use Rattle.bounds.specs.declared.refusal.Refusal.{Refusal}
-use Rattle.sheet.specs.Reads.{roomTest}
+use Rattle.bounds.specs.Refusals.{roomTest}
 use Rattle.sheet.proofs.Tests.{at-most, past}
 use borrow.Author.Needs.{needs}
 use Rattle.sheet.proofs.testing.test_room.Statement.{statement}

@@ -9,8 +9,6 @@ use lib.IntN.{pos}
 use lib.Pow.{split}
 use mir.Facts.{toZ-ofZ}
 use mir.Syntax.{w64}
-use Rattle.word.specs.Reads.{signedSize}
-use Rattle.whole.specs.declared.taking.Whole.{Whole}
 use Rattle.whole.specs.Parts.{byRule, TakesSize}
 use Rattle.whole.proofs.Takings.{kept, takes-past, kept-some, takes-over, takes-inside}
 use Rattle.whole.proofs.taking.take_size.Statement.{statement}

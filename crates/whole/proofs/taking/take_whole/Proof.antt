@@ -15,12 +15,12 @@ use mir.Val.{Fits, SFits, toZ, ofZ}
 use Rattle.bounds.specs.declared.refusal.Refusal.{Refusal}
 use Rattle.bounds.specs.declared.refusal.Verdict.{Verdict}
 use Rattle.word.specs.declared.size.Size.{Size}
-use Rattle.bounds.specs.Refusals.{widthTest, strayTest, _then_, IsWord, through, refused}
+use Rattle.bounds.specs.Refusals.{wordTest, IsWord, through, refused}
 use Rattle.word.specs.Takum.{Takum, real, takum, c, characteristicOf, C, D, R, r, regimeOf, p}
 use Rattle.word.specs.Reads.{IsSize, signedSize}
 use Rattle.word.specs.Sizes.{withoutSign, Sizes}
 use Rattle.word.proofs.Casts.{tested, not-negative, is-negative, plain-value}
-use Rattle.bounds.proofs.Verdicts.{told-word, word-through}
+use Rattle.bounds.proofs.Verdicts.{word-through}
 use Rattle.word.proofs.Words.{takum-zero, takum-NaR}
 use Rattle.write.specs.Writes.{isNegative}
 use Rattle.write.proofs.Sized.{NaR-at-top, word-sized}
@@ -33,19 +33,19 @@ use Rattle.whole.proofs.WholeValues.{valueOf, exactly, taken-as-itself}
 use Rattle.whole.proofs.taking.take_whole.Statement.{statement}
 use Rattle.whole.proofs.taking.take_whole.Tie as tie
 
--- the verdict as the tests in their order
-told : (c : tie.After-then) {u : Verdict} → c .then .result ≡ u → widthTest (c .before .before .before .args .width .bits) then strayTest (c .before .before .before .args .width .bits) (c .before .before .before .args .word) ≡ u
-told c h = told-word _ _ (c .before .before .test .ensures) (c .before .test-word .ensures) (c .then .ensures) h
+-- what the verdict tells of the word
+told : (c : tie.After-test-word) {u : Verdict} → c .test-word .result ≡ u → wordTest (c .before .args .width .bits) (c .before .args .word) ≡ u
+told c h = sym (c .test-word .ensures) ∙ h
 
 -- a word that was let through
 module _ (g : tie.After-enum-told) where
   abbrev n : ℕ
-  n = g .before .before .before .before .before .args .width .bits
+  n = g .before .before .before .args .width .bits
 
   abbrev word : ℕ
-  word = g .before .before .before .before .before .args .word
+  word = g .before .before .before .args .word
 
-  let-through : widthTest n then strayTest n word ≡ Verdict.Through
+  let-through : wordTest n word ≡ Verdict.Through
   let-through = told (g .before .before) (g .enum-told .given .1)
 
   is-word : IsWord n word
@@ -85,14 +85,8 @@ module _ (k : tie.After-struct-told) where
       let x = sized (eqb-false (word g) 0 q) in
       takes-under-one rule (size .negative) (size .m) (x .2) (k .struct-told .given .1 .1 .0 .1) (mag (size .h)) _ (x .0) (x .1) (subst (λ (z : ℤ). IsSize (size .m) (z -ℤ pos 63) (x .0)) (is-negative (size .h) (tested w32 tt fits t)) (x .3))
 
-test-requires : tie.Need-test-requires
-test-requires c κs = search needs
-
 test-word-requires : tie.Need-test-word-requires
 test-word-requires c κs = search needs
-
-then-requires : tie.Need-then-requires
-then-requires c κs = search needs
 
 enum-known-verdict : tie.Need-enum-known-verdict
 enum-known-verdict c = search needs
@@ -116,7 +110,7 @@ shl-string c = omega (arith, is-word (c .before) .least)
 returns-2 : tie.Need-returns-2
 unfolding TakesWhole IsTaken
 returns-2 c = let g = c .before .before in
-    let s = g .before .before .before .before .before in
+    let s = g .before .before .before in
     through (let-through g)
     (subst (λ (t : Takum). IsTaken (s .args .rule) t (Whole.Refused Refusal.NotReal)) (sym (takum-NaR (n g) (word g) (is-word g .least) (is-word g .most) (NaR-at-top (n g) (word g) (is-word g) (c .if1 .taken)))) refl)
 
@@ -129,7 +123,7 @@ by-rule-requires c κs = search needs
 returns-3 : tie.Need-returns-3
 unfolding TakesWhole
 returns-3 c = let k = c .before .before in
-    let rule = g k .before .before .before .before .before .args .rule in
+    let rule = g k .before .before .before .args .rule in
     through (let-through (g k)) (subst (IsTaken rule (takum (n (g k)) (word (g k)))) (sym (c .by-rule .ensures)) (under-one k rule (c .before .if2 .taken) (eqb (word (g k)) 0) refl))
 
 cast-take-size : tie.Need-cast-take-size
@@ -144,7 +138,7 @@ returns-4 : tie.Need-returns-4
 unfolding TakesWhole TakesSize
 returns-4 c = let e = c .before .before .before in
     let k = e .before in
-    let rule = g k .before .before .before .before .before .args .rule in
+    let rule = g k .before .before .before .args .rule in
     let x = sized k (not-zero k (e .if2 .left)) in
     let h : pos (natAbs (toZ w32 (ofZ w32 (size k .h)))) ≡ size k .h = ap pos (plain-value w32 tt (fits k) (e .if2 .left)) ∙ sym (not-negative (size k .h) (tested w32 tt (fits k) (e .if2 .left))) in
     through (let-through (g k)) (subst (λ (z : ℤ). TakesSize rule (size k .negative) z (size k .m) (c .take-size .result)) h (c .take-size .ensures) _ (x .0) (x .1) (x .3))
@@ -153,9 +147,7 @@ pub take-whole-spec : {M : Type 1} → statement M
 take-whole-spec =
     tie.close
     (tie.spec
-    test-requires
     test-word-requires
-    then-requires
     enum-known-verdict
     returns
     enum-told

@@ -10,7 +10,7 @@ use mir.Syntax.{w64}
 use mir.Val.{SFits, toZ, ofZ}
 use mir.Facts.{toZ-pos, toZ-ofZ}
 use Rattle.word.proofs.Signed.{signed-low, signed-high, minus-one-less}
-use Rattle.bounds.proofs.Powers.{pow-sum}
+use Rattle.bounds.proofs.Powers.{twice}
 use Rattle.word.specs.Orders.{signed}
 use Rattle.bounds.specs.Refusals.{IsWord}
 use Rattle.word.proofs.order.as_signed.Statement.{statement}
@@ -22,7 +22,7 @@ small n w word h = lt-of-lt-of-le h (pow-mono {i = n - 1} {j = 63} (omega arith)
 module _ (n w all : ℕ) (is : all ≡ 2 ^ n - 1) (word : IsWord n w) (half : 2 ^ (n - 1) ≤ w) where
   -- how far the word is below all ones
   gap : all - w < 2 ^ 63
-  gap = lt-of-lt-of-le (omega (arith, pow-sum (n - 1) 1 n (omega arith), pow-pos (n - 1))) (pow-mono {i = n - 1} {j = 63} (omega arith))
+  gap = lt-of-lt-of-le (omega (arith, twice n (omega arith), pow-pos (n - 1))) (pow-mono {i = n - 1} {j = 63} (omega arith))
 
   less : negsuc 0 -ℤ toZ w64 (all - w) ≡ negsuc (all - w)
   less = ap (λ (z : ℤ). negsuc 0 -ℤ z) (toZ-pos w64 gap) ∙ minus-one-less (all - w)

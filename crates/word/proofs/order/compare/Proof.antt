@@ -1,37 +1,31 @@
 -- `compare` meets its contract: a verdict that refuses is the answer, and one that lets both words through is followed by the order of their numbers. Assumes nothing.
-use mathlib.Core.Path.{_≡_, refl, ap, ap₂, _∙_}
+use mathlib.Core.Path.{_≡_, refl, sym, ap, ap₂, _∙_}
 use borrow.Author.Needs.{needs, sfits-of}
 use mir.Facts.{toZ-ofZ}
 use Rattle.word.specs.Orders.{order, Compares}
 use Rattle.word.specs.declared.order.Comparison.{Comparison}
-use Rattle.bounds.specs.Refusals.{widthTest, strayTest, _then_, IsWord, through, refused}
-use Rattle.bounds.proofs.Verdicts.{told-three, words-through}
+use Rattle.bounds.specs.Refusals.{widthTest, strayTest, wordTest, _then_, IsWord, through, refused}
+use Rattle.bounds.proofs.Verdicts.{once, told-two, words-through}
 use Rattle.bounds.specs.declared.refusal.Verdict.{Verdict}
 use Rattle.word.proofs.order.compare.Statement.{statement}
 use Rattle.word.proofs.order.compare.Tie as tie
 
 -- the verdict as the tests in their order
-told : (c : tie.After-then2) {u : Verdict} → c .then2 .result ≡ u → widthTest (c .before .before .before .before .before .args .width .bits) then strayTest (c .before .before .before .before .before .args .width .bits) (c .before .before .before .before .before .args .x) then strayTest (c .before .before .before .before .before .args .width .bits) (c .before .before .before .before .before .args .y) ≡ u
-told c h = told-three (c .before .before .before .before .test .ensures) (c .before .before .before .test-word .ensures) (c .before .before .then .ensures) (c .before .test-word2 .ensures) (c .then2 .ensures) h
+told : (c : tie.After-then) {u : Verdict} → c .then .result ≡ u → wordTest (c .before .before .before .args .width .bits) (c .before .before .before .args .x) then strayTest (c .before .before .before .args .width .bits) (c .before .before .before .args .y) ≡ u
+told c h = sym (once (widthTest _) (strayTest _ _) (strayTest _ _)) ∙ told-two (c .before .before .test-word .ensures) (c .before .test-word2 .ensures) (c .then .ensures) h
 
 -- what is known once the verdict has let the words through
-words-in : (c : tie.After-enum-told) → IsWord (c .before .before .before .before .before .before .before .args .width .bits) (c .before .before .before .before .before .before .before .args .x) × IsWord (c .before .before .before .before .before .before .before .args .width .bits) (c .before .before .before .before .before .before .before .args .y)
+words-in : (c : tie.After-enum-told) → IsWord (c .before .before .before .before .before .args .width .bits) (c .before .before .before .before .before .args .x) × IsWord (c .before .before .before .before .before .args .width .bits) (c .before .before .before .before .before .args .y)
 words-in c = words-through _ _ _ (told (c .before .before) (c .enum-told .given .1))
-
-test-requires : tie.Need-test-requires
-test-requires c κs = search needs
 
 test-word-requires : tie.Need-test-word-requires
 test-word-requires c κs = search needs
 
-then-requires : tie.Need-then-requires
-then-requires c κs = search needs
-
 test-word-requires-2 : tie.Need-test-word-requires-2
 test-word-requires-2 c κs = search needs
 
-then-requires-2 : tie.Need-then-requires-2
-then-requires-2 c κs = search needs
+then-requires : tie.Need-then-requires
+then-requires c κs = search needs
 
 enum-known-verdict : tie.Need-enum-known-verdict
 enum-known-verdict c = search needs
@@ -61,11 +55,9 @@ pub compare-spec : {M : Type 1} → statement M
 compare-spec =
     tie.close
     (tie.spec
-    test-requires
     test-word-requires
-    then-requires
     test-word-requires-2
-    then-requires-2
+    then-requires
     enum-known-verdict
     returns
     enum-told

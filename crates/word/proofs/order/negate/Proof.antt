@@ -7,31 +7,25 @@ use borrow.Author.Needs.{needs}
 use Rattle.word.specs.Orders.{negated, Negates}
 use Rattle.bounds.specs.declared.answer.Answer.{Answer}
 use Rattle.word.proofs.Signed.{negated-zero, negated-other}
-use Rattle.bounds.specs.Refusals.{widthTest, strayTest, _then_, IsWord, through, refused}
-use Rattle.bounds.proofs.Verdicts.{told-word, word-through}
+use Rattle.bounds.specs.Refusals.{wordTest, IsWord, through, refused}
+use Rattle.bounds.proofs.Verdicts.{word-through}
 use Rattle.bounds.specs.declared.refusal.Verdict.{Verdict}
 use Rattle.word.proofs.order.negate.Statement.{statement}
 use Rattle.word.proofs.order.negate.Tie as tie
 
--- the verdict as the tests in their order
-told : (c : tie.After-then) {u : Verdict} → c .then .result ≡ u → widthTest (c .before .before .before .args .width .bits) then strayTest (c .before .before .before .args .width .bits) (c .before .before .before .args .word) ≡ u
-told c h = told-word _ _ (c .before .before .test .ensures) (c .before .test-word .ensures) (c .then .ensures) h
+-- what the verdict tells of the word
+told : (c : tie.After-test-word) {u : Verdict} → c .test-word .result ≡ u → wordTest (c .before .args .width .bits) (c .before .args .word) ≡ u
+told c h = sym (c .test-word .ensures) ∙ h
 
 -- what is known once the verdict has let the word through
-word-in : (c : tie.After-enum-told) → IsWord (c .before .before .before .before .before .args .width .bits) (c .before .before .before .before .before .args .word)
+word-in : (c : tie.After-enum-told) → IsWord (c .before .before .before .args .width .bits) (c .before .before .before .args .word)
 word-in c = word-through _ _ (told (c .before .before) (c .enum-told .given .1))
 
 less : (n w all : ℕ) → all ≡ 2 ^ n - 1 → (w ≡ 0 → ⊥) → IsWord n w → all - w + 1 ≡ negated n w
 less n w all e f i = omega (arith, e, i .fits, pos-of-ne-zero f) ∙ sym (negated-other n w (pos-of-ne-zero f) (i .fits))
 
-test-requires : tie.Need-test-requires
-test-requires c κs = search needs
-
 test-word-requires : tie.Need-test-word-requires
 test-word-requires c κs = search needs
-
-then-requires : tie.Need-then-requires
-then-requires c κs = search needs
 
 enum-known-verdict : tie.Need-enum-known-verdict
 enum-known-verdict c = search needs
@@ -50,11 +44,11 @@ returns-2 c = through (told (c .before .before .before) (c .before .enum-told .g
 ones-requires : tie.Need-ones-requires
 ones-requires c κs = (word-in (c .before) .least, word-in (c .before) .most)
 
-sub-t9 : tie.Need-sub-t9
-sub-t9 c = omega (arith, c .ones .ensures, word-in (c .before .before) .fits)
+sub-t7 : tie.Need-sub-t7
+sub-t7 c = omega (arith, c .ones .ensures, word-in (c .before .before) .fits)
 
-add-t10 : tie.Need-add-t10
-add-t10 c = search needs
+add-t8 : tie.Need-add-t8
+add-t8 c = search needs
 
 returns-3 : tie.Need-returns-3
 unfolding Negates
@@ -64,14 +58,12 @@ pub negate-spec : {M : Type 1} → statement M
 negate-spec =
     tie.close
     (tie.spec
-    test-requires
     test-word-requires
-    then-requires
     enum-known-verdict
     returns
     enum-told
     returns-2
     ones-requires
-    sub-t9
-    add-t10
+    sub-t7
+    add-t8
     returns-3)

@@ -6,23 +6,23 @@ use native.Mathlib.Omega.{arith}
 use borrow.Author.Needs.{needs}
 use lib.Dec.{lit≤}
 use lib.Pow.{shl-exact}
-use Rattle.bounds.specs.Refusals.{widthTest, strayTest, _then_, IsWord, through, refused}
+use Rattle.bounds.specs.Refusals.{wordTest, IsWord, through, refused}
 use Rattle.word.specs.Reads.{IsReading, Reads}
 use Rattle.word.specs.declared.reading.Reading.{Reading}
 use Rattle.bounds.proofs.Powers.{shl-below}
 use Rattle.word.specs.Takum.{Takum, real, value, p, N, padded, takum, fractionBits}
-use Rattle.bounds.proofs.Verdicts.{told-word, word-through}
+use Rattle.bounds.proofs.Verdicts.{word-through}
 use Rattle.word.proofs.Words.{takum-zero, takum-NaR, takum-number}
 use Rattle.bounds.specs.declared.refusal.Verdict.{Verdict}
 use Rattle.word.proofs.reading.read.Statement.{statement}
 use Rattle.word.proofs.reading.read.Tie as tie
 
--- the verdict as the tests in their order
-told : (c : tie.After-then) {u : Verdict} → c .then .result ≡ u → widthTest (c .before .before .before .args .width .bits) then strayTest (c .before .before .before .args .width .bits) (c .before .before .before .args .word) ≡ u
-told c h = told-word _ _ (c .before .before .test .ensures) (c .before .test-word .ensures) (c .then .ensures) h
+-- what the verdict tells of the word
+told : (c : tie.After-test-word) {u : Verdict} → c .test-word .result ≡ u → wordTest (c .before .args .width .bits) (c .before .args .word) ≡ u
+told c h = sym (c .test-word .ensures) ∙ h
 
 -- what is known once the verdict has let the word through
-word-in : (c : tie.After-enum-told) → IsWord (c .before .before .before .before .before .args .width .bits) (c .before .before .before .before .before .args .word)
+word-in : (c : tie.After-enum-told) → IsWord (c .before .before .before .args .width .bits) (c .before .before .before .args .word)
 word-in c = word-through _ _ (told (c .before .before) (c .enum-told .given .1))
 
 module _ (n w : ℕ) (i : IsWord n w) where
@@ -56,14 +56,8 @@ module _ (n w : ℕ) (i : IsWord n w) where
   unfolding padded
   string-wide long = ap (λ (m : ℕ). w * 2 ^ (m - n)) (length-wide long) ∙ ap (λ (m : ℕ). w * 2 ^ m) (sub-self n) ∙ mul-one w
 
-test-requires : tie.Need-test-requires
-test-requires c κs = search needs
-
 test-word-requires : tie.Need-test-word-requires
 test-word-requires c κs = search needs
-
-then-requires : tie.Need-then-requires
-then-requires c κs = search needs
 
 enum-known-verdict : tie.Need-enum-known-verdict
 enum-known-verdict c = search needs
@@ -123,9 +117,7 @@ pub read-spec : {M : Type 1} → statement M
 read-spec =
     tie.close
     (tie.spec
-    test-requires
     test-word-requires
-    then-requires
     enum-known-verdict
     returns
     enum-told

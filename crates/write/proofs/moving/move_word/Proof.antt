@@ -12,10 +12,10 @@ use mir.Val.{SFits, toZ, ofZ}
 use Rattle.bounds.specs.declared.answer.Answer.{Answer}
 use Rattle.bounds.specs.declared.refusal.Verdict.{Verdict}
 use Rattle.bounds.specs.Refusals.{widthTest, strayTest, _then_, IsWord, through, refused}
-use Rattle.word.specs.Takum.{Takum, real, NaR, takum}
+use Rattle.word.specs.Takum.{Takum, real, takum}
 use Rattle.word.specs.Reads.{IsSize, signedSize}
 use Rattle.bounds.specs.Widths.{GivesWord}
-use Rattle.bounds.proofs.Verdicts.{told-three, move-through, width-through, answered}
+use Rattle.bounds.proofs.Verdicts.{once, told-three, move-through, width-through, answered}
 use Rattle.word.proofs.Words.{takum-zero, takum-NaR}
 use Rattle.write.specs.Writes.{isNegative, IsMoved, Moves}
 use Rattle.write.specs.Offers.{WritesSize, Settles}
@@ -26,7 +26,7 @@ use Rattle.write.proofs.moving.move_word.Tie as tie
 
 -- the verdict as the tests in their order
 told : (c : tie.After-then2) {u : Verdict} → c .then2 .result ≡ u → widthTest (c .before .before .before .before .before .args .from .bits) then widthTest (c .before .before .before .before .before .args .to .bits) then strayTest (c .before .before .before .before .before .args .from .bits) (c .before .before .before .before .before .args .word) ≡ u
-told c h = told-three (c .before .before .before .before .test .ensures) (c .before .before .before .test2 .ensures) (c .before .before .then .ensures) (c .before .test-word .ensures) (c .then2 .ensures) h
+told c h = sym (once (widthTest _) (widthTest _) (strayTest _ _)) ∙ told-three (c .before .before .before .before .test .ensures) (c .before .before .before .test2 .ensures) (c .before .before .then .ensures) (c .before .test-word .ensures) (c .then2 .ensures) h
 
 -- what is known once it has let both widths and the word through
 let-through : (c : tie.After-enum-told) → widthTest (c .before .before .before .before .before .before .before .args .from .bits) then widthTest (c .before .before .before .before .before .before .before .args .to .bits) then strayTest (c .before .before .before .before .before .before .before .args .from .bits) (c .before .before .before .before .before .before .before .args .word) ≡ Verdict.Through

@@ -1,6 +1,5 @@
 -- `rounded` meets its contract: the nearest positive word, with the sign. Assumes nothing.
-use mathlib.Core.Path.{sym, subst, ap, _∙_}
-use Prim.Native.Nat.{ℕ}
+use mathlib.Core.Path.{sym, subst}
 use lib.IntN.{ℤ}
 use mir.Facts.{toZ-ofZ}
 use borrow.Author.Needs.{needs}

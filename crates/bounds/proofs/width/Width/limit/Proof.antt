@@ -1,6 +1,6 @@
 -- `Width::limit` meets its contract: the limit is the power of two of its exponent. Assumes nothing.
 use mathlib.Core.Path.{refl, sym, _∙_}
-use Prim.Native.Nat.{_≤_, _<_}
+use Prim.Native.Nat.{_<_}
 use borrow.Author.Needs.{needs}
 use Rattle.bounds.specs.Refusals.{through, refused}
 use Rattle.bounds.specs.Widths.{GivesLimit}

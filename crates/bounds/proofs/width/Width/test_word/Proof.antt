@@ -1,27 +1,21 @@
--- `Width::test_word` meets its contract: below 64 bits the power 2^n is tested, and at 64 bits every word fits. Assumes nothing.
-use mathlib.Core.Path.{sym}
-use native.Mathlib.Nat.{le-of-eq, le-trans, lt-of-lt-of-le}
+-- `Width::test_word` meets its contract: the two tests in their order. Assumes nothing.
+use mathlib.Core.Path.{refl, sym}
 use borrow.Author.Needs.{needs}
-use lib.Pow.{pow-mono}
-use Rattle.bounds.proofs.Powers.{one-shl}
-use Rattle.bounds.proofs.Verdicts.{stray-fits, stray-bit}
+use Rattle.bounds.proofs.Verdicts.{told-two}
 use Rattle.bounds.proofs.width.Width.test_word.Statement.{statement}
 use Rattle.bounds.proofs.width.Width.test_word.Tie as tie
 
-cast-if2 : tie.Need-cast-if2
-cast-if2 c = search needs
+test-requires : tie.Need-test-requires
+test-requires c κs = search needs
 
-shl-if2 : tie.Need-shl-if2
-shl-if2 c = search needs
+test-bits-requires : tie.Need-test-bits-requires
+test-bits-requires c κs = search needs
+
+then-requires : tie.Need-then-requires
+then-requires c κs = search needs
 
 returns : tie.Need-returns
-returns c = sym (stray-fits _ _ (lt-of-lt-of-le (c .if2 .taken) (le-of-eq (one-shl 64 _ (c .before .if1 .taken)))))
-
-returns-2 : tie.Need-returns-2
-returns-2 c = sym (stray-bit _ _ (le-trans (le-of-eq (sym (one-shl 64 _ (c .before .if1 .taken)))) (c .if2 .left)))
-
-returns-3 : tie.Need-returns-3
-returns-3 c = sym (stray-fits _ _ (lt-of-lt-of-le (c .before .fits .word .fits) (pow-mono (c .if1 .left))))
+returns c = sym (told-two (c .before .before .test .ensures) (c .before .test-bits .ensures) (c .then .ensures) refl)
 
 pub test-word-spec : {M : Type 1} → statement M
-test-word-spec = tie.close (tie.spec cast-if2 shl-if2 returns returns-2 returns-3)
+test-word-spec = tie.close (tie.spec test-requires test-bits-requires then-requires returns)

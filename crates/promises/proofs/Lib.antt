@@ -1,5 +1,6 @@
 -- The promises, proved from what the other crates make public.
 pub mod Demands
+pub mod Evens
 pub mod Figures
 pub mod Lines
 pub mod Numbers
@@ -7,5 +8,6 @@ pub mod OneOutcome
 pub mod Refusals
 pub mod SliceRefusals
 pub mod Slices
+pub mod Tests
 pub mod WordRefusals
 pub mod Writing

@@ -46,7 +46,7 @@ signed-too s j le =
     (wordOf 16 s (0x5A00 + j), subst (λ (z : ℕ). HasValue 16 s z (wordOf 16 s (0x5A00 + j))) (sym (value-is 16 lo hi ((512 + 2 * j) * 2 ^ 307) (0x5A00 + j) (omega arith) below x)) (has-value 16 lo hi s (0x5A00 + j) (omega arith) below))
 
 -- ---- and up to 512, the limit, every number
-limit-of-16 : IsLimit 16 512
+pub limit-of-16 : IsLimit 16 512
 limit-of-16 = record { v = 9; is = no-more 16 3 (omega arith) (omega arith) (omega arith) (omega arith); limit = refl }
 
 pub even-at-16 : (s : Bool) (i : ℕ) → i % 2 ≡ 0 → i ≤ 1024 → (w : ℕ) × HasValue 16 s (i * 2 ^ 307) w

@@ -5,13 +5,16 @@ use mathlib.Core.Logic.{_⊎_, inl, inr, ⊎-elim}
 use Prim.Native.Nat.{ℕ, _-_, _^_, _≤_, _<_}
 use native.Mathlib.Decide.{decLt}
 use native.Mathlib.Omega.{arith}
+use Rattle.bounds.specs.declared.answer.Answer.{Answer}
 use Rattle.bounds.specs.declared.refusal.Refusal.{Refusal}
 use Rattle.bounds.specs.declared.refusal.Verdict.{Verdict}
 use Rattle.bounds.specs.Refusals.{numberOf, widthTest, strayTest, _then_, Decided, through, refused}
 use Rattle.bounds.proofs.Powers.{not-more}
 use Rattle.bounds.proofs.Verdicts.{width-fits, width-short, width-long, stray-fits, stray-bit, answered, refused-as}
+use Rattle.write.specs.declared.value.Rule.{Rule}
+use Rattle.promises.specs.Writing.{GivenOrInexact}
 use Rattle.promises.specs.Demands.{RefusedAs}
-use Rattle.promises.specs.Refusals.{Line, line, FollowsUpTo, Follows}
+use Rattle.promises.specs.Refusals.{Line, line, FollowsUpTo, Follows, noWord}
 
 -- ---- the test of a line: it refuses so where the line holds, and lets through where it doesn't
 pub data Tells (v : Verdict) (q : Refusal) (When : Type 0) : Type 0 where
@@ -79,3 +82,14 @@ pub past : {A : Type 0} (R : Refusal → A) (a : A) (number : ℕ) (When : Type 
 unfolding Follows FollowsUpTo
 past R a number When lines f (inl x) = absurd (f (x .0))
 past R a number When lines f (inr x) = x .1
+
+pub good-width : (n : ℕ) → (2 ≤ n) × (n ≤ 64) → (n < 2) ⊎ (64 < n) → ⊥
+good-width n t (inl h) = omega (arith, h, t .0)
+good-width n t (inr h) = omega (arith, h, t .1)
+
+-- where the last line is left, an answer is given or is INEXACT
+pub given-or-inexact : (HasIt : ℕ → Type 0) (r : Answer) → ((w : ℕ) → r ≡ Answer.Word w → HasIt w) → Follows Answer.Refused r (noWord Rule.Strict HasIt ∷ []) → GivenOrInexact HasIt r
+unfolding Follows FollowsUpTo GivenOrInexact
+given-or-inexact HasIt (Answer.Word w) f x = inl (w, refl, f w refl)
+given-or-inexact HasIt (Answer.Refused q) f (inl x) = inr (x .1, x .0 .1)
+given-or-inexact HasIt (Answer.Refused q) f (inr x) = absurd (x .1 q refl)

@@ -1,8 +1,8 @@
 -- The promises that specs/Numbers.antt states, from the laws of whole numbers and of binary64. Assumes nothing.
-use mathlib.Core.Path.{_≡_, refl, sym, ap, _∙_, subst}
-use mathlib.Core.Logic.{_⊎_, inl, inr, ⊎-elim}
+use mathlib.Core.Path.{_≡_, refl, sym, ap, subst}
+use mathlib.Core.Logic.{_⊎_, ⊎-elim}
 use Prim.Native.Nat.{ℕ, _*_, _%_, _^_, _≤_}
-use native.Mathlib.Nat.{zero-lt-suc, mul-one}
+use native.Mathlib.Nat.{zero-lt-suc}
 use native.Mathlib.Omega.{arith}
 use lib.IntN.{ℤ, natAbs}
 use lib.Ieee.{Float, neg, round, binary64}
@@ -11,11 +11,11 @@ use Rattle.word.specs.Takum.{Takum, real, NaR, takum}
 use Rattle.word.proofs.Values.{NaR-word}
 use Rattle.word.specs.Orders.{negated}
 use Rattle.bounds.specs.declared.width.Limit.{Limit}
-use Rattle.bounds.specs.Refusals.{numberOf, through, refused}
+use Rattle.bounds.specs.Refusals.{through, refused}
 use Rattle.bounds.specs.Widths.{narWord, IsLimit, GivesLimit}
 use Rattle.bounds.proofs.Verdicts.{width-fits, width-through, word-passes, answered}
 use Rattle.write.specs.declared.value.Rule.{Rule}
-use Rattle.write.specs.Writes.{HasValue, isNegative, IsWritten}
+use Rattle.write.specs.Writes.{HasValue, isNegative}
 use Rattle.whole.specs.Wholes.{WritesWhole}
 use Rattle.whole.specs.Limits.{TheLimitPlusOneHasNoWord, StrictWritingUpToTheLimitIsNeverRefused}
 use Rattle.whole.proofs.LimitWords.{the-limit-plus-one-has-no-word, no-odd-number-past-the-limit-has-a-word}
@@ -33,7 +33,10 @@ use Rattle.binary64.proofs.Negation.{negated-taken, zero-taken-positive}
 use Rattle.binary64.proofs.Specials.{nan-written, infinity-written, zero-number-written, NaR-not-taken}
 use Rattle.binary64.proofs.Written.{value-written}
 use Rattle.binary64.proofs.OneOutcome.{writes-binary64-one, takes-binary64-one}
-use Rattle.promises.proofs.Evens.{even-at-16}
+use Rattle.promises.proofs.Evens.{limit-of-16, even-at-16}
+use Rattle.promises.proofs.Lines.{past, good-width, given-or-inexact}
+use Rattle.promises.proofs.OneOutcome.{gives-limit-one}
+use Rattle.promises.proofs.WordRefusals.{write-whole-follows}
 use Rattle.promises.specs.Demands.{RefusedAs}
 use Rattle.promises.specs.Writing.{GivenOrInexact}
 use Rattle.promises.specs.Numbers as promise
@@ -60,13 +63,14 @@ known n l (through h x) = let t = width-through n h in
     record { lo = t .0; hi = t .1; limit = subst (IsLimit n) (sym (ap count-of (x .1))) (x .2) }
 known n l (refused h q) = absurd (subst is-count q tt)
 
+pub a-whole-number-is-kept : promise.AWholeNumberIsKept
+unfolding promise.AWholeNumberIsKept IsWhole valueOf
+a-whole-number-is-kept n x w y = let k = strictly-written n x w y in record { word = k .word; means = k .means }
+
 pub a-whole-number-is-refused-exactly-where-it-has-no-word : promise.AWholeNumberIsRefusedExactlyWhereItHasNoWord
-unfolding promise.AWholeNumberIsRefusedExactlyWhereItHasNoWord IsWhole GivenOrInexact WritesWhole IsWritten
-a-whole-number-is-refused-exactly-where-it-has-no-word n x r lo hi y = by r (answered (width-fits n lo hi) y)
-  where
-    by : (r : Answer) → IsWritten n Rule.Strict (isNegative x) (natAbs x * 2 ^ 307) 1 r → GivenOrInexact (IsWhole n x) r
-    by (Answer.Word w) z = inl (w, refl, subst (λ (k : ℕ). HasValue n (isNegative x) k w) (sym (mul-one (z .z)) ∙ z .same) (z .is))
-    by (Answer.Refused q) z = inr (record { q = q; is = refl; known = ap numberOf (z .0) }, λ w h. z .1 w (record { z = natAbs x * 2 ^ 307; is = h; same = mul-one (natAbs x * 2 ^ 307) }))
+unfolding promise.AWholeNumberIsRefusedExactlyWhereItHasNoWord promise.AWholeNumberIsKept
+a-whole-number-is-refused-exactly-where-it-has-no-word n x r lo hi y =
+    given-or-inexact (IsWhole n x) r (λ w q. a-whole-number-is-kept n x w (subst (WritesWhole n Rule.Strict x) q y)) (past Answer.Refused r 1 _ _ (good-width n (lo, hi)) (write-whole-follows n Rule.Strict x r y))
 
 pub every-whole-number-up-to-the-limit-is-written : promise.EveryWholeNumberUpToTheLimitIsWritten
 unfolding promise.EveryWholeNumberUpToTheLimitIsWritten IsWhole WritesWhole StrictWritingUpToTheLimitIsNeverRefused
@@ -102,6 +106,10 @@ no-odd-number-past-the-limit-comes-back n l w x g past y =
     even : (natAbs x % 2 ≡ 1 → ⊥) → natAbs x % 2 ≡ 0
     even f = omega (arith, f)
 
+pub at-16-the-limit-is-512 : promise.At16TheLimitIs512
+unfolding promise.At16TheLimitIs512 GivesLimit
+at-16-the-limit-is-512 a x = gives-limit-one 16 a (Limit.Count 512) x (through (width-fits 16 (omega arith) (omega arith)) (512, refl, limit-of-16))
+
 pub at-16-every-even-number-up-to-1024-is-written : promise.At16EveryEvenNumberUpTo1024IsWritten
 unfolding promise.At16EveryEvenNumberUpTo1024IsWritten promise.AWholeNumberIsRefusedExactlyWhereItHasNoWord IsWhole GivenOrInexact
 at-16-every-even-number-up-to-1024-is-written x r even le y =
@@ -109,10 +117,6 @@ at-16-every-even-number-up-to-1024-is-written x r even le y =
     ⊎-elim (λ z. z) (λ z. absurd (z .1 (t .0) (t .1))) (a-whole-number-is-refused-exactly-where-it-has-no-word 16 x r (omega arith) (omega arith) y)
 
 -- ---- whole numbers in and out
-pub a-whole-number-is-kept : promise.AWholeNumberIsKept
-unfolding promise.AWholeNumberIsKept IsWhole valueOf
-a-whole-number-is-kept n x w y = let k = strictly-written n x w y in record { word = k .word; means = k .means }
-
 pub a-whole-number-comes-back : promise.AWholeNumberComesBack
 unfolding promise.AWholeNumberComesBack
 a-whole-number-comes-back = whole-comes-back

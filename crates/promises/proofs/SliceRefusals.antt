@@ -29,7 +29,7 @@ use Rattle.sheet.specs.Reads.{unless, isBlockWidth, allZero, sizeTest, markTest
 use Rattle.sheet.proofs.Tests.{OneOfFour, each-width, width-is, is-width, held}
 use Rattle.sheet.proofs.Rooms.{room-for, no-room-for}
 use Rattle.promises.specs.Refusals.{FollowsUpTo, Follows, width, room, size, mark, check, blockWidth, count, fill, moveLines}
-use Rattle.promises.proofs.Lines.{Tells, holds, fails, width-tells, parts, follow, carry, past}
+use Rattle.promises.proofs.Lines.{Tells, holds, fails, width-tells, parts, follow, carry, past, good-width}
 use Rattle.promises.proofs.WordRefusals.{move-follows}
 
 -- ---- a column
@@ -45,17 +45,13 @@ unfolding Follows FollowsUpTo MovesColumn IsTried
 column-follows n n' rule words places a x =
     follow Refusal.Width (width-tells n) (parts (parts x)) (λ e y. follow Refusal.Width (width-tells n') y (λ e' z. follow Refusal.Room (room-tells (length words) places) z (λ s t q h. subst (IsTried n n' rule words) h t)))
 
-good-width : (n : ℕ) → widthTest n ≡ Verdict.Through → (n < 2) ⊎ (64 < n) → ⊥
-good-width n e (inl h) = omega (arith, h, width-through n e .0)
-good-width n e (inr h) = omega (arith, h, width-through n e .1)
-
 module _ (n n' : ℕ) (rule : Rule) (words : List ℕ) (places : ℕ) (i : ℕ) (inside : i < length words) where
   -- a position has the lines of its move, where the widths are right
   at-position : (r : Answer) (a : Column) → widthTest n ≡ Verdict.Through → widthTest n' ≡ Verdict.Through → ((q : Refusal) → r ≡ Answer.Refused q → a ≡ Column.RefusedAt i q) → ((q : Refusal) → a ≡ Column.RefusedAt i q → r ≡ Answer.Refused q)
       → Moves n n' rule (getD words i 0) r → Follows (Column.RefusedAt i) a (moveLines n n' rule (getD words i 0))
   at-position r a e e' to from m =
       carry Answer.Refused (Column.RefusedAt i) r a _ to from
-      (past Answer.Refused r 1 _ _ (good-width n' e') (past Answer.Refused r 1 _ _ (good-width n e) (move-follows n n' rule (getD words i 0) r m)))
+      (past Answer.Refused r 1 _ _ (good-width n' (width-through n' e')) (past Answer.Refused r 1 _ _ (good-width n (width-through n e)) (move-follows n n' rule (getD words i 0) r m)))
 
   tried : (a : Column) → widthTest n ≡ Verdict.Through → widthTest n' ≡ Verdict.Through → ((j : ℕ) (q : Refusal) → j < i → a ≡ Column.RefusedAt j q → ⊥) → IsTried n n' rule words a → Follows (Column.RefusedAt i) a (moveLines n n' rule (getD words i 0))
   unfolding IsTried MovableUpTo Movable

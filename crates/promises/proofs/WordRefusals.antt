@@ -25,7 +25,7 @@ use Rattle.word.specs.Takum.{Takum, real, NaR, takum}
 use Rattle.word.specs.Reads.{IsReading}
 use Rattle.word.specs.Orders.{Compares}
 use Rattle.word.proofs.Words.{takum-NaR}
-use Rattle.word.proofs.Values.{real-inj, not-NaR, absolute}
+use Rattle.word.proofs.Values.{real-inj, not-NaR}
 use Rattle.write.specs.declared.value.Rule.{Rule}
 use Rattle.write.specs.declared.value.Value.{Value}
 use Rattle.write.specs.Writes.{HasValue, IsExact, IsWritten, isNegative, IsMoved, Writes, Moves}
@@ -34,8 +34,9 @@ use Rattle.write.proofs.Moves.{moved-to-the-same, strict-keeps}
 use Rattle.whole.specs.declared.taking.Taking.{Taking}
 use Rattle.whole.specs.declared.taking.Whole.{Whole}
 use Rattle.whole.specs.Wholes.{IsWholePart, overTest, inexactTest, IsTaken, WritesWhole, TakesWhole}
+use Rattle.whole.proofs.Refused.{whole-size}
 use Rattle.whole.proofs.WholeParts.{one-whole-part}
-use Rattle.whole.proofs.WholeValues.{valueOf, is-its-whole-part, exact-value}
+use Rattle.whole.proofs.WholeValues.{valueOf, exact-value}
 use Rattle.binary64.specs.declared.taking.Binary64.{Binary64}
 use Rattle.binary64.specs.Takes as taken
 use Rattle.binary64.specs.Writes.{IsWrittenBinary64, WritesBinary64}
@@ -164,10 +165,7 @@ module _ (n w : ℕ) (i : IsWord n w) (z x : ℤ) (means : takum n w ≡ real z)
   -- the value is a whole number's exactly where it is its whole part's
   whole-value : (y : ℤ) → IsWhole n y w → natAbs x * 2 ^ 307 ≡ natAbs z
   unfolding IsWhole valueOf
-  whole-value y h =
-      let q : z ≡ valueOf y = real-inj (sym means ∙ h .means) in
-      ap (λ (x : ℤ). natAbs x * 2 ^ 307) (one-whole-part z x y part (subst (λ (z : ℤ). IsWholePart z y) (sym q) (is-its-whole-part y)))
-      ∙ sym (ap natAbs q ∙ absolute (isNegative y) (natAbs y * 2 ^ 307))
+  whole-value y h = whole-size z x y part (real-inj (sym means ∙ h .means))
 
   its-whole-part : natAbs x * 2 ^ 307 ≡ natAbs z → IsWhole n x w
   unfolding IsWhole valueOf

@@ -9,10 +9,10 @@ use native.Mathlib.Omega.{arith}
 use lib.IntN.{pos, _+ℤ_, _-ℤ_}
 use Rattle.bounds.specs.declared.answer.Answer.{Answer}
 use Rattle.bounds.specs.declared.refusal.Refusal.{Refusal}
-use Rattle.word.specs.Takum.{Takum, real, NaR, takum}
+use Rattle.word.specs.Takum.{Takum, real, takum}
 use Rattle.bounds.specs.declared.refusal.Verdict.{Verdict}
 use Rattle.word.specs.declared.reading.Reading.{Reading}
-use Rattle.bounds.specs.Refusals.{numberOf, widthTest, strayTest, _then_, IsWord, through, refused}
+use Rattle.bounds.specs.Refusals.{widthTest, strayTest, _then_, IsWord, through, refused}
 use Rattle.bounds.specs.Widths.{narWord, largest, smallest}
 use Rattle.word.specs.Reads.{num, IsSize, IsReading, Reads}
 use Rattle.word.specs.Orders.{negated}
@@ -22,7 +22,7 @@ use Rattle.word.proofs.Values.{grown, words-differ}
 use Rattle.word.proofs.Words.{zeros-appended}
 use Rattle.write.specs.declared.value.Rule.{Rule}
 use Rattle.write.specs.declared.value.Value.{Value}
-use Rattle.write.specs.Writes.{Nearest, IsRounded, zero, other, IsExact, IsWritten, isNegative, IsMoved, Writes, Moves}
+use Rattle.write.specs.Writes.{Nearest, IsRounded, zero, other, IsWritten, isNegative, IsMoved, Writes, Moves}
 use Rattle.write.specs.Offers.{withSign}
 use Rattle.write.proofs.Exponents.{unit-some}
 use Rattle.write.proofs.Places.{two, wordOf, has-value, from-word}
@@ -31,8 +31,11 @@ use Rattle.write.proofs.Signs.{signed-word}
 use Rattle.write.proofs.Rounding.{rounded-exists, rounded-one, rounded-not-zero-nor-NaR, past-the-largest, before-the-smallest, rounded-negated, exact-written, written-one}
 use Rattle.write.proofs.Order.{rounding-keeps-order}
 use Rattle.write.proofs.Moves.{Kept, moved-to-the-same, strict-keeps, there-and-back, wider-keeps}
+use Rattle.promises.specs.Refusals.{moveLines}
 use Rattle.promises.specs.Writing as promise
-use Rattle.promises.specs.Writing.{numerator, denominator, withOtherSign, GivenOrInexact, Says, Chain, Goes, ComesHome}
+use Rattle.promises.specs.Writing.{numerator, denominator, withOtherSign, Says, Chain, Goes, ComesHome}
+use Rattle.promises.proofs.Lines.{past, good-width, given-or-inexact}
+use Rattle.promises.proofs.WordRefusals.{write-follows, move-follows}
 
 some-denominator : (v : Value) → 0 < denominator v
 unfolding denominator
@@ -47,12 +50,6 @@ written n rule v r lo hi x = answered (width-fits n lo hi) x
 no-numerator : (v : Value) → v .m ≡ 0 → numerator v ≡ 0
 unfolding numerator
 no-numerator v q = ap (λ (m : ℕ). m * num (v .k +ℤ pos 307)) q ∙ zero-mul (num (v .k +ℤ pos 307))
-
--- what strict writing gives
-given-or-inexact : (n : ℕ) (s : Bool) (a b : ℕ) (r : Answer) → IsWritten n Rule.Strict s a b r → GivenOrInexact (IsExact n s a b) r
-unfolding GivenOrInexact IsWritten
-given-or-inexact n s a b (Answer.Word w) x = inl (w, refl, x)
-given-or-inexact n s a b (Answer.Refused q) x = inr (record { q = q; is = refl; known = ap numberOf (x .0) }, x .1)
 
 pub rounded-is-the-nearest : promise.RoundedIsTheNearest
 unfolding promise.RoundedIsTheNearest IsWritten
@@ -132,8 +129,9 @@ strict-writing-keeps-the-value n v w (through h x) = (x .is .word, x .z, x .is .
 strict-writing-keeps-the-value n v w (refused h q) = absurd (subst GivesAWord q tt)
 
 pub strict-writing-is-refused-exactly-where-there-is-no-word : promise.StrictWritingIsRefusedExactlyWhereThereIsNoWord
-unfolding promise.StrictWritingIsRefusedExactlyWhereThereIsNoWord
-strict-writing-is-refused-exactly-where-there-is-no-word n v r lo hi x = given-or-inexact n (v .negative) (numerator v) (denominator v) r (written n Rule.Strict v r lo hi x)
+unfolding promise.StrictWritingIsRefusedExactlyWhereThereIsNoWord IsWritten
+strict-writing-is-refused-exactly-where-there-is-no-word n v r lo hi x =
+    given-or-inexact _ r (λ w q. written n Rule.Strict v (Answer.Word w) lo hi (subst (Writes n Rule.Strict v) q x)) (past Answer.Refused r 1 _ _ (good-width n (lo, hi)) (write-follows n Rule.Strict v r x))
 
 pub what-was-read-is-written-back : promise.WhatWasReadIsWrittenBack
 unfolding promise.WhatWasReadIsWrittenBack promise.AWordsValueIsWrittenAsTheWord Says Reads IsReading IsSize numerator denominator
@@ -195,14 +193,10 @@ unfolding promise.AWordWithTheValueIsGiven
 a-word-with-the-value-is-given n n' w w' rule r i i' same x = moved-to-the-same n n' w w' rule r i i' same x
 
 pub strict-moves-are-refused-exactly-where-there-is-no-word : promise.StrictMovesAreRefusedExactlyWhereThereIsNoWord
-unfolding promise.StrictMovesAreRefusedExactlyWhereThereIsNoWord GivenOrInexact Moves IsMoved IsWritten GivesAWord
-strict-moves-are-refused-exactly-where-there-is-no-word n n' w (Answer.Word w') i lo hi x = let k = strict-keeps n n' w w' x in inl (w', refl, (k .to, k .same))
-strict-moves-are-refused-exactly-where-there-is-no-word n n' w (Answer.Refused q) i lo hi x =
-    inr (record { q = q; is = refl; known = ap numberOf (by (takum n w) (answered (move-passes n n' w i lo hi) x)) }, λ w' h. subst GivesAWord (sym (moved-to-the-same n n' w w' Rule.Strict (Answer.Refused q) i (h .0) (h .1) x)) tt)
-  where
-    by : (t : Takum) → IsMoved n' Rule.Strict t (Answer.Refused q) → q ≡ Refusal.Inexact
-    by (real z) y = y .0
-    by NaR y = absurd (subst GivesAWord (sym y) tt)
+unfolding promise.StrictMovesAreRefusedExactlyWhereThereIsNoWord moveLines
+strict-moves-are-refused-exactly-where-there-is-no-word n n' w r i lo hi x =
+    given-or-inexact _ r (λ w' q. let k = strict-keeps n n' w w' (subst (Moves n n' Rule.Strict w) q x) in (k .to, k .same))
+    (past Answer.Refused r 2 _ _ (λ h. omega (arith, h, i .fits)) (past Answer.Refused r 1 _ _ (good-width n' (lo, hi)) (past Answer.Refused r 1 _ _ (good-width n (i .least, i .most)) (move-follows n n' Rule.Strict w r x))))
 
 pub NaR-moves-to-NaR : promise.NaRMovesToNaR
 unfolding promise.NaRMovesToNaR Moves IsMoved

@@ -1,4 +1,4 @@
--- The demands of the letter, as statements about what the public contracts allow.
+-- What the letter demands of refusals, of reading and of order and negation, as statements about what the public contracts allow.
 use mathlib.Core.Path.{_≡_}
 use mathlib.Core.Bool.{false}
 use Prim.Native.Nat.{ℕ, _-_, _*_, _^_, _≤_, _<_}
@@ -46,18 +46,22 @@ unfoldable pub TheNaRWord : Type 0
 TheNaRWord = (n : ℕ) → 2 ≤ n → n ≤ 64 → IsWord n (narWord n) × (takum n (narWord n) ≡ NaR) × ((w : ℕ) → IsWord n w → takum n w ≡ NaR → w ≡ narWord n)
 
 -- ---- order and negation, as the values have them
+-- the comparison of two words is the order of their values
 unfoldable pub ComparisonIsTheOrderOfValues : Type 0
 ComparisonIsTheOrderOfValues = (n x y : ℕ) (u v : ℤ) (a : Comparison) → IsWord n x → IsWord n y → takum n x ≡ real u → takum n y ≡ real v → Compares n x y a → a ≡ Comparison.Is (order u v)
 
+-- NaR comes below everything
 unfoldable pub NaRIsBelowEveryValue : Type 0
 NaRIsBelowEveryValue = (n x y : ℕ) (v : ℤ) (a : Comparison) → IsWord n x → IsWord n y → takum n x ≡ NaR → takum n y ≡ real v → Compares n x y a → a ≡ Comparison.Is (negsuc 0)
 
 unfoldable pub EveryValueIsAboveNaR : Type 0
 EveryValueIsAboveNaR = (n x y : ℕ) (v : ℤ) (a : Comparison) → IsWord n x → IsWord n y → takum n x ≡ real v → takum n y ≡ NaR → Compares n x y a → a ≡ Comparison.Is (pos 1)
 
+-- every word equals itself, NaR too
 unfoldable pub EveryWordEqualsItself : Type 0
 EveryWordEqualsItself = (n w : ℕ) (a : Comparison) → IsWord n w → Compares n w w a → a ≡ Comparison.Is (pos 0)
 
+-- the negated word has the opposite value; zero and NaR are kept
 unfoldable pub NegationNegates : Type 0
 NegationNegates = (n w : ℕ) (a : Answer) → IsWord n w → Negates n w a → (v : ℕ) × (a ≡ Answer.Word v) × IsWord n v × (takum n v ≡ opposite (takum n w))
 

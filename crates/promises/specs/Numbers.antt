@@ -50,7 +50,11 @@ NoOddNumberPastTheLimitIsWritten = (n l : ℕ) (x : ℤ) (r : Answer) → GivesL
 unfoldable pub NoOddNumberPastTheLimitComesBack : Type 0
 NoOddNumberPastTheLimitComesBack = (n l w : ℕ) (x : ℤ) → GivesLimit n (Limit.Count l) → l < natAbs x → TakesWhole n Taking.Strict w (Whole.Is x) → natAbs x % 2 ≡ 0
 
--- at width 16 every even whole number up to 1,024 in size has a word, and strict writing gives it
+-- at width 16 the limit is 512
+unfoldable pub At16TheLimitIs512 : Type 0
+At16TheLimitIs512 = (a : Limit) → GivesLimit 16 a → a ≡ Limit.Count 512
+
+-- and every even whole number up to 1,024 in size has a word, and strict writing gives it
 unfoldable pub At16EveryEvenNumberUpTo1024IsWritten : Type 0
 At16EveryEvenNumberUpTo1024IsWritten = (x : ℤ) (r : Answer) → natAbs x % 2 ≡ 0 → natAbs x ≤ 1024 → WritesWhole 16 Rule.Strict x r → (w : ℕ) × (r ≡ Answer.Word w) × IsWhole 16 x w
 

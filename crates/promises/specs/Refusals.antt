@@ -120,11 +120,12 @@ IsBinary64 n nan w = IsWord n w × (takum n w ≡ NaR)
 IsBinary64 n (inf s) w = IsWord n w × (takum n w ≡ NaR)
 IsBinary64 n (fin s m e) w = IsExact n s (m * up e * 2 ^ 307) (down e) w
 
--- a chain of strict moves: those of its first move, and where that is made, those of the others from there on
+-- a chain of strict moves has the lines of its first move and, where none of them holds, those of the rest of the chain
 unfoldable pub ChainFollows : ℕ → ℕ → ℕ → List ℕ → Answer → Type 0
 ChainFollows home n w [] a = Follows Answer.Refused a (width n ∷ width home ∷ moveLines n home Rule.Strict w)
 ChainFollows home n w (n' ∷ ns) a = FollowsUpTo Answer.Refused a (width n ∷ width n' ∷ moveLines n n' Rule.Strict w) ((w' : ℕ) × Moves n n' Rule.Strict w (Answer.Word w') × ChainFollows home n' w' ns a)
 
+-- each call with its lines
 pub record RefusalsFollowTheTable : Type 0 where
   pub test : (n : ℕ) (a : Verdict) → a ≡ widthTest n → Follows Verdict.Refused a (width n ∷ [])
   pub test-word : (n w : ℕ) (a : Verdict) → a ≡ strayTest n w → Follows Verdict.Refused a (stray n w ∷ [])
@@ -141,7 +142,7 @@ pub record RefusalsFollowTheTable : Type 0 where
   pub take-whole : (n : ℕ) (rule : Taking) (w : ℕ) (a : Whole) → TakesWhole n rule w a → Follows Whole.Refused a (width n ∷ stray n w ∷ nar n w ∷ over n w ∷ noWhole rule n w ∷ [])
   pub write-binary64 : (n : ℕ) (rule : Rule) (x : Float) (a : Answer) → WritesBinary64 n rule x a → Follows Answer.Refused a (width n ∷ noWord rule (IsBinary64 n x) ∷ [])
   pub take-binary64 : (n w : ℕ) (a : Binary64) → TakesBinary64 n w a → Follows Binary64.Refused a (width n ∷ stray n w ∷ [])
-  -- source, then target
+  -- the source's width, then the target's
   pub move-word : (n n' : ℕ) (rule : Rule) (w : ℕ) (a : Answer) → Moves n n' rule w a → Follows Answer.Refused a (width n ∷ width n' ∷ moveLines n n' rule w)
   pub come-home : (n w : ℕ) (ns : List ℕ) (a : Answer) → ComesHome n w ns a → ChainFollows n n w ns a
   pub move-column : (n n' : ℕ) (rule : Rule) (words : List ℕ) (places : ℕ) (a : Column) → MovesColumn n n' rule words places a → Follows Column.Refused a (width n ∷ width n' ∷ room (length words) places ∷ [])

@@ -1,5 +1,5 @@
 -- How an answer follows the lines of the table: the tests of a contract, taken apart in their order. Assumes nothing.
-use mathlib.Core.Path.{_≡_, refl, _∙_}
+use mathlib.Core.Path.{_≡_, refl}
 use mathlib.Core.List.{List, [], _∷_}
 use mathlib.Core.Logic.{_⊎_, inl, inr, ⊎-elim}
 use Prim.Native.Nat.{ℕ, _-_, _^_, _≤_, _<_}
@@ -47,10 +47,10 @@ pub follow : {A : Type 0} {R : Refusal → A} {a : A} {v : Verdict} {When Q Rest
 follow q (holds e w) x f = inl (w, record { q = q; is = refused-as q e x; known = refl })
 follow q (fails e n) x f = inr (n, f e (answered e x))
 
--- a test alone
-pub alone : {v a : Verdict} {q : Refusal} {When : Type 0} → a ≡ v → Tells v q When → (When × RefusedAs Verdict Verdict.Refused (numberOf q) a) ⊎ ((When → ⊥) × ((p : Refusal) → a ≡ Verdict.Refused p → ⊥))
-alone {q = q} x (holds e w) = inl (w, record { q = q; is = x ∙ e; known = refl })
-alone x (fails e n) = inr (n, λ p h. let z : _≡_ {A = ℕ} 0 1 = cc in omega arith)
+-- a call that answers with the verdict itself
+pub verdict-decided : {v a : Verdict} → a ≡ v → Decided v (λ q. a ≡ Verdict.Refused q) (a ≡ Verdict.Through)
+verdict-decided {v = Verdict.Through} x = through refl x
+verdict-decided {v = Verdict.Refused q} x = refused refl x
 
 -- a condition said otherwise
 pub retold : {v : Verdict} {q : Refusal} {C D : Type 0} → (C → D) → (D → C) → Tells v q C → Tells v q D

@@ -43,7 +43,7 @@ use Rattle.binary64.specs.Writes.{IsWrittenBinary64, WritesBinary64}
 use Rattle.promises.specs.Writing.{numerator, denominator, Goes}
 use Rattle.promises.specs.Numbers.{IsWhole}
 use Rattle.promises.specs.Refusals.{FollowsUpTo, Follows, width, stray, nar, noWord, noWhole, over, moveLines, IsBinary64, ChainFollows, OutsideSigned64}
-use Rattle.promises.proofs.Lines.{Tells, holds, fails, width-tells, stray-tells, parts, follow, alone, retold, then-so, none-hold}
+use Rattle.promises.proofs.Lines.{Tells, holds, fails, width-tells, stray-tells, parts, follow, verdict-decided, retold, then-so, none-hold}
 
 -- the calls of a width, and of a word with its width
 module _ {A : Type 0} {R : Refusal → A} {a : A} {Q : Type 0} where
@@ -76,13 +76,15 @@ unfolding Follows FollowsUpTo Compares
 compare-follows n x y a h =
     follow Refusal.Width (width-tells n) (parts (parts h)) (λ e h. follow Refusal.Stray (stray-tells n x) h (λ e h. follow Refusal.Stray (stray-tells n y) h (λ e p q k. let z : _≡_ {A = ℕ} 0 1 = cc in omega arith)))
 
+verdict-none : (a : Verdict) → a ≡ Verdict.Through → (q : Refusal) → a ≡ Verdict.Refused q → ⊥
+verdict-none a p q e = let z : _≡_ {A = ℕ} 0 1 = cc in omega arith
+
 pub test-follows : (n : ℕ) (a : Verdict) → a ≡ widthTest n → Follows Verdict.Refused a (width n ∷ [])
-unfolding Follows FollowsUpTo
-test-follows n a x = alone x (width-tells n)
+test-follows n a x = of-width n (verdict-none a) (verdict-decided x)
 
 pub test-word-follows : (n w : ℕ) (a : Verdict) → a ≡ strayTest n w → Follows Verdict.Refused a (stray n w ∷ [])
 unfolding Follows FollowsUpTo
-test-word-follows n w a x = alone x (stray-tells n w)
+test-word-follows n w a x = follow Refusal.Stray (stray-tells n w) (verdict-decided x) (λ e. verdict-none a)
 
 -- ---- writing: INEXACT where strict and no word has the value
 -- what is written for a value that a word has exactly where HasIt holds of it

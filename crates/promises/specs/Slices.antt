@@ -26,6 +26,7 @@ use Rattle.promises.specs.Demands.{RefusedAs}
 unfoldable pub ARefusedColumnWritesNothing : Type 0
 ARefusedColumnWritesNothing = (n n' : ℕ) (rule : Rule) (words before after : List ℕ) (a : Column) → Holds n n' rule words before a after → ((count : ℕ) → a ≡ Column.Moved count → ⊥) → after ≡ before
 
+-- a block that is refused
 unfoldable pub ARefusedBlockWritesNothing : Type 0
 ARefusedBlockWritesNothing = (block before after : List ℕ) (q : Refusal) → ReadsBlock block (length before) (Block.Refused q) → FillsResults block before after → after ≡ before
 

@@ -26,6 +26,7 @@ numerator v = v .m * num (v .k +ℤ pos 307)
 unfoldable pub denominator : Value → ℕ
 denominator v = den (v .k +ℤ pos 307)
 
+-- the opposite value
 unfoldable pub withOtherSign : Value → Value
 withOtherSign v = record { negative = not (v .negative); m = v .m; k = v .k }
 
@@ -66,6 +67,7 @@ StrictWritingKeepsTheValue = (n : ℕ) (v : Value) (w : ℕ) → Writes n Rule.S
 unfoldable pub GivenOrInexact : (ℕ → Type 0) → Answer → Type 0
 GivenOrInexact HasTheValue r = ((w : ℕ) × (r ≡ Answer.Word w) × HasTheValue w) ⊎ (RefusedAs Answer Answer.Refused 4 r × ((w : ℕ) → HasTheValue w → ⊥))
 
+-- of a value
 unfoldable pub StrictWritingIsRefusedExactlyWhereThereIsNoWord : Type 0
 StrictWritingIsRefusedExactlyWhereThereIsNoWord = (n : ℕ) (v : Value) (r : Answer) → 2 ≤ n → n ≤ 64 → Writes n Rule.Strict v r → GivenOrInexact (IsExact n (v .negative) (numerator v) (denominator v)) r
 

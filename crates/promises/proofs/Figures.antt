@@ -1,33 +1,46 @@
 -- The P figures hold, by one test that is computed over the whole table. Assumes nothing.
-use mathlib.Core.Path.{_≡_, refl, sym, ap, _∙_, subst}
+use mathlib.Core.Path.{_≡_, refl, sym, ap, _∙_}
 use mathlib.Core.Bool.{Bool, true, false, _&&_, _||_, cond}
 use mathlib.Core.List.{List, [], _∷_}
 use mathlib.Core.Logic.{_⊎_, inl, inr, ⊎-elim}
 use Prim.Native.Nat.{ℕ, zero, suc, _+_, _-_, _*_, _%_, _^_, _≤_, _<_}
 use native.Mathlib.Nat.{mul-one, zero-lt-suc, le-of-eq, lt-of-le-of-lt, lt-of-lt-of-le}
 use lib.Dec.{T, eqb, leb, ltb, eqb→eq, leb→le, ltb→lt}
-use lib.IntN.{natAbs}
+use lib.IntN.{pos, natAbs, _+ℤ_}
 use Rattle.bounds.specs.declared.answer.Answer.{Answer}
 use Rattle.bounds.specs.declared.refusal.Refusal.{Refusal}
-use Rattle.word.specs.Takum.{Takum, real, NaR, power, regimeOf, characteristicOf, S, D, R, r, p, C, F, c, e, value, meaning, N, padded, takum, fractionBits}
-use Rattle.word.specs.Reads.{num, den, signedSize, IsReading}
+use Rattle.word.specs.Takum.{Takum, real, NaR, power, regimeOf, characteristicOf, S, D, R, r, p, C, F, c, e, value, meaning, N, padded, takum}
+use Rattle.word.specs.Reads.{num, den, IsSize, signedSize}
 use Rattle.word.proofs.Heads.{both}
 use Rattle.bounds.proofs.Verdicts.{width-fits, answered}
 use Rattle.write.specs.declared.value.Rule.{Rule}
 use Rattle.write.specs.Writes.{HasValue, other, IsWritten, Writes}
 use Rattle.write.proofs.Rounding.{tie-nearest, none-between, written-one}
-use Rattle.promises.specs.Figures.{Figure, reads, writes, refuses, whole, below, plus, minus, figures, Holds, AllHold}
+use Rattle.promises.specs.Figures.{Said, plus, minus, nar, IsSaid, Figure, reads, writes, refuses, whole, below, figures, Holds, AllHold}
 use Rattle.promises.specs.Demands.{RefusedAs, ReadingIsTheDefinition}
 use Rattle.promises.specs.Writing.{numerator, denominator, AWordsValueIsWrittenAsTheWord}
 use Rattle.promises.proofs.Tests.{same, same-is, is-word, word-is, has, has-is}
 use Rattle.promises.proofs.Demands.{reading-is-the-definition}
 use Rattle.promises.proofs.Writing.{a-words-value-is-written-as-the-word}
 
--- ---- writing: the last word at or below the number, found by halving, and what follows from it and its upper neighbour
+-- the size of a meaning
 size-of : Takum → ℕ
 size-of (real z) = natAbs z
 size-of NaR = 0
 
+-- ---- reading: the size is the one that is said, and the sign too
+said : Said → Takum → Bool
+said (plus M k) t = let z = size-of t in eqb (M * num (k +ℤ pos 307)) (z * den (k +ℤ pos 307)) && same t (real (signedSize false z))
+said (minus M k) t = let z = size-of t in eqb (M * num (k +ℤ pos 307)) (z * den (k +ℤ pos 307)) && same t (real (signedSize true z))
+said nar t = same t NaR
+
+said-is : (x : Said) (t : Takum) → T (said x t) → IsSaid x t
+unfolding said IsSaid IsSize
+said-is (plus M k) t ok = let u = both (eqb (M * num (k +ℤ pos 307)) (size-of t * den (k +ℤ pos 307))) (same t (real (signedSize false (size-of t)))) ok in (size-of t, eqb→eq _ _ (u .0), same-is t _ (u .1))
+said-is (minus M k) t ok = let u = both (eqb (M * num (k +ℤ pos 307)) (size-of t * den (k +ℤ pos 307))) (same t (real (signedSize true (size-of t)))) ok in (size-of t, eqb→eq _ _ (u .0), same-is t _ (u .1))
+said-is nar t ok = same-is t NaR ok
+
+-- ---- writing: the last word at or below the number, found by halving, and what follows from it and its upper neighbour
 last-below : ℕ → ℕ → ℕ → ℕ → ℕ
 last-below n a zero v = v
 last-below n a (suc i) v = cond (leb (size-of (takum n (v + 2 ^ i))) a) (last-below n a i (v + 2 ^ i)) (last-below n a i v)
@@ -59,7 +72,7 @@ apart n Rule.Strict M number v z z' = neighbours n M v z z' && ((ltb z (scaled M
 
 -- ---- the test of one figure and of a list of them
 passes : Figure → Bool
-passes (reads n w t) = is-word n w && same (takum n w) t
+passes (reads n w x) = is-word n w && said x (takum n w)
 passes (writes n rule M w) = let v = low-word n M in exactly n M w v || midway n rule M w v (size-of (takum n v)) (size-of (takum n (suc v)))
 passes (refuses n rule M number) = let v = low-word n M in apart n rule M number v (size-of (takum n v)) (size-of (takum n (suc v)))
 
@@ -127,9 +140,9 @@ apart-holds n Rule.Strict M number v z z' t = λ a x.
 
 holds : (f : Figure) → T (passes f) → Holds f
 unfolding passes Holds ReadingIsTheDefinition
-holds (reads n w t) ok = λ a x.
-    let y = both (is-word n w) (same (takum n w) t) ok in
-    subst (λ (u : Takum). IsReading u (fractionBits n w) a) (same-is (takum n w) t (y .1)) (reading-is-the-definition n w a (word-is n w (y .0)) x)
+holds (reads n w x) ok = λ a h.
+    let y = both (is-word n w) (said x (takum n w)) ok in
+    (takum n w, said-is x (takum n w) (y .1), reading-is-the-definition n w a (word-is n w (y .0)) h)
 holds (writes n rule M w) ok =
     let v = low-word n M in
     ⊎-elim (exactly-holds n rule M w v) (midway-holds n rule M w v (size-of (takum n v)) (size-of (takum n (suc v)))) (either (exactly n M w v) (midway n rule M w v (size-of (takum n v)) (size-of (takum n (suc v)))) ok)
@@ -143,5 +156,5 @@ all-hold [] t = tt
 all-hold (f ∷ fs) t = let x = both (passes f) (all-pass fs) t in (holds f (x .0), all-hold fs (x .1))
 
 pub figures-hold : AllHold figures
-unfolding figures below plus minus signedSize power same is-word passes all-pass regimeOf characteristicOf S D R r p C F c e value meaning N padded takum exactly has low-word last-below size-of scaled midway apart neighbours
+unfolding figures below said num den signedSize power same is-word passes all-pass regimeOf characteristicOf S D R r p C F c e value meaning N padded takum exactly has low-word last-below size-of scaled midway apart neighbours
 figures-hold = all-hold figures tt

@@ -1,24 +1,30 @@
 -- The promises that specs/Numbers.antt states, from the laws of whole numbers and of binary64. Assumes nothing.
-use mathlib.Core.Path.{sym, ap, subst}
-use Prim.Native.Nat.{ℕ, _*_, _^_, _≤_}
+use mathlib.Core.Path.{_≡_, refl, sym, ap, subst}
+use mathlib.Core.Logic.{_⊎_, ⊎-elim}
+use Prim.Native.Nat.{ℕ, _*_, _%_, _^_, _≤_}
 use native.Mathlib.Nat.{zero-lt-suc}
-use lib.IntN.{natAbs}
-use lib.Ieee.{neg}
+use native.Mathlib.Omega.{arith}
+use lib.IntN.{ℤ, natAbs}
+use lib.Ieee.{Float, neg, round, binary64}
+use Rattle.bounds.specs.declared.answer.Answer.{Answer}
+use Rattle.word.specs.Takum.{Takum, real, NaR, takum}
+use Rattle.word.proofs.Values.{NaR-word}
 use Rattle.word.specs.Orders.{negated}
 use Rattle.bounds.specs.declared.width.Limit.{Limit}
 use Rattle.bounds.specs.Refusals.{through, refused}
-use Rattle.bounds.specs.Widths.{IsLimit, GivesLimit}
-use Rattle.bounds.proofs.Verdicts.{width-fits, width-through, answered}
+use Rattle.bounds.specs.Widths.{narWord, IsLimit, GivesLimit}
+use Rattle.bounds.proofs.Verdicts.{width-fits, width-through, word-passes, answered}
 use Rattle.write.specs.declared.value.Rule.{Rule}
-use Rattle.write.specs.Writes.{HasValue, isNegative, IsWritten}
+use Rattle.write.specs.Writes.{HasValue, isNegative}
 use Rattle.whole.specs.Wholes.{WritesWhole}
-use Rattle.whole.specs.Limits.{TheLimitPlusOneHasNoWord, StrictWritingUpToTheLimitIsNeverRefused, StrictWritingOfTheLimitPlusOneIsInexact}
-use Rattle.whole.proofs.LimitWords.{the-limit-plus-one-has-no-word}
-use Rattle.whole.proofs.LimitWriting.{strict-writing-up-to-the-limit-is-never-refused, strict-writing-of-the-limit-plus-one-is-inexact}
+use Rattle.whole.specs.Limits.{TheLimitPlusOneHasNoWord, StrictWritingUpToTheLimitIsNeverRefused}
+use Rattle.whole.proofs.LimitWords.{the-limit-plus-one-has-no-word, no-odd-number-past-the-limit-has-a-word}
+use Rattle.whole.proofs.LimitWriting.{strict-writing-up-to-the-limit-is-never-refused}
 use Rattle.whole.proofs.WholeValues.{valueOf}
-use Rattle.whole.proofs.InAndOut.{strictly-written, whole-comes-back, word-comes-back}
+use Rattle.whole.proofs.InAndOut.{strictly-written, strictly-taken, whole-comes-back, word-comes-back}
 use Rattle.whole.proofs.Order.{taking-keeps-order}
 use Rattle.binary64.specs.declared.taking.Binary64.{Binary64}
+use Rattle.binary64.specs.Takes.{IsTaken, TakesBinary64}
 use Rattle.binary64.specs.Writes.{WritesBinary64}
 use Rattle.binary64.proofs.Exactness.{taken-exact}
 use Rattle.binary64.proofs.RoundTrip.{out-then-in}
@@ -27,7 +33,14 @@ use Rattle.binary64.proofs.Negation.{negated-taken, zero-taken-positive}
 use Rattle.binary64.proofs.Specials.{nan-written, infinity-written, zero-number-written, NaR-not-taken}
 use Rattle.binary64.proofs.Written.{value-written}
 use Rattle.binary64.proofs.OneOutcome.{writes-binary64-one, takes-binary64-one}
+use Rattle.promises.proofs.Evens.{limit-of-16, even-at-16}
+use Rattle.promises.proofs.Lines.{past, good-width, given-or-inexact}
+use Rattle.promises.proofs.OneOutcome.{gives-limit-one}
+use Rattle.promises.proofs.WordRefusals.{write-whole-follows}
+use Rattle.promises.specs.Demands.{RefusedAs}
+use Rattle.promises.specs.Writing.{GivenOrInexact}
 use Rattle.promises.specs.Numbers as promise
+use Rattle.promises.specs.Numbers.{IsWhole}
 
 -- ---- the limit
 count-of : Limit → ℕ
@@ -50,26 +63,60 @@ known n l (through h x) = let t = width-through n h in
     record { lo = t .0; hi = t .1; limit = subst (IsLimit n) (sym (ap count-of (x .1))) (x .2) }
 known n l (refused h q) = absurd (subst is-count q tt)
 
+pub a-whole-number-is-kept : promise.AWholeNumberIsKept
+unfolding promise.AWholeNumberIsKept IsWhole valueOf
+a-whole-number-is-kept n x w y = let k = strictly-written n x w y in record { word = k .word; means = k .means }
+
+pub a-whole-number-is-refused-exactly-where-it-has-no-word : promise.AWholeNumberIsRefusedExactlyWhereItHasNoWord
+unfolding promise.AWholeNumberIsRefusedExactlyWhereItHasNoWord promise.AWholeNumberIsKept
+a-whole-number-is-refused-exactly-where-it-has-no-word n x r lo hi y =
+    given-or-inexact (IsWhole n x) r (λ w q. a-whole-number-is-kept n x w (subst (WritesWhole n Rule.Strict x) q y)) (past Answer.Refused r 1 _ _ (good-width n (lo, hi)) (write-whole-follows n Rule.Strict x r y))
+
 pub every-whole-number-up-to-the-limit-is-written : promise.EveryWholeNumberUpToTheLimitIsWritten
-unfolding promise.EveryWholeNumberUpToTheLimitIsWritten promise.IsWhole WritesWhole StrictWritingUpToTheLimitIsNeverRefused
+unfolding promise.EveryWholeNumberUpToTheLimitIsWritten IsWhole WritesWhole StrictWritingUpToTheLimitIsNeverRefused
 every-whole-number-up-to-the-limit-is-written n l x r g h y =
     let k = known n l g in
     strict-writing-up-to-the-limit-is-never-refused n l (k .lo) (k .hi) (k .limit) (natAbs x) h (isNegative x) r (answered (width-fits n (k .lo) (k .hi)) y)
 
+-- a whole number that has no word
+no-word : (n : ℕ) (x : ℤ) (r : Answer) → 2 ≤ n → n ≤ 64 → ((w : ℕ) → IsWhole n x w → ⊥) → WritesWhole n Rule.Strict x r → RefusedAs Answer Answer.Refused 4 r × ((w : ℕ) → IsWhole n x w → ⊥)
+unfolding promise.AWholeNumberIsRefusedExactlyWhereItHasNoWord GivenOrInexact
+no-word n x r lo hi none y = ⊎-elim (λ z. absurd (none (z .0) (z .2))) (λ z. z) (a-whole-number-is-refused-exactly-where-it-has-no-word n x r lo hi y)
+
 pub the-limit-plus-one-is-refused : promise.TheLimitPlusOneIsRefused
-unfolding promise.TheLimitPlusOneIsRefused promise.IsWhole WritesWhole StrictWritingOfTheLimitPlusOneIsInexact TheLimitPlusOneHasNoWord
+unfolding promise.TheLimitPlusOneIsRefused IsWhole TheLimitPlusOneHasNoWord
 the-limit-plus-one-is-refused n l x r g q y =
-    let k = known n l g in (
-      strict-writing-of-the-limit-plus-one-is-inexact n l (k .lo) (k .hi) (k .limit) (isNegative x) r
-          (subst (λ (i : ℕ). IsWritten n Rule.Strict (isNegative x) (i * 2 ^ 307) 1 r) q (answered (width-fits n (k .lo) (k .hi)) y)),
-      λ w z. the-limit-plus-one-has-no-word n l (k .lo) (k .hi) (k .limit) (isNegative x) w (subst (λ (i : ℕ). HasValue n (isNegative x) (i * 2 ^ 307) w) q z),
-    )
+    let k = known n l g in
+    no-word n x r (k .lo) (k .hi) (λ w z. the-limit-plus-one-has-no-word n l (k .lo) (k .hi) (k .limit) (isNegative x) w (subst (λ (i : ℕ). HasValue n (isNegative x) (i * 2 ^ 307) w) q z)) y
+
+-- ---- the line in the ledger
+pub no-odd-number-past-the-limit-is-written : promise.NoOddNumberPastTheLimitIsWritten
+unfolding promise.NoOddNumberPastTheLimitIsWritten IsWhole
+no-odd-number-past-the-limit-is-written n l x r g odd past y =
+    let k = known n l g in
+    no-word n x r (k .lo) (k .hi) (no-odd-number-past-the-limit-has-a-word n l (k .lo) (k .hi) (k .limit) (natAbs x) odd past (isNegative x)) y
+
+pub no-odd-number-past-the-limit-comes-back : promise.NoOddNumberPastTheLimitComesBack
+unfolding promise.NoOddNumberPastTheLimitComesBack valueOf
+no-odd-number-past-the-limit-comes-back n l w x g past y =
+    let k = known n l g in
+    let t = strictly-taken n w x y in
+    even (λ odd. no-odd-number-past-the-limit-has-a-word n l (k .lo) (k .hi) (k .limit) (natAbs x) odd past (isNegative x) w (record { word = t .word; means = t .means }))
+  where
+    even : (natAbs x % 2 ≡ 1 → ⊥) → natAbs x % 2 ≡ 0
+    even f = omega (arith, f)
+
+pub at-16-the-limit-is-512 : promise.At16TheLimitIs512
+unfolding promise.At16TheLimitIs512 GivesLimit
+at-16-the-limit-is-512 a x = gives-limit-one 16 a (Limit.Count 512) x (through (width-fits 16 (omega arith) (omega arith)) (512, refl, limit-of-16))
+
+pub at-16-every-even-number-up-to-1024-is-written : promise.At16EveryEvenNumberUpTo1024IsWritten
+unfolding promise.At16EveryEvenNumberUpTo1024IsWritten promise.AWholeNumberIsRefusedExactlyWhereItHasNoWord IsWhole GivenOrInexact
+at-16-every-even-number-up-to-1024-is-written x r even le y =
+    let t = even-at-16 (isNegative x) (natAbs x) even le in
+    ⊎-elim (λ z. z) (λ z. absurd (z .1 (t .0) (t .1))) (a-whole-number-is-refused-exactly-where-it-has-no-word 16 x r (omega arith) (omega arith) y)
 
 -- ---- whole numbers in and out
-pub a-whole-number-is-kept : promise.AWholeNumberIsKept
-unfolding promise.AWholeNumberIsKept promise.IsWhole valueOf
-a-whole-number-is-kept n x w y = let k = strictly-written n x w y in record { word = k .word; means = k .means }
-
 pub a-whole-number-comes-back : promise.AWholeNumberComesBack
 unfolding promise.AWholeNumberComesBack
 a-whole-number-comes-back = whole-comes-back
@@ -106,6 +153,14 @@ zero-goes-out-positive = zero-taken-positive
 pub special-numbers : promise.SpecialNumbers
 unfolding promise.SpecialNumbers
 special-numbers n rule r lo hi = record { not-a-number = nan-written n lo hi rule r; infinity = infinity-written n lo hi rule r; zero = zero-number-written n lo hi rule r }
+
+pub a-word-that-is-not-NaR-goes-out-as-a-number : promise.AWordThatIsNotNaRGoesOutAsANumber
+unfolding promise.AWordThatIsNotNaRGoesOutAsANumber TakesBinary64 IsTaken narWord
+a-word-that-is-not-NaR-goes-out-as-a-number n w a i other x = by (takum n w) refl (answered (word-passes n w i) x)
+  where
+    by : (t : Takum) → takum n w ≡ t → IsTaken t a → (x : Float) × (a ≡ Binary64.Number x)
+    by (real z) q y = (round binary64 (isNegative z) (natAbs z) (2 ^ 307), y)
+    by NaR q y = absurd (other (NaR-word n w i q))
 
 pub NaR-goes-out-as-none : promise.NaRGoesOutAsNone
 unfolding promise.NaRGoesOutAsNone

@@ -1,37 +1,41 @@
 -- The demands that specs/Writing.antt states, from the laws of writing. Assumes nothing.
 use mathlib.Core.Path.{_≡_, refl, sym, ap, ap₂, _∙_, subst}
-use mathlib.Core.Bool.{false, not}
+use mathlib.Core.Bool.{Bool, false, not}
 use mathlib.Core.List.{List, [], _∷_}
 use mathlib.Core.Logic.{inl, inr}
-use Prim.Native.Nat.{ℕ, zero, _-_, _^_, _≤_, _<_}
-use native.Mathlib.Nat.{mul-pos}
+use Prim.Native.Nat.{ℕ, zero, _-_, _*_, _^_, _≤_, _<_}
+use native.Mathlib.Nat.{zero-mul, mul-pos}
 use native.Mathlib.Omega.{arith}
 use lib.IntN.{pos, _+ℤ_, _-ℤ_}
 use Rattle.bounds.specs.declared.answer.Answer.{Answer}
 use Rattle.bounds.specs.declared.refusal.Refusal.{Refusal}
-use Rattle.word.specs.Takum.{Takum, real, NaR, takum}
+use Rattle.word.specs.Takum.{Takum, real, takum}
 use Rattle.bounds.specs.declared.refusal.Verdict.{Verdict}
+use Rattle.word.specs.declared.reading.Reading.{Reading}
 use Rattle.bounds.specs.Refusals.{widthTest, strayTest, _then_, IsWord, through, refused}
 use Rattle.bounds.specs.Widths.{narWord, largest, smallest}
-use Rattle.word.specs.Reads.{IsSize, IsReading, Reads}
+use Rattle.word.specs.Reads.{num, IsSize, IsReading, Reads}
 use Rattle.word.specs.Orders.{negated}
 use Rattle.bounds.proofs.Answers.{GivesAWord}
-use Rattle.bounds.proofs.Verdicts.{width-fits, stray-fits, word-passes, move-passes, move-through, answered}
-use Rattle.word.proofs.Values.{grown, words-differ}
+use Rattle.bounds.proofs.Verdicts.{width-fits, width-through, stray-fits, word-passes, move-passes, move-through, answered}
+use Rattle.word.proofs.Values.{grown, words-differ, no-sign}
 use Rattle.word.proofs.Words.{zeros-appended}
 use Rattle.write.specs.declared.value.Rule.{Rule}
 use Rattle.write.specs.declared.value.Value.{Value}
-use Rattle.write.specs.Writes.{Nearest, IsRounded, zero, other, IsWritten, IsMoved, Writes, Moves}
+use Rattle.write.specs.Writes.{Nearest, IsRounded, zero, other, IsWritten, isNegative, IsMoved, Writes, Moves}
 use Rattle.write.specs.Offers.{withSign}
 use Rattle.write.proofs.Exponents.{unit-some}
-use Rattle.write.proofs.Places.{two, wordOf, has-value}
-use Rattle.write.proofs.Rules.{number-written}
+use Rattle.write.proofs.Places.{two, wordOf, has-value, from-word}
+use Rattle.write.proofs.Rules.{zero-written, number-written}
 use Rattle.write.proofs.Signs.{signed-word}
 use Rattle.write.proofs.Rounding.{rounded-exists, rounded-one, rounded-not-zero-nor-NaR, past-the-largest, before-the-smallest, rounded-negated, exact-written, written-one}
 use Rattle.write.proofs.Order.{rounding-keeps-order}
 use Rattle.write.proofs.Moves.{Kept, moved-to-the-same, strict-keeps, there-and-back, wider-keeps}
+use Rattle.promises.specs.Refusals.{moveLines}
 use Rattle.promises.specs.Writing as promise
-use Rattle.promises.specs.Writing.{numerator, denominator, withOtherSign, Chain, Goes, ComesHome}
+use Rattle.promises.specs.Writing.{numerator, denominator, withOtherSign, Says, Chain, Goes, ComesHome}
+use Rattle.promises.proofs.Lines.{past, good-width, given-or-inexact}
+use Rattle.promises.proofs.WordRefusals.{write-follows, move-follows}
 
 some-denominator : (v : Value) → 0 < denominator v
 unfolding denominator
@@ -41,6 +45,11 @@ some-denominator v = unit-some (v .k +ℤ pos 307) .1
 written : (n : ℕ) (rule : Rule) (v : Value) (r : Answer) → 2 ≤ n → n ≤ 64 → Writes n rule v r → IsWritten n rule (v .negative) (numerator v) (denominator v) r
 unfolding Writes numerator denominator
 written n rule v r lo hi x = answered (width-fits n lo hi) x
+
+-- zero has no size
+no-numerator : (v : Value) → v .m ≡ 0 → numerator v ≡ 0
+unfolding numerator
+no-numerator v q = ap (λ (m : ℕ). m * num (v .k +ℤ pos 307)) q ∙ zero-mul (num (v .k +ℤ pos 307))
 
 pub rounded-is-the-nearest : promise.RoundedIsTheNearest
 unfolding promise.RoundedIsTheNearest IsWritten
@@ -99,6 +108,17 @@ before-the-smallest-word n lo hi =
     let is = has-value n lo hi false 1 (omega arith) last in
     (grown n 1, is, λ v r some h x. end-word n lo hi v r 1 (omega arith) last some x (λ w y. before-the-smallest n lo hi (v .negative) (grown n 1) (numerator v) (denominator v) w (some-denominator v) is h y))
 
+-- the one place of width 2
+pub at-width-2-every-positive-value-is-written-as-1 : promise.AtWidth2EveryPositiveValueIsWrittenAs1
+unfolding promise.AtWidth2EveryPositiveValueIsWrittenAs1 promise.RoundedIsTheNearest wordOf
+at-width-2-every-positive-value-is-written-as-1 v r some plus x =
+    let lo : 2 ≤ 2 = omega arith in
+    let hi : 2 ≤ 64 = omega arith in
+    let t = rounded-is-the-nearest 2 v r lo hi x in
+    let u = from-word 2 lo hi (v .negative) (numerator v) (denominator v) (t .0) (nearest-one v some 2 (t .0) lo hi (subst (Writes 2 Rule.Rounded v) (t .1) x)) in
+    let one : u .0 ≡ 1 = omega (arith, u .1 .first, u .1 .last) in
+    t .1 ∙ ap Answer.Word (u .2 ∙ ap (λ (s : Bool). wordOf 2 s (u .0)) plus ∙ one)
+
 pub a-words-value-is-written-as-the-word : promise.AWordsValueIsWrittenAsTheWord
 unfolding promise.AWordsValueIsWrittenAsTheWord
 a-words-value-is-written-as-the-word n rule v w r lo hi x y = exact-written n lo hi rule (v .negative) (numerator v) (denominator v) w r (some-denominator v) x (written n rule v r lo hi y)
@@ -108,16 +128,23 @@ unfolding promise.StrictWritingKeepsTheValue Writes IsWritten IsSize GivesAWord
 strict-writing-keeps-the-value n v w (through h x) = (x .is .word, x .z, x .is .means, sym (x .same))
 strict-writing-keeps-the-value n v w (refused h q) = absurd (subst GivesAWord q tt)
 
-pub strict-refuses-only-where-there-is-no-word : promise.StrictRefusesOnlyWhereThereIsNoWord
-unfolding promise.StrictRefusesOnlyWhereThereIsNoWord IsWritten
-strict-refuses-only-where-there-is-no-word n v q lo hi x = written n Rule.Strict v (Answer.Refused q) lo hi x
+pub strict-writing-is-refused-exactly-where-there-is-no-word : promise.StrictWritingIsRefusedExactlyWhereThereIsNoWord
+unfolding promise.StrictWritingIsRefusedExactlyWhereThereIsNoWord IsWritten
+strict-writing-is-refused-exactly-where-there-is-no-word n v r lo hi x =
+    given-or-inexact _ r (λ w q. written n Rule.Strict v (Answer.Word w) lo hi (subst (Writes n Rule.Strict v) q x)) (past Answer.Refused r 1 _ _ (good-width n (lo, hi)) (write-follows n Rule.Strict v r x))
 
 pub what-was-read-is-written-back : promise.WhatWasReadIsWrittenBack
-unfolding promise.WhatWasReadIsWrittenBack promise.AWordsValueIsWrittenAsTheWord Reads IsReading IsSize numerator denominator
-what-was-read-is-written-back n w rule s h m p r i x y =
+unfolding promise.WhatWasReadIsWrittenBack promise.AWordsValueIsWrittenAsTheWord Says Reads IsReading IsSize numerator denominator
+what-was-read-is-written-back n w rule Reading.Zero v r i x says y =
+    let zero : takum n w ≡ real (pos 0) = answered (word-passes n w i) x in
+    a-words-value-is-written-as-the-word n rule v w r (i .least) (i .most)
+    (record { z = 0; is = record { word = i; means = zero ∙ ap real (sym (no-sign (v .negative))) }; same = zero-mul (denominator v) ∙ sym (no-numerator v says) }) y
+what-was-read-is-written-back n w rule (Reading.Number s h m p) v r i x says y =
     let number = answered (word-passes n w i) x in
-    let v : Value = record { negative = s; m = m; k = h -ℤ pos p } in
-    a-words-value-is-written-as-the-word n rule v w r (i .least) (i .most) (record { z = number .v; is = record { word = i; means = number .means }; same = sym (number .size) }) y
+    let u : Value = record { negative = s; m = m; k = h -ℤ pos p } in
+    a-words-value-is-written-as-the-word n rule u w r (i .least) (i .most) (record { z = number .v; is = record { word = i; means = number .means }; same = sym (number .size) }) (subst (λ (v : Value). Writes n rule v r) says y)
+what-was-read-is-written-back n w rule Reading.NotReal v r i x says y = absurd says
+what-was-read-is-written-back n w rule (Reading.Refused q) v r i x says y = absurd says
 
 pub rounding-commutes-with-negation : promise.RoundingCommutesWithNegation
 unfolding promise.RoundingCommutesWithNegation IsWritten withOtherSign numerator denominator
@@ -131,6 +158,13 @@ rounding-keeps-the-order n u v x y lo hi h p q =
     rounding-keeps-order n lo hi (u .negative) (v .negative) (numerator u) (denominator u) (numerator v) (denominator v) x y (some-denominator u) (some-denominator v) (written n Rule.Rounded u (Answer.Word x) lo hi p) (written n Rule.Rounded v (Answer.Word y) lo hi q) h
 
 -- ---- moves
+-- zero is moved as it is written
+zero-moved : (n : ℕ) → 2 ≤ n → n ≤ 64 → (rule : Rule) (r : Answer) (t : Takum) (v : Value) → t ≡ real (pos 0) → v .m ≡ 0 → IsMoved n rule t r → IsWritten n rule (v .negative) (numerator v) (denominator v) r
+unfolding IsMoved isNegative
+zero-moved n lo hi rule r t v q m x =
+    let same = written-one n lo hi rule false 0 1 r (Answer.Word 0) (omega arith) (subst (λ (t : Takum). IsMoved n rule t r) q x) (zero-written n lo hi rule false 0 1 refl) in
+    subst (IsWritten n rule (v .negative) (numerator v) (denominator v)) (sym same) (zero-written n lo hi rule (v .negative) (numerator v) (denominator v) (no-numerator v m))
+
 -- where the source is a word, only the target's width can be refused
 only-target : (n n' w : ℕ) {q : Refusal} → IsWord n w → widthTest n then widthTest n' then strayTest n w ≡ Verdict.Refused q → widthTest n' ≡ Verdict.Refused q
 only-target n n' w {q} i h = by (widthTest n') (sym (ap₂ (λ (u v : Verdict). u then widthTest n' then v) (width-fits n (i .least) (i .most)) (stray-fits n w (i .fits))) ∙ h)
@@ -140,10 +174,15 @@ only-target n n' w {q} i h = by (widthTest n') (sym (ap₂ (λ (u v : Verdict). 
     by (Verdict.Refused q') h = h
 
 pub a-move-is-a-reading-and-a-writing : promise.AMoveIsAReadingAndAWriting
-unfolding promise.AMoveIsAReadingAndAWriting Reads IsReading Moves Writes
-a-move-is-a-reading-and-a-writing n n' w rule s h m p r i x (through q y) =
-    through (move-through n n' w q .1) (number-written n' rule r (takum n w) _ s h m p (answered (word-passes n w i) x) y)
-a-move-is-a-reading-and-a-writing n n' w rule s h m p r i x (refused q y) = refused (only-target n n' w i q) y
+unfolding promise.AMoveIsAReadingAndAWriting Says Reads IsReading Moves Writes numerator denominator
+a-move-is-a-reading-and-a-writing n n' w rule a v r i x says (refused q y) = refused (only-target n n' w i q) y
+a-move-is-a-reading-and-a-writing n n' w rule Reading.Zero v r i x says (through q y) =
+    let t = width-through n' (move-through n n' w q .1) in
+    through (move-through n n' w q .1) (zero-moved n' (t .0) (t .1) rule r (takum n w) v (answered (word-passes n w i) x) says y)
+a-move-is-a-reading-and-a-writing n n' w rule (Reading.Number s h m p) v r i x says (through q y) =
+    subst (λ (v : Value). Writes n' rule v r) (sym says) (through (move-through n n' w q .1) (number-written n' rule r (takum n w) _ s h m p (answered (word-passes n w i) x) y))
+a-move-is-a-reading-and-a-writing n n' w rule Reading.NotReal v r i x says (through q y) = absurd says
+a-move-is-a-reading-and-a-writing n n' w rule (Reading.Refused p) v r i x says (through q y) = absurd says
 
 pub strict-moves-keep-the-value : promise.StrictMovesKeepTheValue
 unfolding promise.StrictMovesKeepTheValue
@@ -153,14 +192,11 @@ pub a-word-with-the-value-is-given : promise.AWordWithTheValueIsGiven
 unfolding promise.AWordWithTheValueIsGiven
 a-word-with-the-value-is-given n n' w w' rule r i i' same x = moved-to-the-same n n' w w' rule r i i' same x
 
-pub strict-moves-refuse-only-where-there-is-no-word : promise.StrictMovesRefuseOnlyWhereThereIsNoWord
-unfolding promise.StrictMovesRefuseOnlyWhereThereIsNoWord Moves IsMoved IsWritten GivesAWord
-strict-moves-refuse-only-where-there-is-no-word n n' w q i lo hi x =
-    (by (takum n w) (answered (move-passes n n' w i lo hi) x), λ w' i' same. subst GivesAWord (sym (moved-to-the-same n n' w w' Rule.Strict (Answer.Refused q) i i' same x)) tt)
-  where
-    by : (t : Takum) → IsMoved n' Rule.Strict t (Answer.Refused q) → q ≡ Refusal.Inexact
-    by (real z) y = y .0
-    by NaR y = absurd (subst GivesAWord (sym y) tt)
+pub strict-moves-are-refused-exactly-where-there-is-no-word : promise.StrictMovesAreRefusedExactlyWhereThereIsNoWord
+unfolding promise.StrictMovesAreRefusedExactlyWhereThereIsNoWord moveLines
+strict-moves-are-refused-exactly-where-there-is-no-word n n' w r i lo hi x =
+    given-or-inexact _ r (λ w' q. let k = strict-keeps n n' w w' (subst (Moves n n' Rule.Strict w) q x) in (k .to, k .same))
+    (past Answer.Refused r 2 _ _ (λ h. omega (arith, h, i .fits)) (past Answer.Refused r 1 _ _ (good-width n' (lo, hi)) (past Answer.Refused r 1 _ _ (good-width n (i .least, i .most)) (move-follows n n' Rule.Strict w r x))))
 
 pub NaR-moves-to-NaR : promise.NaRMovesToNaR
 unfolding promise.NaRMovesToNaR Moves IsMoved

@@ -2,32 +2,39 @@
 use mathlib.Core.Path.{_≡_}
 use mathlib.Core.Bool.{true, false}
 use mathlib.Core.List.{List, [], _∷_}
-use Prim.Native.Nat.{ℕ, _*_}
-use lib.IntN.{ℤ, pos, negℤ, _+ℤ_}
+use Prim.Native.Nat.{ℕ}
+use lib.IntN.{ℤ, pos, negℤ}
 use Rattle.bounds.specs.declared.answer.Answer.{Answer}
 use Rattle.word.specs.declared.reading.Reading.{Reading}
-use Rattle.bounds.specs.declared.refusal.Refusal.{Refusal}
-use Rattle.word.specs.Takum.{Takum, real, NaR, power, fractionBits}
-use Rattle.word.specs.Reads.{signedSize, IsReading, Reads}
+use Rattle.word.specs.Takum.{Takum, real, NaR, fractionBits}
+use Rattle.word.specs.Reads.{IsSize, signedSize, IsReading, Reads}
 use Rattle.write.specs.declared.value.Rule.{Rule}
 use Rattle.write.specs.declared.value.Value.{Value}
 use Rattle.write.specs.Writes.{Writes}
+use Rattle.promises.specs.Demands.{RefusedAs}
 
 -- -k, for the exponents below 0
 unfoldable pub below : ℕ → ℤ
 below k = negℤ (pos k)
 
--- plus or minus M * 2^k
-unfoldable pub plus : ℕ → ℤ → Takum
-plus M k = real (signedSize false (M * power (k +ℤ pos 307)))
+-- what a word is said to be: plus or minus M * 2^k, or NaR
+pub data Said : Type 0 where
+  plus : ℕ → ℤ → Said
+  minus : ℕ → ℤ → Said
+  nar : Said
 
-unfoldable pub minus : ℕ → ℤ → Takum
-minus M k = real (signedSize true (M * power (k +ℤ pos 307)))
+-- t is that
+unfoldable pub IsSaid : Said → Takum → Type 0
+IsSaid (plus M k) t = (z : ℕ) × IsSize M k z × (t ≡ real (signedSize false z))
+IsSaid (minus M k) t = (z : ℕ) × IsSize M k z × (t ≡ real (signedSize true z))
+IsSaid nar t = t ≡ NaR
 
--- reads n w t: the word w of n bits is t; writes n rule M r: the whole number M, written in n bits by the rule, is answered with r
+-- reads n w x: the word w of n bits is x; writes n rule M w: the whole number M, written in n bits by the rule, is the word w; refuses n rule M number:
+-- it is the refusal with this number
 pub data Figure : Type 0 where
-  reads : ℕ → ℕ → Takum → Figure
-  writes : ℕ → Rule → ℕ → Answer → Figure
+  reads : ℕ → ℕ → Said → Figure
+  writes : ℕ → Rule → ℕ → ℕ → Figure
+  refuses : ℕ → Rule → ℕ → ℕ → Figure
 
 unfoldable pub whole : ℕ → Value
 whole M = record { negative = false; m = M; k = pos 0 }
@@ -41,22 +48,23 @@ figures =
     ∷ reads 16 0x3800 (plus 1 (below 1))
     ∷ reads 16 0x0001 (plus 17 (below 259))
     ∷ reads 16 0x7FFF (plus 31 (pos 250))
-    ∷ reads 16 0x8000 NaR
+    ∷ reads 16 0x8000 nar
     ∷ reads 16 0x5A00 (plus 512 (pos 0))
     ∷ reads 16 0x5B00 (plus 1024 (pos 0))
     ∷ reads 8 0x7F (plus 1 (pos 239))
     ∷ reads 8 0x01 (plus 1 (below 239))
-    ∷ writes 16 Rule.Rounded 512 (Answer.Word 0x5A00)
-    ∷ writes 16 Rule.Strict 512 (Answer.Word 0x5A00)
-    ∷ writes 16 Rule.Rounded 513 (Answer.Word 0x5A00)
-    ∷ writes 16 Rule.Strict 513 (Answer.Refused Refusal.Inexact)
-    ∷ writes 16 Rule.Rounded 1023 (Answer.Word 0x5B00)
+    ∷ writes 16 Rule.Rounded 512 0x5A00
+    ∷ writes 16 Rule.Strict 512 0x5A00
+    ∷ writes 16 Rule.Rounded 513 0x5A00
+    ∷ refuses 16 Rule.Strict 513 4
+    ∷ writes 16 Rule.Rounded 1023 0x5B00
     ∷ []
 
 -- whatever reading or answer the contract allows is the figure's
 unfoldable pub Holds : Figure → Type 0
-Holds (reads n w t) = (a : Reading) → Reads n w a → IsReading t (fractionBits n w) a
-Holds (writes n rule M r) = (a : Answer) → Writes n rule (whole M) a → a ≡ r
+Holds (reads n w x) = (a : Reading) → Reads n w a → (t : Takum) × IsSaid x t × IsReading t (fractionBits n w) a
+Holds (writes n rule M w) = (a : Answer) → Writes n rule (whole M) a → a ≡ Answer.Word w
+Holds (refuses n rule M number) = (a : Answer) → Writes n rule (whole M) a → RefusedAs Answer Answer.Refused number a
 
 -- every figure of a list holds
 unfoldable pub AllHold : List Figure → Type 0

@@ -2,5 +2,6 @@
 pub mod Demands
 pub mod Figures
 pub mod Numbers
+pub mod Refusals
 pub mod Slices
 pub mod Writing

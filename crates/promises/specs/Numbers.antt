@@ -1,13 +1,12 @@
 -- What the letter demands of whole numbers, and what is promised of binary64, as statements about what the public contracts allow.
 use mathlib.Core.Path.{_≡_}
 use mathlib.Core.Bool.{Bool, false}
-use Prim.Native.Nat.{ℕ, _+_, _*_, _^_, _≤_}
+use Prim.Native.Nat.{ℕ, _+_, _*_, _%_, _^_, _≤_, _<_}
 use lib.Dec.{T}
 use lib.IntN.{ℤ, pos, negsuc, natAbs}
 use lib.Ieee.{Float, nan, inf, fin, neg, lt, le}
 use lib.Ieee.Exact as Ieee
 use Rattle.bounds.specs.declared.answer.Answer.{Answer}
-use Rattle.bounds.specs.declared.refusal.Refusal.{Refusal}
 use Rattle.bounds.specs.declared.refusal.Verdict.{Verdict}
 use Rattle.bounds.specs.declared.width.Limit.{Limit}
 use Rattle.word.specs.Takum.{real, takum}
@@ -22,6 +21,8 @@ use Rattle.whole.specs.Wholes.{overTest, WritesWhole, TakesWhole}
 use Rattle.binary64.specs.declared.taking.Binary64.{Binary64}
 use Rattle.binary64.specs.Takes.{TakesBinary64}
 use Rattle.binary64.specs.Writes.{WritesBinary64}
+use Rattle.promises.specs.Demands.{RefusedAs}
+use Rattle.promises.specs.Writing.{GivenOrInexact}
 
 -- the word w of n bits has the whole number x as its value
 unfoldable pub IsWhole : ℕ → ℤ → ℕ → Type 0
@@ -34,7 +35,28 @@ EveryWholeNumberUpToTheLimitIsWritten = (n l : ℕ) (x : ℤ) (r : Answer) → G
 
 -- the limit plus one, of either sign, has none, and strict writing refuses it
 unfoldable pub TheLimitPlusOneIsRefused : Type 0
-TheLimitPlusOneIsRefused = (n l : ℕ) (x : ℤ) (r : Answer) → GivesLimit n (Limit.Count l) → natAbs x ≡ l + 1 → WritesWhole n Rule.Strict x r → (r ≡ Answer.Refused Refusal.Inexact) × ((w : ℕ) → IsWhole n x w → ⊥)
+TheLimitPlusOneIsRefused = (n l : ℕ) (x : ℤ) (r : Answer) → GivesLimit n (Limit.Count l) → natAbs x ≡ l + 1 → WritesWhole n Rule.Strict x r → RefusedAs Answer Answer.Refused 4 r × ((w : ℕ) → IsWhole n x w → ⊥)
+
+-- and any whole number is refused as INEXACT exactly when it has no word
+unfoldable pub AWholeNumberIsRefusedExactlyWhereItHasNoWord : Type 0
+AWholeNumberIsRefusedExactlyWhereItHasNoWord = (n : ℕ) (x : ℤ) (r : Answer) → 2 ≤ n → n ≤ 64 → WritesWhole n Rule.Strict x r → GivenOrInexact (IsWhole n x) r
+
+-- ---- the line in the ledger
+-- past the limit an odd whole number, of either sign, has no word, and strict writing refuses it
+unfoldable pub NoOddNumberPastTheLimitIsWritten : Type 0
+NoOddNumberPastTheLimitIsWritten = (n l : ℕ) (x : ℤ) (r : Answer) → GivesLimit n (Limit.Count l) → natAbs x % 2 ≡ 1 → l < natAbs x → WritesWhole n Rule.Strict x r → RefusedAs Answer Answer.Refused 4 r × ((w : ℕ) → IsWhole n x w → ⊥)
+
+-- so a whole number that a word has there is even
+unfoldable pub NoOddNumberPastTheLimitComesBack : Type 0
+NoOddNumberPastTheLimitComesBack = (n l w : ℕ) (x : ℤ) → GivesLimit n (Limit.Count l) → l < natAbs x → TakesWhole n Taking.Strict w (Whole.Is x) → natAbs x % 2 ≡ 0
+
+-- at width 16 the limit is 512
+unfoldable pub At16TheLimitIs512 : Type 0
+At16TheLimitIs512 = (a : Limit) → GivesLimit 16 a → a ≡ Limit.Count 512
+
+-- and every even whole number up to 1,024 in size has a word, and strict writing gives it
+unfoldable pub At16EveryEvenNumberUpTo1024IsWritten : Type 0
+At16EveryEvenNumberUpTo1024IsWritten = (x : ℤ) (r : Answer) → natAbs x % 2 ≡ 0 → natAbs x ≤ 1024 → WritesWhole 16 Rule.Strict x r → (w : ℕ) × (r ≡ Answer.Word w) × IsWhole 16 x w
 
 -- ---- whole numbers in and out
 -- strict writing of a whole number keeps it
@@ -81,6 +103,10 @@ pub record SpecialNumbersAreWritten (n : ℕ) (rule : Rule) (r : Answer) : Type 
 
 unfoldable pub SpecialNumbers : Type 0
 SpecialNumbers = (n : ℕ) (rule : Rule) (r : Answer) → 2 ≤ n → n ≤ 64 → SpecialNumbersAreWritten n rule r
+
+-- every word but NaR goes out as a number
+unfoldable pub AWordThatIsNotNaRGoesOutAsANumber : Type 0
+AWordThatIsNotNaRGoesOutAsANumber = (n w : ℕ) (a : Binary64) → IsWord n w → (w ≡ narWord n → ⊥) → TakesBinary64 n w a → (x : Float) × (a ≡ Binary64.Number x)
 
 -- NaR goes out as no number
 unfoldable pub NaRGoesOutAsNone : Type 0

@@ -50,7 +50,7 @@ module _ (i : ℕ) (old new : List ℕ) (c : ChangedWithin i old new) where
     number-differs e = c .differs (bytes-same 4 (4 * i) new old bn bo e (c .j) (c .from) (c .to))
 
     -- so A isn't the sum any more
-    sum-differs : sumA (numbers old) ≡ A old → sumA (numbers new) ≡ A new → ⊥
+    pub sum-differs : sumA (numbers old) ≡ A old → sumA (numbers new) ≡ A new → ⊥
     sum-differs p q = number-differs (sumA-changed (numbers new) (numbers old) (numberAt 4 (4 * i) new) (numberAt 4 (4 * i) old) (numberAt-below 4 (4 * i) new bn) (numberAt-below 4 (4 * i) old bo) totals (q ∙ same-A ∙ sym p))
       where
         totals : total (numbers new) + numberAt 4 (4 * i) old ≡ total (numbers old) + numberAt 4 (4 * i) new

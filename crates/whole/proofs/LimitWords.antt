@@ -1,26 +1,31 @@
--- Every whole number up to the exact-count limit has a word, and the limit plus one has none. Assumes nothing.
-use mathlib.Core.Path.{_≡_, sym, ap, _∙_, subst, subst₂}
+-- Every whole number up to the exact-count limit has a word, and the limit plus one has none, nor has any odd number past the limit. Assumes nothing.
+use mathlib.Core.Path.{_≡_, refl, sym, ap, _∙_, subst, subst₂}
 use mathlib.Core.Bool.{Bool}
-use Prim.Native.Nat.{ℕ, zero, suc, _+_, _-_, _*_, _^_, _≤_, _<_}
-use native.Mathlib.Nat.{zero-lt-suc, lt-of-mul-lt-mul-right, mul-pos, mul-assoc}
+use Prim.Native.Nat.{ℕ, zero, suc, _+_, _-_, _*_, _%_, _^_, _≤_, _<_}
+use native.Mathlib.Nat.{zero-lt-suc, le-trans, le-of-eq, le-of-lt, le-of-suc-le-suc, lt-of-le-of-lt, lt-of-mul-lt-mul-right, mul-pos, mul-one, mul-assoc, mul-le-mul-left, mod-lt, two-pow-succ}
 use native.Mathlib.Numerals.{add-one}
 use native.Mathlib.Omega.{arith}
 use lib.Count.{leadingZeros}
-use lib.Dec.{lit<, lit≤}
+use lib.Dec.{lit<, lit≤, ltb}
+use lib.IntN.{ℤ, pos, negsuc, _+ℤ_, _-ℤ_}
 use lib.Pow.{pow-pos}
-use Rattle.bounds.specs.Widths.{Within, Greatest, greatest, none}
+use Rattle.bounds.specs.Widths.{Within, Greatest, greatest, none, IsLimit}
 use Rattle.bounds.proofs.Powers.{Log, leading-log, pow-sum, shl-below}
 use Rattle.bounds.proofs.Limits.{below-power, exponent-lt, within, exponent-small}
+use Rattle.word.specs.declared.size.Size.{Size}
+use Rattle.word.specs.Reads.{num, den, IsSize}
+use Rattle.word.specs.Sizes.{withoutSign}
+use Rattle.word.specs.Takum.{p, F, c}
 use Rattle.word.proofs.Sizes.{size}
 use Rattle.word.proofs.Values.{grown-suc}
 use Rattle.write.specs.Writes.{HasValue}
 use Rattle.write.proofs.Places.{wordOf, Place, has-value, place-of}
 use Rattle.write.proofs.Rules.{zero-value}
-use Rattle.write.proofs.Sized.{nar-shifted}
+use Rattle.write.proofs.Sized.{has-form, nar-shifted}
 use Rattle.whole.specs.Limits as promise
 use Rattle.whole.proofs.LimitBinades.{beginning, WholeBinade, whole-binade}
 use Rattle.whole.proofs.LimitStrings.{wholeBits, whole-some, whole-below, whole-size}
-use Rattle.whole.proofs.LimitBeyond.{bits-needed}
+use Rattle.whole.proofs.LimitBeyond.{odd-at-most, ends-in-one, odd-ends-in-one, bits-needed}
 
 -- every number but 0 has its logarithm
 log-of : (a : ℕ) → zero < a → (L : ℕ) × Log L a
@@ -90,24 +95,34 @@ module _ (n : ℕ) (lo : 2 ≤ n) (hi : n ≤ 64) where
         let t = log-of (suc j) (zero-lt-suc j) in
         has-a-word (t .0) (downward n g (suc (t .0)) (zero-lt-suc (t .0)) (exponent-lt (t .0) v (omega (arith, t .1 .low, le)))) (suc (suc j)) (omega (arith, t .1 .low)) (t .1 .high) s
 
-    -- ---- and one beyond it: v + 1 would be one of the rule
-    beyond : (s : Bool) (w : ℕ) → HasValue n s ((2 ^ v + 1) * 2 ^ 307) w → ⊥
-    beyond s w x = omega (arith, at-most n g (suc v) (within n (suc v) ρ (zero-lt-suc v) (log .high) (omega (arith, needed, hi))))
+    -- ---- and beyond it: no whole number from 2^h to 2^(h + 1) whose bits end in 1, for h + 1 would be one of the rule
+    none-beyond : (h i : ℕ) → v ≤ h → h < 64 → 2 ^ h ≤ i → i ≤ 2 ^ suc h → ((ρ : ℕ) → Log ρ (suc h) → wholeBits ρ h i % 2 ≡ 1) → (s : Bool) (w : ℕ) → HasValue n s (i * 2 ^ 307) w → ⊥
+    none-beyond h i past small low high ends s w x = omega (arith, past, at-most n g (suc h) (within n (suc h) ρ (zero-lt-suc h) (log .high) (omega (arith, needed, hi))))
       where
-        place : Place n lo hi s ((2 ^ v + 1) * 2 ^ 307) w
-        place = place-of n lo hi s ((2 ^ v + 1) * 2 ^ 307) w (mul-pos {m = 2 ^ v + 1} {n = 2 ^ 307} (omega arith) (pow-pos 307)) x
+        place : Place n lo hi s (i * 2 ^ 307) w
+        place = place-of n lo hi s (i * 2 ^ 307) w (mul-pos {m = i} {n = 2 ^ 307} (le-trans (pow-pos h) low) (pow-pos 307)) x
 
         ρ : ℕ
-        ρ = log-of (suc v) (zero-lt-suc v) .0
+        ρ = log-of (suc h) (zero-lt-suc h) .0
 
-        log : Log ρ (suc v)
-        log = log-of (suc v) (zero-lt-suc v) .1
+        log : Log ρ (suc h)
+        log = log-of (suc h) (zero-lt-suc h) .1
 
-        binade : (K : ℕ) × WholeBinade ρ v K
-        binade = whole-binade ρ v log (exponent-small n hi g)
+        binade : (K : ℕ) × WholeBinade ρ h K
+        binade = whole-binade ρ h log small
 
-        needed : 64 - n + v + ρ ≤ 59
-        needed = bits-needed ρ v (binade .0) log (binade .1) (place .v) (64 - n) (shl-below (n - 1) (64 - n) 63 (place .last) (omega (arith, lo, hi))) (sym (place .size-is ∙ grown-suc n (place .v) (place .first)))
+        needed : 64 - n + h + ρ ≤ 59
+        needed = bits-needed ρ h (binade .0) (binade .1) i low high (ends ρ log) (place .v) (64 - n) (shl-below (n - 1) (64 - n) 63 (place .last) (omega (arith, lo, hi))) (sym (place .size-is ∙ grown-suc n (place .v) (place .first)))
+
+    beyond : (s : Bool) (w : ℕ) → HasValue n s ((2 ^ v + 1) * 2 ^ 307) w → ⊥
+    beyond = none-beyond v (2 ^ v + 1) (le-of-eq refl) (exponent-small n hi g) (omega arith) (omega (arith, pow-pos v, two-pow-succ v)) (λ ρ log. ends-in-one ρ v log)
+
+    odd-beyond : (i : ℕ) → i % 2 ≡ 1 → 2 ^ v < i → i < 2 ^ 64 → (s : Bool) (w : ℕ) → HasValue n s (i * 2 ^ 307) w → ⊥
+    odd-beyond i odd past small = let t = log-of i (omega arith) in by (t .0) (t .1)
+      where
+        by : (h : ℕ) → Log h i → (s : Bool) (w : ℕ) → HasValue n s (i * 2 ^ 307) w → ⊥
+        by zero k = absurd (omega (arith, k .high, past, pow-pos v))
+        by (suc h) k = none-beyond (suc h) i (le-of-suc-le-suc (exponent-lt v (suc (suc h)) (omega (arith, past, k .high)))) (exponent-lt (suc h) 64 (omega (arith, k .low, small))) (k .low) (le-of-lt (k .high)) (λ ρ l. odd-ends-in-one ρ h i (k .low) odd)
 
 pub every-whole-number-up-to-the-limit-has-a-word : promise.EveryWholeNumberUpToTheLimitHasAWord
 unfolding promise.EveryWholeNumberUpToTheLimitHasAWord
@@ -116,3 +131,33 @@ every-whole-number-up-to-the-limit-has-a-word n l lo hi x i le = up-to n lo hi (
 pub the-limit-plus-one-has-no-word : promise.TheLimitPlusOneHasNoWord
 unfolding promise.TheLimitPlusOneHasNoWord
 the-limit-plus-one-has-no-word n l lo hi x s w y = beyond n lo hi (x .v) (x .is) s w (subst (λ (k : ℕ). HasValue n s ((k + 1) * 2 ^ 307) w) (x .limit) y)
+
+-- ---- an odd whole number that a word has is below 2^64: the significand of the word's size is at least as large
+module _ (n : ℕ) (lo : 2 ≤ n) (hi : n ≤ 64) (s : Bool) (i w : ℕ) (odd : i % 2 ≡ 1) (value : HasValue n s (i * 2 ^ 307) w) where
+  string : ℕ
+  string = withoutSign (2 ^ 63) (w * 2 ^ (64 - n))
+
+  significand : ℕ
+  significand = 2 ^ 63 + F 64 string * 2 ^ (63 - p 64 string)
+
+  significand-below : significand < 2 ^ 64
+  unfolding significand F p
+  significand-below = omega (arith, shl-below (p 64 string) (63 - p 64 string) 63 (mod-lt string (pow-pos (p 64 string))) (omega arith))
+
+  at-most-significand : (e : ℤ) → significand * num e ≡ i * 2 ^ 307 * den e → i ≤ significand
+  unfolding num den
+  at-most-significand (pos k) q = odd-at-most significand i k 307 odd (q ∙ mul-one (i * 2 ^ 307))
+  at-most-significand (negsuc k) q = le-trans (le-mul i (2 ^ 307) (pow-pos 307)) (le-trans (le-mul (i * 2 ^ 307) (2 ^ suc k) (pow-pos (suc k))) (le-of-eq (sym q ∙ mul-one significand)))
+    where
+      le-mul : (a b : ℕ) → zero < b → a ≤ a * b
+      le-mul a b some = subst (λ (x : ℕ). x ≤ a * b) (mul-one a) (mul-le-mul-left a some)
+
+  odd-below : i < 2 ^ 64
+  unfolding IsSize string significand
+  odd-below =
+      let x : Size = record { negative = ltb (2 ^ 63) (w * 2 ^ (64 - n)); h = c 64 string; m = significand } in
+      let t = has-form n lo hi s (i * 2 ^ 307) w (mul-pos {m = i} {n = 2 ^ 307} (omega (arith, odd)) (pow-pos 307)) value x (record { sign = refl; characteristic = refl; significand = refl }) in
+      lt-of-le-of-lt (at-most-significand (c 64 string -ℤ pos 63 +ℤ pos 307) (t .1)) significand-below
+
+pub no-odd-number-past-the-limit-has-a-word : (n l : ℕ) → 2 ≤ n → n ≤ 64 → IsLimit n l → (i : ℕ) → i % 2 ≡ 1 → l < i → (s : Bool) (w : ℕ) → HasValue n s (i * 2 ^ 307) w → ⊥
+no-odd-number-past-the-limit-has-a-word n l lo hi x i odd past s w y = odd-beyond n lo hi (x .v) (x .is) i odd (subst (λ (k : ℕ). k < i) (x .limit) past) (odd-below n lo hi s i w odd y) s w y

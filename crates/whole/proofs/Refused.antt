@@ -28,7 +28,7 @@ use Rattle.whole.proofs.WholeValues.{valueOf, is-its-whole-part, exact-
 abbrev pub NotWhole : ℤ → Type 0
 NotWhole z = (y : ℤ) → z ≡ valueOf y → ⊥
 
-whole-size : (z x y : ℤ) → IsWholePart z x → z ≡ valueOf y → natAbs x * 2 ^ 307 ≡ natAbs z
+pub whole-size : (z x y : ℤ) → IsWholePart z x → z ≡ valueOf y → natAbs x * 2 ^ 307 ≡ natAbs z
 unfolding valueOf
 whole-size z x y part q =
     let same : x ≡ y = one-whole-part z x y part (subst (λ (z : ℤ). IsWholePart z y) (sym q) (is-its-whole-part y)) in

@@ -1,0 +1,38 @@
+-- Every call's refusals follow the table. Assumes nothing.
+use mathlib.Core.Path.{_≡_}
+use Prim.Native.Nat.{ℕ, _-_}
+use native.Mathlib.Omega.{arith}
+use Rattle.bounds.specs.Widths.{Makes, GivesWord, GivesLimit}
+use Rattle.word.specs.Takum.{takum, fractionBits}
+use Rattle.word.specs.Reads.{Reads}
+use Rattle.word.specs.Orders.{Compares, Negates}
+use Rattle.whole.specs.Wholes.{IsTaken}
+use Rattle.binary64.specs.Takes as taken
+use Rattle.promises.specs.Demands.{ComesBack}
+use Rattle.promises.specs.Refusals.{RefusalsFollowTheTable}
+use Rattle.promises.proofs.WordRefusals.{of-width, of-word, word-none, reading-none, number-none, compare-follows, test-follows, test-word-follows, write-follows, write-whole-follows, write-binary64-follows, move-follows, goes-follows, take-whole-follows}
+use Rattle.promises.proofs.SliceRefusals.{column-follows, position-follows, block-follows}
+
+pub refusals-follow-the-table : RefusalsFollowTheTable
+unfolding Makes GivesWord GivesLimit Reads Compares Negates ComesBack taken.TakesBinary64 taken.IsTaken
+refusals-follow-the-table = record {
+  test = test-follows;
+  test-word = test-word-follows;
+  new = λ n a x. of-width n (λ p q e. let z : _≡_ {A = ℕ} 0 1 = cc in omega arith) x;
+  words = λ f n a x. of-width n (word-none (f n) a) x;
+  limit = λ n a x. of-width n (λ (l, p, is) q e. let z : _≡_ {A = ℕ} 0 1 = cc in omega arith) x;
+  read = λ n w a x. of-word n w (reading-none (takum n w) (fractionBits n w) a) x;
+  compare = λ n v w a x. compare-follows n v w a x;
+  negate = λ n w a x. of-word n w (word-none _ a) x;
+  negate-twice = λ n w a x. of-word n w (word-none w a) x;
+  write = write-follows;
+  write-whole = write-whole-follows;
+  take-whole = take-whole-follows;
+  write-binary64 = write-binary64-follows;
+  take-binary64 = λ n w a x. of-word n w (number-none (takum n w) a) x;
+  move-word = move-follows;
+  come-home = λ n w ns a x. goes-follows n ns n w a (x .goes);
+  move-column = column-follows;
+  position = λ n n' rule words places a x f i inside before. position-follows n n' rule words places i inside a x f before;
+  read-block = block-follows;
+}

@@ -1,5 +1,5 @@
 -- When the tests of a width and of a word refuse, and what a contract says then. Assumes nothing.
-use mathlib.Core.Path.{_≡_, refl, sym, ap₂, _∙_, subst}
+use mathlib.Core.Path.{_≡_, refl, sym, ap, ap₂, _∙_, subst}
 use mathlib.Core.Bool.{Bool, true, false, _&&_, false≢true}
 use Prim.Native.Nat.{ℕ, _^_, _≤_, _<_}
 use lib.Dec.{leb, ltb}
@@ -58,9 +58,27 @@ pub once : (a b c : Verdict) → a then b then (a then c) ≡ a then b then c
 once Verdict.Through b c = refl
 once (Verdict.Refused q) b c = refl
 
--- the verdict v of a call that made two tests in their order, and of one that made three
+-- the verdict v of a call that made two tests in their order; of one that tested the target's width and then the word, and the source's width
+-- with it; and of one that made three tests
 pub told-two : {a a' b b' v u : Verdict} → a ≡ a' → b ≡ b' → v ≡ (a then b) → v ≡ u → a' then b' ≡ u
 told-two ha hb hv hu = sym (hv ∙ ap₂ (λ (p q : Verdict). p then q) ha hb) ∙ hu
+
+-- two widths are refused alike, so either may be tested first
+alike : (q : Refusal) (a b : Bool) → unless q a then unless q b ≡ unless q b then unless q a
+alike q true true = refl
+alike q true false = refl
+alike q false true = refl
+alike q false false = refl
+
+grouped : (a b c : Verdict) → a then b then c ≡ a then (b then c)
+grouped Verdict.Through b c = refl
+grouped (Verdict.Refused q) b c = refl
+
+pub told-move : (n n' w : ℕ) {a b v u : Verdict} → a ≡ widthTest n' → b ≡ wordTest n w → v ≡ (a then b) → v ≡ u → widthTest n then widthTest n' then strayTest n w ≡ u
+unfolding widthTest
+told-move n n' w ha hb hv hu =
+    ap (λ (v : Verdict). v then strayTest n w) (alike Refusal.Width (leb 2 n && leb n 64) (leb 2 n' && leb n' 64)) ∙ grouped (widthTest n') (widthTest n) (strayTest n w)
+    ∙ told-two ha hb hv hu
 
 pub told-three : {a a' b b' c c' v v' u : Verdict} → a ≡ a' → b ≡ b' → v ≡ (a then b) → c ≡ c' → v' ≡ (v then c) → v' ≡ u → a' then b' then c' ≡ u
 told-three ha hb hv hc hv' hu = told-two (sym (told-two ha hb refl (sym hv))) hc hv' hu

@@ -15,7 +15,7 @@ use Rattle.bounds.specs.Refusals.{widthTest, strayTest, _then_, IsWord, through
 use Rattle.word.specs.Takum.{Takum, real, takum}
 use Rattle.word.specs.Reads.{IsSize, signedSize}
 use Rattle.bounds.specs.Widths.{GivesWord}
-use Rattle.bounds.proofs.Verdicts.{once, told-three, move-through, width-through, answered}
+use Rattle.bounds.proofs.Verdicts.{told-move, move-through, width-through, answered}
 use Rattle.word.proofs.Words.{takum-zero, takum-NaR}
 use Rattle.write.specs.Writes.{isNegative, IsMoved, Moves}
 use Rattle.write.specs.Offers.{WritesSize, Settles}
@@ -25,23 +25,23 @@ use Rattle.write.proofs.moving.move_word.Statement.{statement}
 use Rattle.write.proofs.moving.move_word.Tie as tie
 
 -- the verdict as the tests in their order
-told : (c : tie.After-then2) {u : Verdict} → c .then2 .result ≡ u → widthTest (c .before .before .before .before .before .args .from .bits) then widthTest (c .before .before .before .before .before .args .to .bits) then strayTest (c .before .before .before .before .before .args .from .bits) (c .before .before .before .before .before .args .word) ≡ u
-told c h = sym (once (widthTest _) (widthTest _) (strayTest _ _)) ∙ told-three (c .before .before .before .before .test .ensures) (c .before .before .before .test2 .ensures) (c .before .before .then .ensures) (c .before .test-word .ensures) (c .then2 .ensures) h
+told : (c : tie.After-then) {u : Verdict} → c .then .result ≡ u → widthTest (c .before .before .before .args .from .bits) then widthTest (c .before .before .before .args .to .bits) then strayTest (c .before .before .before .args .from .bits) (c .before .before .before .args .word) ≡ u
+told c h = told-move _ _ _ (c .before .before .test .ensures) (c .before .test-word .ensures) (c .then .ensures) h
 
 -- what is known once it has let both widths and the word through
-let-through : (c : tie.After-enum-told) → widthTest (c .before .before .before .before .before .before .before .args .from .bits) then widthTest (c .before .before .before .before .before .before .before .args .to .bits) then strayTest (c .before .before .before .before .before .before .before .args .from .bits) (c .before .before .before .before .before .before .before .args .word) ≡ Verdict.Through
+let-through : (c : tie.After-enum-told) → widthTest (c .before .before .before .before .before .args .from .bits) then widthTest (c .before .before .before .before .before .args .to .bits) then strayTest (c .before .before .before .before .before .args .from .bits) (c .before .before .before .before .before .args .word) ≡ Verdict.Through
 let-through c = told (c .before .before) (c .enum-told .given .1)
 
-open-row : (c : tie.After-enum-told) → IsWord (c .before .before .before .before .before .before .before .args .from .bits) (c .before .before .before .before .before .before .before .args .word) × (widthTest (c .before .before .before .before .before .before .before .args .to .bits) ≡ Verdict.Through)
+open-row : (c : tie.After-enum-told) → IsWord (c .before .before .before .before .before .args .from .bits) (c .before .before .before .before .before .args .word) × (widthTest (c .before .before .before .before .before .args .to .bits) ≡ Verdict.Through)
 open-row c = move-through _ _ _ (let-through c)
 
 -- the word at the top, which loses nothing there
 module _ (g : tie.After-enum-told) where
   abbrev from : ℕ
-  from = g .before .before .before .before .before .before .before .args .from .bits
+  from = g .before .before .before .before .before .args .from .bits
 
   abbrev word : ℕ
-  word = g .before .before .before .before .before .before .before .args .word
+  word = g .before .before .before .before .before .args .word
 
   is-word : IsWord from word
   is-word = open-row g .0
@@ -69,23 +69,17 @@ module _ (k : tie.After-struct-told) where
   held : toZ w64 (ofZ w64 (toZ w32 (ofZ w32 h))) ≡ h
   held = ap (λ (z : ℤ). toZ w64 (ofZ w64 z)) (toZ-ofZ h-fits) ∙ toZ-ofZ wide-fits
 
-  to-bounds : (2 ≤ g .before .before .before .before .before .before .before .args .to .bits) × (g .before .before .before .before .before .before .before .args .to .bits ≤ 64)
+  to-bounds : (2 ≤ g .before .before .before .before .before .args .to .bits) × (g .before .before .before .before .before .args .to .bits ≤ 64)
   to-bounds = let t = width-through _ (open-row g .1) in (t .0, t .1)
 
 test-requires : tie.Need-test-requires
 test-requires c κs = search needs
 
-test-requires-2 : tie.Need-test-requires-2
-test-requires-2 c κs = search needs
-
-then-requires : tie.Need-then-requires
-then-requires c κs = search needs
-
 test-word-requires : tie.Need-test-word-requires
 test-word-requires c κs = search needs
 
-then-requires-2 : tie.Need-then-requires-2
-then-requires-2 c κs = search needs
+then-requires : tie.Need-then-requires
+then-requires c κs = search needs
 
 enum-known-verdict : tie.Need-enum-known-verdict
 enum-known-verdict c = search needs
@@ -100,7 +94,7 @@ enum-told c = search needs
 returns-2 : tie.Need-returns-2
 unfolding Moves IsMoved isNegative
 returns-2 c = let g = c .before in
-    let s = g .before .before .before .before .before .before .before in
+    let s = g .before .before .before .before .before in
     let t = width-through _ (open-row g .1) in
     through (let-through g) (subst (λ (t : Takum). IsMoved (s .args .to .bits) (s .args .rule) t (Answer.Word 0)) (sym (ap (takum (from g)) (c .if1 .taken) ∙ takum-zero (from g))) (zero-written (s .args .to .bits) (t .0) (t .1) (s .args .rule) false 0 1 refl))
 
@@ -119,7 +113,7 @@ nar-requires c κs = search needs
 returns-3 : tie.Need-returns-3
 unfolding Moves IsMoved GivesWord
 returns-3 c = let g = c .before .before .before .before in
-    let s = g .before .before .before .before .before .before .before in
+    let s = g .before .before .before .before .before in
     through (let-through g)
     (subst (λ (t : Takum). IsMoved (s .args .to .bits) (s .args .rule) t (c .nar .result)) (sym (takum-NaR (from g) (word g) (is-word g .least) (is-word g .most) (NaR-at-top (from g) (word g) (is-word g) (c .before .if2 .taken)))) (answered (open-row g .1) (c .nar .ensures)))
 
@@ -139,7 +133,7 @@ by-rule-requires c κs = let k = c .before in
 returns-4 : tie.Need-returns-4
 unfolding Moves Settles
 returns-4 c = let k = c .before .before in
-    let s = g k .before .before .before .before .before .before .before in
+    let s = g k .before .before .before .before .before in
     let size = k .before .before .size-of .result in
     through (let-through (g k))
     (size-moved (s .args .to .bits) (s .args .rule) (c .by-rule .result) _ (size .negative) (h k) (size .m) (sized k .0) (sized k .1) (omega (arith, sized k .2)) (sized k .3)
@@ -150,10 +144,8 @@ move-word-spec =
     tie.close
     (tie.spec
     test-requires
-    test-requires-2
-    then-requires
     test-word-requires
-    then-requires-2
+    then-requires
     enum-known-verdict
     returns
     enum-told

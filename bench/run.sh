@@ -44,7 +44,7 @@ build() {
 can_emulate() {
     for tool in $debian x86_64-linux-gnu-gcc qemu-x86_64; do
         if ! has $tool; then
-            echo "bench: no emulated run, since $tool is missing; bench/README.md names the packages"
+            echo "bench: no emulated run, since $tool is missing; tests/face --install installs it"
             return 1
         fi
     done
@@ -62,7 +62,7 @@ as_built() {
 emulated() {
     can_emulate || return 0
     if ! build $debian target/staticlib "$work/emulated" $for_x86_64; then
-        echo "bench: no emulated run, since the program can't be built for x86-64; bench/README.md names the packages"
+        echo "bench: no emulated run, since the program can't be built for x86-64; tests/face --install installs it"
         return
     fi
     echo "== x86-64 under $(qemu-x86_64 --version | head -n 1): $($debian --version)"
@@ -113,13 +113,13 @@ lister() {
         can_emulate || return 0
         emulator=qemu-x86_64
         if ! compile $debian bench/lister.rs "$work/lister" $for_x86_64; then
-            echo "bench: no run of the lister, since the plain one can't be built for x86-64; bench/README.md names the packages"
+            echo "bench: no run of the lister, since the plain one can't be built for x86-64; tests/face --install installs it"
             return
         fi
         echo "== the lister, both programs x86-64 under $($emulator --version | head -n 1): $($debian --version)"
     fi
     rt check lister >"$work/log" 2>&1 || { cat "$work/log"; miss "the lister was not built"; }
-    compile rustc oracle/main.rs "$work/oracle"
+    oracle/build oracle/main.rs "$work/oracle" || { echo "bench: the lister is not timed"; return 0; }
     compile rustc bench/turns.rs "$work/turns"
     "$work/oracle" sheet 40000 >"$work/sheet"
     tools=$own/toolchain/lib

@@ -1,4 +1,5 @@
-/* Linear takums of width 2 to 64: the calls of libtakum.a, a library in which every function is proved to do what is said here.
+/* Linear takums of width 2 to 64: the calls of libtakum.a, a library in which every function is proved to do what its contract says. This page says
+ * the same in words, and tests/face tries it.
  *
  *     takum_word_answer tag = takum_write_whole(16, TAKUM_STRICT, 515);
  *     if (tag.refusal == TAKUM_INEXACT) ...    515 has no word of 16 bits
@@ -14,7 +15,8 @@
  * - It is 0 (TAKUM_OK) where the call was answered, and the other fields are the answer.
  * - It is a number from 1 to 11 where the call was refused. Then all other fields are zero (but for the position of a column), and a lent
  *   slice is as it was before the call. Where several refusals apply, the first is given, in this order:
- *   words and columns: WIDTH (source, then target), ROOM, STRAY, NOT_REAL, OVER, INEXACT; blocks: SIZE, MARK, CHECK, WIDTH, COUNT, FILL, ROOM.
+ *   words: WIDTH, STRAY, NOT_REAL, OVER, INEXACT; columns: WIDTH, ROOM, then position by position, at each STRAY and INEXACT; blocks: SIZE,
+ *   MARK, CHECK, WIDTH, COUNT, FILL, ROOM.
  *
  * What a proof can't see is how the calls are used from C. It rests on this:
  *
@@ -74,7 +76,7 @@ typedef struct takum_word_answer {
 } takum_word_answer;
 
 /* The fields after `kind` are zero unless it is TAKUM_NUMBER. Then the size is m * 2^(h - p), with 2^p <= m < 2^(p + 1), p being the number of
- * fraction bits, and `negative` the sign. */
+ * fraction bits (of a word of fewer than 12 bits with zero bits appended up to 12), and `negative` the sign. */
 typedef struct takum_reading_answer {
     uint32_t refusal;
     uint32_t kind;
@@ -160,8 +162,8 @@ takum_word_answer takum_write_binary64(uint32_t n, bool strict, double x);
 takum_number_answer takum_take_binary64(uint32_t n, uint64_t word);
 
 /* Moves a column, each of the words as takum_move does: the first results are the moved words, in order, and the others stay as they were.
- * ROOM where there are fewer results than words, even if a word would be refused too. STRAY and INEXACT come with the lowest position that
- * has one. An empty column moves 0 words. */
+ * ROOM where there are fewer results than words, even if a word would be refused too. A word's refusal, STRAY or INEXACT, comes with its
+ * position: the lowest at which there is one. An empty column moves 0 words. */
 takum_column_answer takum_move_column(uint32_t from, uint32_t to, bool strict, const uint64_t *words, size_t words_length, uint64_t *results,
                                       size_t results_length);
 

@@ -59,7 +59,7 @@ pub enum Reading {
         h: i32,
         /// The significand.
         m: u64,
-        /// The number of fraction bits.
+        /// The number of fraction bits; of a word of fewer than 12 bits, with zero bits appended up to 12.
         p: u32,
     },
 }

@@ -1,9 +1,9 @@
 //! The library's calls as they are. Each takes any numbers, and refuses a width that isn't 2 to 64 and a word with a bit at or above its
 //! width.
 //!
-//! Where several refusals apply, the first of this order is given. Words and columns: `Width` (source, then target), `Room`, `Stray`,
-//! `NotReal`, `Over`, `Inexact`. Blocks: `Size`, `Mark`, `Check`, `Width`, `Count`, `Fill`, `Room`. A refused call leaves its results as they
-//! were.
+//! Where several refusals apply, the first of this order is given. Words: `Width`, `Stray`, `NotReal`, `Over`, `Inexact`. Columns:
+//! `Width`, `Room`, then position by position, at each `Stray` and `Inexact`. Blocks: `Size`, `Mark`, `Check`, `Width`, `Count`, `Fill`, `Room`.
+//! A refused call leaves its results as they were.
 //!
 //! ```
 //! use takum::{calls, Refusal, Rule};

@@ -8,13 +8,13 @@ use Rattle.bounds.specs.declared.answer.Answer.{Answer}
 use Rattle.bounds.specs.declared.refusal.Refusal.{Refusal}
 use Rattle.bounds.specs.declared.refusal.Verdict.{Verdict}
 use Rattle.bounds.specs.Refusals.{widthTest, _then_, through, refused, roomTest}
-use Rattle.bounds.proofs.Verdicts.{stray-fits, then-through, answered, refused-as}
+use Rattle.bounds.proofs.Verdicts.{stray-fits, then-through, answered}
 use Rattle.write.specs.declared.value.Rule.{Rule}
 use Rattle.write.specs.Writes.{Moves}
 use Rattle.write.proofs.OneOutcome.{moves-one}
 use Rattle.column.specs.declared.moving.Column.{Column}
 use Rattle.column.specs.Columns.{MovableUpTo, FirstRefusal, IsTried, MovesColumn, Holds}
-use Rattle.column.proofs.Rooms.{room-fits, room-short, room-through}
+use Rattle.column.proofs.Rooms.{room-fits, room-through}
 use Rattle.column.proofs.Trials.{rounded-movable, not-refused}
 
 -- ---- an answer that is no refusal of the whole column has passed the tests
@@ -44,11 +44,6 @@ passed n n' rule words room a s (refused h q) = absurd (subst SpeaksOfWords q s)
 -- the tests let these widths and this room through
 pub passes : (n n' count room : ℕ) → widthTest n ≡ Verdict.Through → widthTest n' ≡ Verdict.Through → count ≤ room → widthTest n then widthTest n' then roomTest count room ≡ Verdict.Through
 passes n n' count room h h' fits = rw (h, h') (room-fits count room fits)
-
--- ---- ROOM, exactly where the result slice is too short
-pub short-room-refused : (n n' : ℕ) (rule : Rule) (words : List ℕ) (room : ℕ) (a : Column) → widthTest n ≡ Verdict.Through → widthTest n' ≡ Verdict.Through → room < length words → MovesColumn n n' rule words room a → a ≡ Column.Refused Refusal.Room
-unfolding MovesColumn
-short-room-refused n n' rule words room a h h' short = refused-as Refusal.Room (rw (h, h') (room-short (length words) room short))
 
 -- ---- an empty column moves 0 words
 pub empty-column : (n n' : ℕ) (rule : Rule) (room : ℕ) (a : Column) → widthTest n ≡ Verdict.Through → widthTest n' ≡ Verdict.Through → MovesColumn n n' rule [] room a → a ≡ Column.Moved 0

@@ -1,6 +1,7 @@
 -- The promises, proved from what the other crates make public.
 pub mod Demands
 pub mod Evens
+pub mod FaceOutcomes
 pub mod Figures
 pub mod Lines
 pub mod Numbers

@@ -17,7 +17,7 @@ use Rattle.bounds.proofs.Verdicts.{width-fits, width-through, word-passes, answ
 use Rattle.write.specs.declared.value.Rule.{Rule}
 use Rattle.write.specs.Writes.{HasValue, isNegative}
 use Rattle.whole.specs.Wholes.{WritesWhole}
-use Rattle.whole.specs.Limits.{TheLimitPlusOneHasNoWord, StrictWritingUpToTheLimitIsNeverRefused}
+use Rattle.whole.specs.Limits.{TheLimitPlusOneHasNoWord}
 use Rattle.whole.proofs.LimitWords.{the-limit-plus-one-has-no-word, no-odd-number-past-the-limit-has-a-word}
 use Rattle.whole.proofs.LimitWriting.{strict-writing-up-to-the-limit-is-never-refused}
 use Rattle.whole.proofs.WholeValues.{valueOf}
@@ -73,7 +73,7 @@ a-whole-number-is-refused-exactly-where-it-has-no-word n x r lo hi y =
     given-or-inexact (IsWhole n x) r (λ w q. a-whole-number-is-kept n x w (subst (WritesWhole n Rule.Strict x) q y)) (past Answer.Refused r 1 _ _ (good-width n (lo, hi)) (write-whole-follows n Rule.Strict x r y))
 
 pub every-whole-number-up-to-the-limit-is-written : promise.EveryWholeNumberUpToTheLimitIsWritten
-unfolding promise.EveryWholeNumberUpToTheLimitIsWritten IsWhole WritesWhole StrictWritingUpToTheLimitIsNeverRefused
+unfolding promise.EveryWholeNumberUpToTheLimitIsWritten IsWhole WritesWhole
 every-whole-number-up-to-the-limit-is-written n l x r g h y =
     let k = known n l g in
     strict-writing-up-to-the-limit-is-never-refused n l (k .lo) (k .hi) (k .limit) (natAbs x) h (isNegative x) r (answered (width-fits n (k .lo) (k .hi)) y)

@@ -1,5 +1,5 @@
 -- Every call's refusals follow the table. Assumes nothing.
-use mathlib.Core.Path.{_≡_}
+use mathlib.Core.Path.{_≡_, subst}
 use Prim.Native.Nat.{ℕ, _-_}
 use native.Mathlib.Omega.{arith}
 use Rattle.bounds.specs.Widths.{Makes, GivesWord, GivesLimit}
@@ -8,6 +8,8 @@ use Rattle.word.specs.Reads.{Reads}
 use Rattle.word.specs.Orders.{Compares, Negates}
 use Rattle.whole.specs.Wholes.{IsTaken}
 use Rattle.binary64.specs.Takes as taken
+use Rattle.column.specs.Columns.{MovesColumn}
+use Rattle.column.proofs.Positions.{first}
 use Rattle.promises.specs.Demands.{ComesBack}
 use Rattle.promises.specs.Refusals.{RefusalsFollowTheTable}
 use Rattle.promises.proofs.WordRefusals.{of-width, of-word, word-none, reading-none, number-none, compare-follows, test-follows, test-word-follows, write-follows, write-whole-follows, write-binary64-follows, move-follows, goes-follows, take-whole-follows}
@@ -34,5 +36,6 @@ refusals-follow-the-table = record {
   come-home = λ n w ns a x. goes-follows n ns n w a (x .goes);
   move-column = column-follows;
   position = λ n n' rule words places a x f i inside before. position-follows n n' rule words places i inside a x f before;
+  inside = λ n n' rule words places a x i q h. first n n' rule words places i q (subst (MovesColumn n n' rule words places) h x) .inside;
   read-block = block-follows;
 }

@@ -1,4 +1,4 @@
--- What the letter demands of refusals, of reading and of order and negation, as statements about what the public contracts allow.
+-- What the letter demands of reading, order and negation, what belongs to a width, and how a refusal is said by its number.
 use mathlib.Core.Path.{_≡_}
 use mathlib.Core.Bool.{false}
 use Prim.Native.Nat.{ℕ, _-_, _*_, _^_, _≤_, _<_}

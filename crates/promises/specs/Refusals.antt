@@ -149,4 +149,6 @@ pub record RefusalsFollowTheTable : Type 0 where
   -- and then each position that is reached, because the answer is no refusal of the column, nor one at a position before it
   pub position : (n n' : ℕ) (rule : Rule) (words : List ℕ) (places : ℕ) (a : Column) → MovesColumn n n' rule words places a → ((q : Refusal) → a ≡ Column.Refused q → ⊥)
       → (i : ℕ) → i < length words → ((j : ℕ) (q : Refusal) → j < i → a ≡ Column.RefusedAt j q → ⊥) → Follows (Column.RefusedAt i) a (moveLines n n' rule (getD words i 0))
+  -- and no refusal has a position behind the column's end
+  pub inside : (n n' : ℕ) (rule : Rule) (words : List ℕ) (places : ℕ) (a : Column) → MovesColumn n n' rule words places a → (i : ℕ) (q : Refusal) → a ≡ Column.RefusedAt i q → i < length words
   pub read-block : (b : List ℕ) (places : ℕ) (a : Block) → ReadsBlock b places a → Follows Block.Refused a (size b ∷ mark b ∷ check b ∷ blockWidth b ∷ count b ∷ fill b ∷ room (block.count b) places ∷ [])

@@ -1,23 +1,18 @@
--- A change confined to one of the 126 numbers is noticed: A tells it. Assumes nothing.
+-- After a change confined to one of the 126 numbers, A isn't their sum. Assumes nothing.
 use mathlib.Core.Path.{_≡_, sym, ap, _∙_, subst}
 use mathlib.Core.List.{List}
 use mathlib.Core.Logic.{_⊎_, inl, inr}
 use Prim.Native.Nat.{ℕ, _+_, _*_, _≤_, _<_}
-use native.Mathlib.Decide.{decLt, ℕ-discrete}
+use native.Mathlib.Decide.{decLt}
 use native.Mathlib.Omega.{arith}
 use lib.Arith.{lt-of-le-ne}
 use lib.ListN.{getD, List·getD-eq-default}
-use Rattle.bounds.specs.declared.refusal.Refusal.{Refusal}
 use Rattle.bounds.proofs.Powers.{not-more}
-use Rattle.bounds.proofs.Verdicts.{refused-as}
-use Rattle.sheet.specs.declared.block.Block.{Block}
-use Rattle.sheet.specs.Layout.{AreBytes, numberAt, numbers, mark, A}
+use Rattle.sheet.specs.Layout.{AreBytes, numberAt, numbers, A}
 use Rattle.sheet.specs.Sums.{total, sumA}
-use Rattle.sheet.specs.Reads.{ReadsBlock}
-use Rattle.sheet.specs.Changes.{ChangedWithin, Notices, by-mark, by-check}
+use Rattle.sheet.specs.Changes.{ChangedWithin}
 use Rattle.sheet.proofs.LittleEndian.{number-same, bytes-same, numberAt-below}
 use Rattle.sheet.proofs.Packing.{numbers-length, numbers-at}
-use Rattle.sheet.proofs.Passing.{Passes, passes, was-read, other-mark, other-A}
 use Rattle.sheet.proofs.Totals.{total-changed, sumA-changed}
 
 module _ (i : ℕ) (old new : List ℕ) (c : ChangedWithin i old new) where
@@ -58,15 +53,3 @@ module _ (i : ℕ) (old new : List ℕ) (c : ChangedWithin i old new) where
             ap (λ (x : ℕ). total (numbers new) + x) (sym (numbers-at old i (c .one-of-126)))
             ∙ total-changed (numbers new) (numbers old) i (numbers-length new ∙ sym (numbers-length old)) others
             ∙ ap (λ (x : ℕ). total (numbers old) + x) (numbers-at new i (c .one-of-126))
-
--- ---- a block was read; another that differs from it within one number is refused, whatever the room
-pub change-noticed : (i : ℕ) (old new : List ℕ) (places places' w n k : ℕ) (a : Block) → AreBytes old → AreBytes new → ChangedWithin i old new → ReadsBlock old places (Block.Read w n k) → ReadsBlock new places' a → Notices old new a
-unfolding ReadsBlock
-change-noticed i old new places places' w n k a bo bn c r r' = by (ℕ-discrete (mark new) (mark old))
-  where
-    p : Passes old places
-    p = passes old places (was-read old places w n k r .0)
-
-    by : Dec (mark new ≡ mark old) → Notices old new a
-    by (yes m) = subst (Notices old new) (sym (refused-as Refusal.Check (other-A new places' (c .size ∙ p .bytes) (m ∙ p .marked) (sum-differs i old new c bo bn (p .a))) r')) (by-check m)
-    by (no m) = subst (Notices old new) (sym (refused-as Refusal.Mark (other-mark new places' (c .size ∙ p .bytes) (λ e. m (e ∙ sym (p .marked)))) r')) (by-mark m)

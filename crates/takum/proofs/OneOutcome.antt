@@ -1,5 +1,5 @@
--- The face adds no choice: where two contracts of public calls allow one answer between them, as a contract and itself, or those of two moves of
--- a column that leave their results differently, what is handed over is one thing. Assumes nothing.
+-- The face adds no choice: where the public call allows one answer, one struct is handed over. Gives and Gives' may differ, as those of a column do
+-- by what its results hold. Assumes nothing.
 use mathlib.Core.Path.{_≡_, _∙_, sym, ap}
 use Rattle.takum.specs.Handed.{HandsOver}
 

@@ -1,4 +1,5 @@
-// Answers as they are handed over: a refusal number, 0 where nothing was refused, and the answer beside it, all zeros where it was refused.
+// Answers as they are handed over: a refusal number, 0 where nothing was refused, and the answer beside it, all zeros where it was refused,
+// but for a column's position.
 use binary64::taking::Binary64;
 use bounds::answer::Answer;
 use bounds::width::Limit;
@@ -53,7 +54,7 @@ pub struct HandedNumber {
     pub number: f64,
 }
 
-// The position is that of the word that was refused, where it was for a word.
+// The position of the word that was refused; 0 where no word was.
 #[repr(C)]
 pub struct HandedColumn {
     pub refusal: u32,

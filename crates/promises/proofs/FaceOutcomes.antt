@@ -1,0 +1,73 @@
+-- What the face hands over is one thing, for each of its functions: the public call's answer is one, and so are a column's results. Assumes nothing.
+use mathlib.Core.Path.{_≡_, sym, subst}
+use mathlib.Core.List.{List}
+use Prim.Native.Nat.{ℕ}
+use lib.Ieee.{Float}
+use lib.IntN.{ℤ}
+use lib.ListN.{length}
+use Rattle.bounds.specs.Widths.{GivesWord, GivesLimit}
+use Rattle.word.specs.Reads.{Reads}
+use Rattle.word.specs.Orders.{Compares, Negates}
+use Rattle.write.specs.declared.value.Rule.{Rule}
+use Rattle.write.specs.declared.value.Value.{Value}
+use Rattle.write.specs.Writes.{Writes, Moves}
+use Rattle.whole.specs.declared.taking.Taking.{Taking}
+use Rattle.whole.specs.Wholes.{WritesWhole, TakesWhole}
+use Rattle.binary64.specs.Takes.{TakesBinary64}
+use Rattle.binary64.specs.Writes.{WritesBinary64}
+use Rattle.column.specs.declared.moving.Column.{Column}
+use Rattle.column.specs.Columns.{MovesColumn, Holds}
+use Rattle.sheet.specs.Reads.{ReadsBlock}
+use Rattle.takum.specs.declared.handed.HandedColumn.{HandedColumn}
+use Rattle.takum.specs.Handed.{HandsOver, MovesTheColumn, wordHanded, readingHanded, comparisonHanded, limitHanded, wholeHanded, numberHanded, columnHanded, blockHanded}
+use Rattle.takum.proofs.OneOutcome.{hands-over-one}
+use Rattle.promises.proofs.OneOutcome.{gives-word-one, gives-limit-one, reads-one, compares-one, negates-one, writes-one, moves-one, writes-whole-one, takes-whole-one, writes-binary64-one, takes-binary64-one, moves-column-one, holds-one, reads-block-one}
+
+-- two outcomes of a function whose contract is HandsOver handed Gives are equal
+abbrev pub One : {Answers Handed : Type 0} → (Answers → Handed) → (Answers → Type 0) → Type 0
+One {Handed = Handed} handed Gives = (r s : Handed) → HandsOver handed Gives r → HandsOver handed Gives s → r ≡ s
+
+-- largest, smallest and NaR word
+pub word-handed-one : (f : ℕ → ℕ) (n : ℕ) → One wordHanded (GivesWord f n)
+word-handed-one f n r s p q = hands-over-one p q (gives-word-one f n)
+
+pub limit-handed-one : (n : ℕ) → One limitHanded (GivesLimit n)
+limit-handed-one n r s p q = hands-over-one p q (gives-limit-one n)
+
+pub reading-handed-one : (n w : ℕ) → One readingHanded (Reads n w)
+reading-handed-one n w r s p q = hands-over-one p q (reads-one n w)
+
+pub comparison-handed-one : (n x y : ℕ) → One comparisonHanded (Compares n x y)
+comparison-handed-one n x y r s p q = hands-over-one p q (compares-one n x y)
+
+pub negated-handed-one : (n w : ℕ) → One wordHanded (Negates n w)
+negated-handed-one n w r s p q = hands-over-one p q (negates-one n w)
+
+pub written-handed-one : (n : ℕ) (rule : Rule) (v : Value) → One wordHanded (Writes n rule v)
+written-handed-one n rule v r s p q = hands-over-one p q (writes-one n rule v)
+
+pub moved-handed-one : (n n' : ℕ) (rule : Rule) (w : ℕ) → One wordHanded (Moves n n' rule w)
+moved-handed-one n n' rule w r s p q = hands-over-one p q (moves-one n n' rule w)
+
+pub whole-written-handed-one : (n : ℕ) (rule : Rule) (x : ℤ) → One wordHanded (WritesWhole n rule x)
+whole-written-handed-one n rule x r s p q = hands-over-one p q (writes-whole-one n rule x)
+
+pub whole-taken-handed-one : (n : ℕ) (rule : Taking) (w : ℕ) → One wholeHanded (TakesWhole n rule w)
+whole-taken-handed-one n rule w r s p q = hands-over-one p q (takes-whole-one n rule w)
+
+pub binary64-written-handed-one : (n : ℕ) (rule : Rule) (x : Float) → One wordHanded (WritesBinary64 n rule x)
+binary64-written-handed-one n rule x r s p q = hands-over-one p q (writes-binary64-one n rule x)
+
+pub binary64-taken-handed-one : (n w : ℕ) → One numberHanded (TakesBinary64 n w)
+binary64-taken-handed-one n w r s p q = hands-over-one p q (takes-binary64-one n w)
+
+pub block-handed-one : (block : List ℕ) (places : ℕ) → One blockHanded (ReadsBlock block places)
+block-handed-one block places r s p q = hands-over-one p q (reads-block-one block places)
+
+-- a column, with what its results hold afterwards
+pub column-handed-one : (n n' : ℕ) (rule : Rule) (words before after after' : List ℕ) (r s : HandedColumn) → HandsOver columnHanded (MovesTheColumn n n' rule words before after) r → HandsOver columnHanded (MovesTheColumn n n' rule words before after') s → (r ≡ s) × (after ≡ after')
+unfolding MovesTheColumn
+column-handed-one n n' rule words before after after' r s p q = (hands-over-one p q (λ a b x y. one a b (x .0) (y .0)), holds-one n n' rule words before (q .answer) after after' (subst (λ (a : Column). Holds n n' rule words before a after) (one (p .answer) (q .answer) (p .given .0) (q .given .0)) (p .given .1)) (q .given .1))
+  where
+    one : (a b : Column) → MovesColumn n n' rule words (length before) a → MovesColumn n n' rule words (length before) b → a ≡ b
+    one = moves-column-one n n' rule words (length before)

@@ -1,4 +1,4 @@
--- A contract that decides by a verdict, said otherwise on either side. Assumes nothing.
+-- From what a contract says where the input is let through or refused to what follows from either. Assumes nothing.
 use Rattle.bounds.specs.declared.refusal.Refusal.{Refusal}
 use Rattle.bounds.specs.declared.refusal.Verdict.{Verdict}
 use Rattle.bounds.specs.Refusals.{Decided, through, refused}

@@ -1,4 +1,4 @@
--- A finite value has the value of every fraction that it equals, and what is no NaN. Assumes nothing.
+-- A number that has the value of a fraction has that of every equal fraction; what equals itself or has a value is no NaN. Assumes nothing.
 use mathlib.Core.Path.{_≡_, sym, ap, _∙_}
 use mathlib.Core.Bool.{Bool, false, not, true≢false}
 use Prim.Native.Nat.{ℕ, _*_, _<_}

@@ -1,9 +1,9 @@
 -- The demands that specs/Demands.antt states. Assumes nothing.
 use mathlib.Core.Path.{_≡_, refl, sym, ap, _∙_, subst}
 use mathlib.Core.Bool.{false}
-use mathlib.Core.Logic.{_⊎_, ⊎-elim}
+use mathlib.Core.Logic.{_⊎_}
 use Prim.Native.Nat.{ℕ, _-_, _^_, _≤_, _<_}
-use native.Mathlib.Nat.{le-of-eq, le-of-lt, eq-or-lt-of-le, pos-of-ne-zero}
+use native.Mathlib.Nat.{pos-of-ne-zero}
 use native.Mathlib.Omega.{arith}
 use lib.Pow.{pow-pos}
 use Rattle.word.specs.declared.order.Comparison.{Comparison}
@@ -15,7 +15,7 @@ use Rattle.bounds.proofs.Powers.{twice}
 use Rattle.bounds.proofs.Verdicts.{word-passes, words-pass, answered}
 use Rattle.word.proofs.Words.{takum-NaR}
 use Rattle.write.specs.Writes.{HasValue}
-use Rattle.write.proofs.Places.{two, wordOf, has-value, size-some, increasing, place-of}
+use Rattle.write.proofs.Places.{two, wordOf, has-value, size-some, not-decreasing, place-of}
 use Rattle.write.proofs.Sized.{sized}
 use Rattle.word.proofs.Values.{grown, NaR-word, order-of-values, order-same, NaR-below, above-NaR, negated-word, negation-negates, words-differ}
 use Rattle.word.proofs.Binades.{meaning-one}
@@ -49,13 +49,10 @@ the-end-words n lo hi = (grown n 1, grown n last, has-value n lo hi false 1 (ome
     below = omega (arith, two n lo hi)
 
     -- sizes never fall from one place to a later one
-    rises : (u v : ℕ) → 0 < u → u ≤ v → v < 2 ^ (n - 1) → grown n u ≤ grown n v
-    rises u v f l r = ⊎-elim (λ (q : u ≡ v). le-of-eq (ap (grown n) q)) (λ (q : u < v). le-of-lt (increasing n lo hi u v f q r)) (eq-or-lt-of-le l)
-
     between : (z w : ℕ) → 0 < z → HasValue n false z w → (grown n 1 ≤ z) × (z ≤ grown n last)
     between z w h x =
         let t = place-of n lo hi false z w h x in
-        (subst (λ (y : ℕ). grown n 1 ≤ y) (sym (t .size-is)) (rises 1 (t .v) (omega arith) (t .first) (t .last)), subst (λ (y : ℕ). y ≤ grown n last) (sym (t .size-is)) (rises (t .v) last (t .first) (omega (arith, t .last)) below))
+        (subst (λ (y : ℕ). grown n 1 ≤ y) (sym (t .size-is)) (not-decreasing n lo hi 1 (t .v) (omega arith) (t .first) (t .last)), subst (λ (y : ℕ). y ≤ grown n last) (sym (t .size-is)) (not-decreasing n lo hi (t .v) last (t .first) (omega (arith, t .last)) below))
 
 pub the-NaR-word : TheNaRWord
 unfolding TheNaRWord narWord

@@ -16,7 +16,7 @@ use Rattle.bounds.proofs.Verdicts.{width-fits, answered}
 use Rattle.write.specs.declared.value.Rule.{Rule}
 use Rattle.write.specs.Writes.{HasValue, other, IsWritten, Writes}
 use Rattle.write.proofs.Rounding.{tie-nearest, none-between, written-one}
-use Rattle.promises.specs.Figures.{Said, plus, minus, nar, IsSaid, Figure, reads, writes, refuses, whole, below, figures, Holds, AllHold}
+use Rattle.promises.specs.Figures.{Said, plus, minus, nar, IsSaid, Figure, reads, writes, refuses, whole, below, figures, FigureHolds, AllHold}
 use Rattle.promises.specs.Demands.{RefusedAs, ReadingIsTheDefinition}
 use Rattle.promises.specs.Writing.{numerator, denominator, AWordsValueIsWrittenAsTheWord}
 use Rattle.promises.proofs.Tests.{same, same-is, is-word, word-is, has, has-is}
@@ -138,8 +138,8 @@ apart-holds n Rule.Strict M number v z z' t = λ a x.
       known = sym (eqb→eq number 4 (w .1));
     }
 
-holds : (f : Figure) → T (passes f) → Holds f
-unfolding passes Holds ReadingIsTheDefinition
+holds : (f : Figure) → T (passes f) → FigureHolds f
+unfolding passes FigureHolds ReadingIsTheDefinition
 holds (reads n w x) ok = λ a h.
     let y = both (is-word n w) (said x (takum n w)) ok in
     (takum n w, said-is x (takum n w) (y .1), reading-is-the-definition n w a (word-is n w (y .0)) h)

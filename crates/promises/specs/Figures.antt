@@ -61,12 +61,12 @@ figures =
     ∷ []
 
 -- whatever reading or answer the contract allows is the figure's
-unfoldable pub Holds : Figure → Type 0
-Holds (reads n w x) = (a : Reading) → Reads n w a → (t : Takum) × IsSaid x t × IsReading t (fractionBits n w) a
-Holds (writes n rule M w) = (a : Answer) → Writes n rule (whole M) a → a ≡ Answer.Word w
-Holds (refuses n rule M number) = (a : Answer) → Writes n rule (whole M) a → RefusedAs Answer Answer.Refused number a
+unfoldable pub FigureHolds : Figure → Type 0
+FigureHolds (reads n w x) = (a : Reading) → Reads n w a → (t : Takum) × IsSaid x t × IsReading t (fractionBits n w) a
+FigureHolds (writes n rule M w) = (a : Answer) → Writes n rule (whole M) a → a ≡ Answer.Word w
+FigureHolds (refuses n rule M number) = (a : Answer) → Writes n rule (whole M) a → RefusedAs Answer Answer.Refused number a
 
 -- every figure of a list holds
 unfoldable pub AllHold : List Figure → Type 0
 AllHold [] = Unit {0}
-AllHold (f ∷ fs) = Holds f × AllHold fs
+AllHold (f ∷ fs) = FigureHolds f × AllHold fs

@@ -23,11 +23,11 @@ packed k zero bytes = []
 packed k (suc n) bytes = number (take k bytes) ∷ packed k n (drop k bytes)
 
 -- the bytes that a word of width 8, 16, 32 or 64 has
-pub data IsSize : ℕ → Type 0 where
-  one : IsSize 1
-  two : IsSize 2
-  four : IsSize 4
-  eight : IsSize 8
+pub data IsWordSize : ℕ → Type 0 where
+  one : IsWordSize 1
+  two : IsWordSize 2
+  four : IsWordSize 4
+  eight : IsWordSize 8
 
 module _ (block : List ℕ) where
   -- Byte 0: 0x54.

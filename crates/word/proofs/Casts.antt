@@ -1,4 +1,4 @@
--- A signed number goes over to 64 bits without a sign: as it stands where it is not negative, as -1 less it where it is. Assumes nothing.
+-- A signed number goes over to 64 bits without a sign: as it stands where it is not negative, as -1 - z where it is. Assumes nothing.
 use mathlib.Core.Path.{_≡_, refl, sym, ap, _∙_, subst}
 use mathlib.Core.Bool.{Bool, true, false}
 use Prim.Native.Nat.{suc, _+_, _^_, _≤_}

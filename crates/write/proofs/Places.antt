@@ -4,7 +4,7 @@ use mathlib.Core.Path.{_≡_, refl, sym, ap, _∙_, subst}
 use mathlib.Core.Bool.{Bool, true, false}
 use mathlib.Core.Logic.{inl, inr, ⊎-elim}
 use Prim.Native.Nat.{ℕ, zero, _-_, _*_, _%_, _^_, _≤_, _<_, zero-le}
-use native.Mathlib.Nat.{lt-irrefl, lt-of-le-of-lt}
+use native.Mathlib.Nat.{lt-irrefl, lt-of-le-of-lt, le-of-eq, le-of-lt, eq-or-lt-of-le}
 use native.Mathlib.Omega.{arith}
 use lib.IntN.{pos, negℤ, natAbs}
 use lib.Pow.{pow-pos, pow-mono}
@@ -120,6 +120,9 @@ module _ (n : ℕ) (lo : 2 ≤ n) (hi : n ≤ 64) where
 
   pub increasing : (v u : ℕ) → zero < v → v < u → u < 2 ^ (n - 1) → grown n v < grown n u
   increasing v u h l r = grown-lt n v u lo hi l r
+
+  pub not-decreasing : (v u : ℕ) → zero < v → v ≤ u → u < 2 ^ (n - 1) → grown n v ≤ grown n u
+  not-decreasing v u h l r = ⊎-elim (λ (q : v ≡ u). le-of-eq (ap (grown n) q)) (λ (q : v < u). le-of-lt (increasing v u h q r)) (eq-or-lt-of-le l)
 
   -- ---- there is exactly one rounded word
   pub nearest-exists : (s : Bool) (a b : ℕ) → zero < b → (w : ℕ) × Nearest n s a b w

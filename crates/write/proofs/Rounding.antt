@@ -1,9 +1,8 @@
 -- The laws of one rounded and one strict word: there is exactly one, a word's own value gives it back, and the ends. Assumes nothing.
 use mathlib.Core.Path.{_≡_, refl, sym, ap, ap₂, _∙_, subst, subst₂}
 use mathlib.Core.Bool.{Bool, true, false, not}
-use mathlib.Core.Logic.{⊎-elim}
 use Prim.Native.Nat.{ℕ, zero, suc, _+_, _-_, _*_, _%_, _^_, _≤_, _<_}
-use native.Mathlib.Nat.{zero-mul, lt-of-not-le, eq-of-mul-eq-mul-right, add-mul, mul-le-mul-right, le-of-lt, le-of-eq, le-trans, eq-or-lt-of-le}
+use native.Mathlib.Nat.{zero-mul, lt-of-not-le, eq-of-mul-eq-mul-right, add-mul, mul-le-mul-right, le-of-lt, le-of-eq, le-trans}
 use native.Mathlib.Decide.{decLe}
 use native.Mathlib.Omega.{arith}
 use Rattle.word.specs.Orders.{negated}
@@ -16,7 +15,7 @@ use Rattle.word.specs.Reads.{signedSize}
 use Rattle.write.specs.declared.value.Rule.{Rule}
 use Rattle.write.specs.Writes.{HasValue, Nearest, IsRounded, zero, other, IsExact, IsWritten}
 use Rattle.write.proofs.Nearest.{at-first, at-last, midway}
-use Rattle.write.proofs.Places.{increasing, two, wordOf, Place, place-of, value-is, to-word, from-word, nearest-exists, nearest-one}
+use Rattle.write.proofs.Places.{increasing, not-decreasing, two, wordOf, Place, place-of, value-is, to-word, from-word, nearest-exists, nearest-one}
 use Rattle.write.proofs.Rules.{zero-value}
 use Rattle.write.proofs.Signs.{exact-nearest}
 
@@ -86,12 +85,9 @@ module _ (n : ℕ) (lo : 2 ≤ n) (hi : n ≤ 64) where
         t : Place n lo hi false (x .z) w
         t = place-of n lo hi false (x .z) w (positive (x .z) (x .same)) (x .is)
 
-        grown-le : (u y : ℕ) → 0 < u → u ≤ y → y < 2 ^ (n - 1) → grown n u ≤ grown n y
-        grown-le u y f p r = ⊎-elim (λ (q : u ≡ y). le-of-eq (ap (grown n) q)) (λ (q : u < y). le-of-lt ((increasing n lo hi) u y f q r)) (eq-or-lt-of-le p)
-
         by : Dec (t .v ≤ v) → ⊥
-        by (yes p) = omega (arith, l, x .same, mul-le-mul-right b (le-trans (le-of-eq (t .size-is)) (le-trans (grown-le (t .v) v (t .first) p (omega (arith, room))) (le-of-eq (sym low-is)))))
-        by (no f) = omega (arith, h, x .same, mul-le-mul-right b (le-trans (le-of-eq high-is) (le-trans (grown-le (suc v) (t .v) (omega arith) (lt-of-not-le f) (t .last)) (le-of-eq (sym (t .size-is))))))
+        by (yes p) = omega (arith, l, x .same, mul-le-mul-right b (le-trans (le-of-eq (t .size-is)) (le-trans (not-decreasing n lo hi (t .v) v (t .first) p (omega (arith, room))) (le-of-eq (sym low-is)))))
+        by (no f) = omega (arith, h, x .same, mul-le-mul-right b (le-trans (le-of-eq high-is) (le-trans (not-decreasing n lo hi (suc v) (t .v) (omega arith) (lt-of-not-le f) (t .last)) (le-of-eq (sym (t .size-is))))))
 
   -- ---- with the other sign, the negated word
   pub nearest-negated : (s : Bool) (a b w : ℕ) → Nearest n s a b w → Nearest n (not s) a b (negated n w)

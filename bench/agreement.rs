@@ -4,16 +4,16 @@ use crate::handed::Parts;
 use crate::values::{self, Block, Offer, COUNT};
 
 pub fn agree_everywhere(offers: &[Offer], words: &[u64], wholes: &[i64], floats: &[f64]) {
-    for n in 0..=66 {
-        agree_on_writes(WRITE, n, offers);
+    for (n, strict) in (0..=66).flat_map(|n| [(n, false), (n, true)]) {
+        agree_on_writes(WRITE, n, strict, offers);
         for to in 0..=66 {
-            agree_on_moves(MOVE, n, to, words);
+            agree_on_moves(MOVE, n, to, strict, words);
         }
-        agree_on("whole number in", WRITE_WHOLE, n, wholes.iter().step_by(16).chain(&values::EDGE_WHOLES));
-        agree_on("binary64 in", WRITE_BINARY64, n, floats.iter().step_by(16).chain(&values::EDGE_FLOATS));
+        agree_on("whole number in", WRITE_WHOLE, n, strict, wholes.iter().step_by(16).chain(&values::EDGE_WHOLES));
+        agree_on("binary64 in", WRITE_BINARY64, n, strict, floats.iter().step_by(16).chain(&values::EDGE_FLOATS));
         let some: Vec<u64> = words.iter().step_by(16).map(|&w| perhaps_stray(n, w)).chain(values::edge_words(n)).collect();
-        agree_on("whole number out", TAKE_WHOLE, n, some.iter());
-        agree_on("binary64 out", TAKE_BINARY64, n, some.iter());
+        agree_on("whole number out", TAKE_WHOLE, n, strict, some.iter());
+        agree_on("binary64 out", TAKE_BINARY64, n, strict, some.iter());
     }
 }
 
@@ -22,54 +22,54 @@ fn perhaps_stray(n: u32, word: u64) -> u64 {
     word & (u64::MAX >> (63 - n.min(63)))
 }
 
-fn agree_on_writes(calls: [Write; 3], n: u32, offers: &[Offer]) {
+fn agree_on_writes(calls: [Write; 3], n: u32, strict: bool, offers: &[Offer]) {
     for o in offers.iter().step_by(16) {
-        let [ours, theirs] = [0, 1].map(|i| unsafe { calls[i](n, false, o.negative, o.m, o.k) }.parts());
+        let [ours, theirs] = [0, 1].map(|i| unsafe { calls[i](n, strict, o.negative, o.m, o.k) }.parts());
         if ours != theirs {
-            differ(&format!("writing at {}: negative {}, m {:x}, k {}", n, o.negative, o.m, o.k), ours, theirs);
+            differ(&format!("writing at {}, strict {}: negative {}, m {:x}, k {}", n, strict, o.negative, o.m, o.k), ours, theirs);
         }
     }
 }
 
-fn agree_on_moves(calls: [Move; 3], from: u32, to: u32, words: &[u64]) {
+fn agree_on_moves(calls: [Move; 3], from: u32, to: u32, strict: bool, words: &[u64]) {
     for w in words.iter().step_by(512) {
         let word = perhaps_stray(from, *w);
-        let [ours, theirs] = [0, 1].map(|i| unsafe { calls[i](from, to, false, word) }.parts());
+        let [ours, theirs] = [0, 1].map(|i| unsafe { calls[i](from, to, strict, word) }.parts());
         if ours != theirs {
-            differ(&format!("moving {:x} from {} to {}", word, from, to), ours, theirs);
+            differ(&format!("moving {:x} from {} to {}, strict {}", word, from, to, strict), ours, theirs);
         }
     }
 }
 
-fn agree_on<'a, T: Parts + 'a, R: Parts>(name: &str, calls: [impl One<T, R>; 3], n: u32, given: impl Iterator<Item = &'a T>) {
+fn agree_on<'a, T: Parts + 'a, R: Parts>(name: &str, calls: [impl One<T, R>; 3], n: u32, strict: bool, given: impl Iterator<Item = &'a T>) {
     for x in given {
-        let [ours, theirs] = [0, 1].map(|i| calls[i].on(n, *x).parts());
+        let [ours, theirs] = [0, 1].map(|i| calls[i].on(n, strict, *x).parts());
         if ours != theirs {
-            differ(&format!("{} at {}: bits {:x}", name, n, x.bits()), ours, theirs);
+            differ(&format!("{} at {}, strict {}: bits {:x}", name, n, strict, x.bits()), ours, theirs);
         }
     }
 }
 
 // The columns that are timed, and short ones at every width: some have a stray word, some have no room, some leave places over.
 pub fn agree_on_columns(wide: &[u64], narrow: &[u64]) {
-    agree_on_column(16, 64, narrow, COUNT);
-    agree_on_column(64, 16, wide, COUNT);
+    agree_on_column(16, 64, false, narrow, COUNT);
+    agree_on_column(64, 16, false, wide, COUNT);
     for from in 0..=66 {
         for to in 0..=66 {
             for (i, words) in wide.chunks(5).take(12).enumerate() {
                 let words: Vec<u64> = words.iter().map(|w| if i % 4 == 0 { perhaps_stray(from, *w) } else { perhaps_stray(from, *w) >> 1 }).collect();
-                agree_on_column(from, to, &words, 4 + i % 3);
+                agree_on_column(from, to, i % 2 == 1, &words, 4 + i % 3);
             }
         }
     }
 }
 
-fn agree_on_column(from: u32, to: u32, words: &[u64], room: usize) {
+fn agree_on_column(from: u32, to: u32, strict: bool, words: &[u64], room: usize) {
     let [ours, theirs] = [0, 1].map(|i| {
         let mut results = vec![9; room];
-        (on_column(MOVE_COLUMN[i], from, to, words, &mut results).parts(), results)
+        (on_column(MOVE_COLUMN[i], from, to, strict, words, &mut results).parts(), results)
     });
-    agree_on_slices(|| format!("column of {} from {} to {}", words.len(), from, to), ours, theirs);
+    agree_on_slices(|| format!("column of {} from {} to {}, strict {}", words.len(), from, to, strict), ours, theirs);
 }
 
 // The blocks that are timed; some with each byte changed, the sums made right again or not; some too short, and some with too few places.

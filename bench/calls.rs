@@ -1,5 +1,5 @@
 // The calls of the three sides: the library, the plain version and an empty call, which tells what the loop and the call cost by themselves.
-// All are called through a pointer, so none is inlined into the loop. Of a rule that can be chosen, rounded or cut is asked for.
+// All are called through a pointer, so none is inlined into the loop.
 use crate::handed::{HandedBlock, HandedColumn, HandedNumber, HandedWhole, HandedWord};
 use crate::plain;
 use std::slice::{from_raw_parts, from_raw_parts_mut};
@@ -34,32 +34,32 @@ pub const TAKE_BINARY64: [Outright<u64, HandedNumber>; 3] = [takum_take_binary64
 pub const MOVE_COLUMN: [MoveColumn; 3] = [takum_move_column, plain_move_column, empty_move_column];
 pub const READ_BLOCK: [ReadBlock; 3] = [takum_read_block, plain_read_block, empty_read_block];
 
-extern "C" fn plain_write(n: u32, _strict: bool, negative: bool, m: u64, k: i32) -> HandedWord {
-    plain::write(n, negative, m, k).into()
+extern "C" fn plain_write(n: u32, strict: bool, negative: bool, m: u64, k: i32) -> HandedWord {
+    plain::write(n, strict, negative, m, k).into()
 }
 
-extern "C" fn plain_move(from: u32, to: u32, _strict: bool, word: u64) -> HandedWord {
-    plain::move_word(from, to, word).into()
+extern "C" fn plain_move(from: u32, to: u32, strict: bool, word: u64) -> HandedWord {
+    plain::move_word(from, to, strict, word).into()
 }
 
-extern "C" fn plain_write_whole(n: u32, _strict: bool, x: i64) -> HandedWord {
-    plain::whole::write_whole(n, x).into()
+extern "C" fn plain_write_whole(n: u32, strict: bool, x: i64) -> HandedWord {
+    plain::whole::write_whole(n, strict, x).into()
 }
 
-extern "C" fn plain_take_whole(n: u32, _strict: bool, word: u64) -> HandedWhole {
-    plain::whole::take_whole(n, word).into()
+extern "C" fn plain_take_whole(n: u32, strict: bool, word: u64) -> HandedWhole {
+    plain::whole::take_whole(n, strict, word).into()
 }
 
-extern "C" fn plain_write_binary64(n: u32, _strict: bool, x: f64) -> HandedWord {
-    plain::binary64::write_binary64(n, x).into()
+extern "C" fn plain_write_binary64(n: u32, strict: bool, x: f64) -> HandedWord {
+    plain::binary64::write_binary64(n, strict, x).into()
 }
 
 extern "C" fn plain_take_binary64(n: u32, word: u64) -> HandedNumber {
     plain::binary64::take_binary64(n, word).into()
 }
 
-unsafe extern "C" fn plain_move_column(from: u32, to: u32, _strict: bool, words: *const u64, count: usize, results: *mut u64, room: usize) -> HandedColumn {
-    plain::column::move_column(from, to, from_raw_parts(words, count), from_raw_parts_mut(results, room)).into()
+unsafe extern "C" fn plain_move_column(from: u32, to: u32, strict: bool, words: *const u64, count: usize, results: *mut u64, room: usize) -> HandedColumn {
+    plain::column::move_column(from, to, strict, from_raw_parts(words, count), from_raw_parts_mut(results, room)).into()
 }
 
 unsafe extern "C" fn plain_read_block(block: *const u8, size: usize, results: *mut u64, room: usize) -> HandedBlock {
@@ -100,27 +100,27 @@ extern "C" fn empty_read_block(_block: *const u8, _size: usize, _results: *mut u
 
 // Calls of one width, whether or not they have a rule.
 pub trait One<T, R>: Copy {
-    fn on(self, n: u32, x: T) -> R;
+    fn on(self, n: u32, strict: bool, x: T) -> R;
 }
 
 impl<T, R> One<T, R> for ByRule<T, R> {
     #[inline(always)]
-    fn on(self, n: u32, x: T) -> R {
-        unsafe { self(n, false, x) }
+    fn on(self, n: u32, strict: bool, x: T) -> R {
+        unsafe { self(n, strict, x) }
     }
 }
 
 impl<T, R> One<T, R> for Outright<T, R> {
     #[inline(always)]
-    fn on(self, n: u32, x: T) -> R {
+    fn on(self, n: u32, _strict: bool, x: T) -> R {
         unsafe { self(n, x) }
     }
 }
 
 // The two that work on slices, called on slices.
 #[inline(always)]
-pub fn on_column(call: MoveColumn, from: u32, to: u32, words: &[u64], results: &mut [u64]) -> HandedColumn {
-    unsafe { call(from, to, false, words.as_ptr(), words.len(), results.as_mut_ptr(), results.len()) }
+pub fn on_column(call: MoveColumn, from: u32, to: u32, strict: bool, words: &[u64], results: &mut [u64]) -> HandedColumn {
+    unsafe { call(from, to, strict, words.as_ptr(), words.len(), results.as_mut_ptr(), results.len()) }
 }
 
 #[inline(always)]

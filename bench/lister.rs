@@ -84,7 +84,7 @@ impl Line {
     }
 
     fn whole(&mut self, width: u32, word: u64) {
-        match take_whole(width, word) {
+        match take_whole(width, false, word) {
             Ok(x) => {
                 self.decimal(x.unsigned_abs());
                 if x < 0 {

@@ -24,7 +24,7 @@ fn sum(answers: impl Iterator<Item = u64>) -> u64 {
 }
 
 fn compare_one<T: Copy, R: Parts>(name: &str, calls: [impl One<T, R>; 3], n: u32, given: &[T]) -> bool {
-    let side = |i: usize| { let call = hidden(&calls[i]); move || sum(given.iter().map(|&x| call.on(n, x).bits())) };
+    let side = |i: usize| { let call = hidden(&calls[i]); move || sum(given.iter().map(|&x| call.on(n, false, x).bits())) };
     compare(&format!("{} {}", name, n), COUNT, [&mut side(0), &mut side(1), &mut side(2)])
 }
 
@@ -32,7 +32,7 @@ fn compare_one<T: Copy, R: Parts>(name: &str, calls: [impl One<T, R>; 3], n: u32
 fn compare_columns(from: u32, to: u32, words: &[u64]) -> bool {
     let side = |i: usize| {
         let (call, mut results) = (hidden(&MOVE_COLUMN[i]), vec![0; COUNT]);
-        move || on_column(call, from, to, words, &mut results).bits() ^ results[COUNT - 1]
+        move || on_column(call, from, to, false, words, &mut results).bits() ^ results[COUNT - 1]
     };
     compare(&format!("column {} to {}", from, to), COUNT, [&mut side(0), &mut side(1), &mut side(2)])
 }

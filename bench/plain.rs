@@ -1,5 +1,5 @@
-// The plain Rust that the library is timed against: rounded writing and moving, whole numbers and binary64 in and out, every width from
-// 2 to 64, the same refusals; columns and sheet blocks. No table, and no loop for one word. The paper's letters: n the width, r the regime,
+// The plain Rust that the library is timed against: writing and moving, rounded and strict, whole numbers and binary64 in and out, every width
+// from 2 to 64, the same refusals; columns and sheet blocks. No table, and no loop for one word. The paper's letters: n the width, r the regime,
 // c the characteristic.
 #![allow(dead_code)] // main.rs and lister.rs each use a part
 
@@ -11,6 +11,7 @@ pub mod whole;
 pub const WIDTH: u32 = 1;
 pub const STRAY: u32 = 2;
 pub const NAR: u32 = 3;
+pub const INEXACT: u32 = 4;
 pub const OVER: u32 = 5;
 pub const ROOM: u32 = 6;
 pub const SIZE: u32 = 7;
@@ -23,7 +24,7 @@ const TOP: u64 = 1 << 63;
 
 // Plus or minus m * 2^k as a word.
 #[inline(always)]
-pub fn write(n: u32, negative: bool, m: u64, k: i32) -> Result<u64, u32> {
+pub fn write(n: u32, strict: bool, negative: bool, m: u64, k: i32) -> Result<u64, u32> {
     if !(2..=64).contains(&n) {
         return Err(WIDTH);
     }
@@ -31,29 +32,42 @@ pub fn write(n: u32, negative: bool, m: u64, k: i32) -> Result<u64, u32> {
         return Ok(0);
     }
     let zeros = m.leading_zeros();
-    Ok(with_sign(n, negative, nearest(n, k as i64 + 63 - zeros as i64, m << zeros)))
+    write_size(n, strict, negative, k as i64 + 63 - zeros as i64, m << zeros)
+}
+
+// Plus or minus m * 2^(h - 63), m having its top bit set: the nearest word, by the strict rule only where it has just that size.
+#[inline(always)]
+fn write_size(n: u32, strict: bool, negative: bool, h: i64, m: u64) -> Result<u64, u32> {
+    let word = nearest(n, h, m);
+    if strict {
+        let (i, size) = read_positive(word << (64 - n));
+        if i as i64 != h || size != m {
+            return Err(INEXACT);
+        }
+    }
+    Ok(with_sign(n, negative, word))
 }
 
 // A word of width `from` as one of width `to`.
 #[inline]
-pub fn move_word(from: u32, to: u32, word: u64) -> Result<u64, u32> {
+pub fn move_word(from: u32, to: u32, strict: bool, word: u64) -> Result<u64, u32> {
     if !(2..=64).contains(&from) || !(2..=64).contains(&to) {
         return Err(WIDTH);
     }
-    Ok(moved(to, string_of(from, word)?))
+    moved(to, strict, string_of(from, word)?)
 }
 
 // A string as a word of width `to`.
 #[inline(always)]
-fn moved(to: u32, string: u64) -> u64 {
+fn moved(to: u32, strict: bool, string: u64) -> Result<u64, u32> {
     if string == 0 {
-        return 0;
+        return Ok(0);
     }
     if string == TOP {
-        return 1 << (to - 1);
+        return Ok(1 << (to - 1));
     }
     let (negative, h, m) = read(string);
-    with_sign(to, negative, nearest(to, h as i64, m))
+    write_size(to, strict, negative, h as i64, m)
 }
 
 // A word with its sign at the top of 64 bits: zero bits follow on the right, as the format wants below 12 bits.

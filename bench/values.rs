@@ -73,7 +73,7 @@ pub fn words_of_wholes(n: u32) -> Vec<u64> {
     (0..COUNT)
         .map(|_| {
             let h = (next() % 68) as i32 - 3;
-            plain::write(n, next() % 2 == 1, next() | 1 << 63, h - 63).unwrap()
+            plain::write(n, false, next() % 2 == 1, next() | 1 << 63, h - 63).unwrap()
         })
         .collect()
 }
@@ -120,7 +120,7 @@ pub fn edge_words(n: u32) -> Vec<u64> {
     let nar = 1 << (n - 1);
     words.extend([all, nar, nar - 1, (nar + 1) & all]);
     for negative in [false, true] {
-        let word = plain::write(n, negative, 1, 63).unwrap();
+        let word = plain::write(n, false, negative, 1, 63).unwrap();
         words.extend([word, word.wrapping_sub(1) & all, (word + 1) & all]);
     }
     words

@@ -1,9 +1,9 @@
 // binary64 in and out.
-use super::{nearest, read, string_of, with_sign, TOP, WIDTH};
+use super::{read, string_of, with_sign, write_size, INEXACT, TOP, WIDTH};
 
 // A binary64 number as a word; NaN and the infinities give NaR.
 #[inline]
-pub fn write_binary64(n: u32, x: f64) -> Result<u64, u32> {
+pub fn write_binary64(n: u32, strict: bool, x: f64) -> Result<u64, u32> {
     if !(2..=64).contains(&n) {
         return Err(WIDTH);
     }
@@ -15,9 +15,12 @@ pub fn write_binary64(n: u32, x: f64) -> Result<u64, u32> {
     }
     if exponent == 0 {
         // Zero, or a number far below the smallest word.
-        return Ok(if bits << 1 == 0 { 0 } else { with_sign(n, negative, 1) });
+        if bits << 1 == 0 {
+            return Ok(0);
+        }
+        return if strict { Err(INEXACT) } else { Ok(with_sign(n, negative, 1)) };
     }
-    Ok(with_sign(n, negative, nearest(n, exponent as i64 - 1023, TOP | bits << 11)))
+    write_size(n, strict, negative, exponent as i64 - 1023, TOP | bits << 11)
 }
 
 // A word as a binary64 number; NaR gives none.

@@ -3,6 +3,7 @@ use crate::answer::Answer;
 use crate::refusal::Refusal;
 use crate::refusal::Verdict;
 ghost use mathlib.Core.Path.{_≡_};
+ghost use Prim.Native.Nat.{_≤_};
 ghost use Rattle.bounds.specs.Refusals.{widthTest, strayTest, wordTest};
 ghost use Rattle.bounds.specs.Widths.{Greatest, largest, smallest, narWord, Makes, GivesWord, GivesLimit};
 
@@ -44,21 +45,21 @@ impl Width {
     pub fn test_word(self, word: u64) -> Verdict
         ensures { λ r. ⌜ r ≡ wordTest (self .bits) word ⌝ }
     {
-        self.test().then(self.test_bits(word))
+        match self.test() {
+            Verdict::Through => self.test_bits(word),
+            Verdict::Refused(q) => Verdict::Refused(q),
+        }
     }
 
     // Refuses a word that has a bit at or above the width.
     fn test_bits(self, word: u64) -> Verdict
+        requires { ⌜ (2 ≤ self .bits) × (self .bits ≤ 64) ⌝ }
         ensures { λ r. ⌜ r ≡ strayTest (self .bits) word ⌝ }
     {
-        let n = self.bits;
-        if n < 64 {
-            if word < 1 << n {
-                return Verdict::Through;
-            }
-            return Verdict::Refused(Refusal::Stray);
+        if word >> (self.bits - 1) < 2 {
+            return Verdict::Through;
         }
-        Verdict::Through
+        Verdict::Refused(Refusal::Stray)
     }
 
     // A width of a number.

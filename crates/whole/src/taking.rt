@@ -46,26 +46,30 @@ fn take_size(rule: Taking, negative: bool, h: u32, m: u64) -> Whole
     requires { ⌜ 2 ^ 63 ≤ m ⌝ }
     ensures { λ a. ⌜ TakesSize rule negative (pos h) m a ⌝ }
 {
-    if 63 < h {
-        return Whole::Refused(Refusal::Over);
+    if 62 < h {
+        return take_far(rule, negative, h, m);
     }
     // The lowest 63 - h bits are the fraction.
     let fraction = 63 - h;
     let size = m >> fraction;
-    if greatest_size(negative) < size {
-        return Whole::Refused(Refusal::Over);
-    }
     by_rule(rule, size << fraction == m, with_sign(negative, size))
 }
 
-// The greatest size of a signed 64-bit number.
-fn greatest_size(negative: bool) -> u64
-    ensures { λ r. ⌜ r ≡ greatestSize negative ⌝ }
+// The same from 2^63 on, where only -2^63 itself falls inside signed 64 bits.
+fn take_far(rule: Taking, negative: bool, h: u32, m: u64) -> Whole
+    requires { ⌜ (2 ^ 63 ≤ m) × (62 < h) ⌝ }
+    ensures { λ a. ⌜ TakesSize rule negative (pos h) m a ⌝ }
 {
-    if negative {
-        return 1 << 63;
+    if 63 < h {
+        return Whole::Refused(Refusal::Over);
     }
-    (1 << 63) - 1
+    if negative {
+        if m == 1 << 63 {
+            return by_rule(rule, true, with_sign(negative, m));
+        }
+        return Whole::Refused(Refusal::Over);
+    }
+    Whole::Refused(Refusal::Over)
 }
 
 // A whole number of its sign and size; 2^63 itself is no i64, so one is taken off before the sign is set.

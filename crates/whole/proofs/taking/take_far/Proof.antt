@@ -50,7 +50,7 @@ positive s m e low = rw e (omega (arith, low))
 
 returns : tie.Need-returns
 returns c = let s = c .before in
-    takes-past (s .args .rule) (s .args .negative) (s .args .m) (s .pre .0) (s .args .h) (c .if1 .taken)
+    takes-past (s .args .rule) (s .args .negative) (s .args .m) (s .pre .0) (s .args .h) (omega (arith, c .if1 .taken))
 
 with-sign-requires : tie.Need-with-sign-requires
 with-sign-requires c κs = let s = c .before .before .before in
@@ -64,15 +64,15 @@ returns-2 c = let k = c .before .before in
     let s = k .before .before .before in
     subst (TakesSize (s .args .rule) (s .args .negative) (pos (s .args .h)) (s .args .m))
     (sym (c .by-rule .ensures ∙ ap (byRule (s .args .rule) true) (toZ-ofZ {w = w64} {z = c .before .with-sign .result} (sfits-of (c .before .with-sign .ok)) ∙ c .before .with-sign .ensures)))
-    (inside (s .args .rule) (s .args .negative) (s .args .m) (s .pre .0) (s .args .h) (s .pre .1) (k .before .before .if1 .left) (fits (s .args .negative) (s .args .m) (k .before .if2 .taken) (k .if3 .taken)))
+    (inside (s .args .rule) (s .args .negative) (s .args .m) (s .pre .0) (s .args .h) (s .pre .1) (omega (arith, k .before .before .if1 .left)) (fits (s .args .negative) (s .args .m) (k .before .if2 .taken) (k .if3 .taken)))
 
 returns-3 : tie.Need-returns-3
 returns-3 c = let s = c .before .before .before in
-    over (s .args .rule) (s .args .negative) (s .args .m) (s .pre .0) (s .args .h) (s .pre .1) (c .before .before .if1 .left) (larger (s .args .negative) (s .args .m) (c .before .if2 .taken) (s .pre .0) (c .if3 .left))
+    over (s .args .rule) (s .args .negative) (s .args .m) (s .pre .0) (s .args .h) (s .pre .1) (omega (arith, c .before .before .if1 .left)) (larger (s .args .negative) (s .args .m) (c .before .if2 .taken) (s .pre .0) (c .if3 .left))
 
 returns-4 : tie.Need-returns-4
 returns-4 c = let s = c .before .before in
-    over (s .args .rule) (s .args .negative) (s .args .m) (s .pre .0) (s .args .h) (s .pre .1) (c .before .if1 .left) (positive (s .args .negative) (s .args .m) (c .if2 .left) (s .pre .0))
+    over (s .args .rule) (s .args .negative) (s .args .m) (s .pre .0) (s .args .h) (s .pre .1) (omega (arith, c .before .if1 .left)) (positive (s .args .negative) (s .args .m) (c .if2 .left) (s .pre .0))
 
 pub take-far-spec : {M : Type 1} → statement M
 take-far-spec =

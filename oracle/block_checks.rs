@@ -10,10 +10,12 @@ use crate::census::Sequence;
 use crate::fault_lines::Faulty;
 use crate::lister::list;
 use crate::refusals::Refusal;
+use crate::stack::stack_sheet;
 
 pub fn check() {
     check_case();
     check_lister();
+    check_stack();
     check_good_blocks();
     check_sums();
     check_faults();
@@ -69,6 +71,28 @@ fn check_lister() {
         "4294967295 5 90000000 -9223372036854775808",
     ];
     assert!(listing(&sheet) == expected.join("\n") + "\n");
+}
+
+/// "A refused block prints `block I refused N`, I being its place in the input from 0, and the lister goes on; a short
+/// last piece is refused 7": in the sheet of stack.rs.
+fn check_stack() {
+    let listing = listing(&stack_sheet());
+    let refused: Vec<&str> = listing.lines().filter(|line| line.starts_with("block")).collect();
+    let expected = [
+        "block 0 refused 8",
+        "block 5 refused 9",
+        "block 126 refused 1",
+        "block 127 refused 10",
+        "block 128 refused 11",
+        "block 129 refused 8",
+        "block 150 refused 9",
+        "block 199 refused 1",
+        "block 200 refused 7",
+    ];
+    assert!(refused == expected);
+    for answer in ["nar", "over", "0", "-1", "7", "515", "-9223372036854775808"] {
+        assert!(listing.lines().any(|line| line.ends_with(&format!(" {answer}"))), "{answer} is listed");
+    }
 }
 
 /// Blocks of all widths, with no word and with all there is room for.

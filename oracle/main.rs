@@ -1,16 +1,17 @@
 //! The independent program: it reads, writes and moves linear takums, alone and in columns, takes whole numbers and
-//! binary64 in and out, reads sheet blocks, and prints the census. It is written from the papers alone.
+//! binary64 in and out, reads sheet blocks, and prints the census and the figures. It is written from the papers alone.
 //!
-//! - `oracle` prints the census.
+//! - `oracle` prints the census, `oracle figures` the figures.
 //! - `oracle list` prints what the lister must print of standard input.
-//! - `oracle sheet` writes the example sheet of a rack, `oracle sheet N` a pseudo-random sheet of N blocks.
+//! - `oracle sheet` writes the example sheet of a rack, `oracle sheet N` a pseudo-random sheet of N blocks, and
+//!   `oracle sheet stack` a sheet of many short blocks.
 //!
-//! The papers are paper 01 (the requirements), document 004, Definition 2 (the linear takum), and docs/CENSUS.md (the
-//! lines to print). Nothing here was taken from the library. Every word is turned into its exact value. The sign, h and
-//! m of a reading and every comparison are found from exact values; a reading's p is the word's own fraction count, and
-//! negation is two's complement negation of the word, held against the exact value. Writing and moving find the nearest
-//! word by exact values too, and so does binary64 out with the nearest number; no floating point is used. All is meant
-//! to be obvious, not quick.
+//! The papers are paper 01 (the requirements), document 004, Definition 2 (the linear takum), and docs/CENSUS.md and
+//! docs/FIGURES.md (the lines to print). Nothing here was taken from the library. Every word is turned into its exact
+//! value. The sign, h and m of a reading and every comparison are found from exact values; a reading's p is the word's
+//! own fraction count, and negation is two's complement negation of the word, held against the exact value. Writing and
+//! moving find the nearest word by exact values too, and so does binary64 out with the nearest number; no floating
+//! point is used. All is meant to be obvious, not quick.
 //!
 //! The assertions are statements of the papers, or follow from them. If one of them fails, the program stops.
 //!
@@ -19,9 +20,9 @@
 //! - refusals.rs, words.rs (the value of a word), widths.rs and reading.rs;
 //! - offers.rs, nearest.rs, writing.rs and moving.rs;
 //! - whole.rs and binary64.rs;
-//! - columns.rs, blocks.rs and lister.rs; rack.rs and long_sheets.rs, the sheets that are made;
+//! - columns.rs, blocks.rs and lister.rs; rack.rs, long_sheets.rs and stack.rs, the sheets that are made;
 //! - census.rs, ways.rs and results.rs, what the lines are made with;
-//! - the files named _lines, which print the parts of docs/CENSUS.md;
+//! - the files named _lines, which print the parts of docs/CENSUS.md; figures.rs, the lines of docs/FIGURES.md;
 //! - the files named _checks, which hold all this against the papers' statements and figures.
 
 mod binary64;
@@ -36,6 +37,8 @@ mod column_lines;
 mod columns;
 mod exact;
 mod fault_lines;
+mod figures;
+mod figures_checks;
 mod lister;
 mod long_sheets;
 mod moving;
@@ -49,6 +52,7 @@ mod reading_lines;
 mod refusals;
 mod results;
 mod search;
+mod stack;
 mod ways;
 mod whole;
 mod whole_checks;
@@ -70,8 +74,10 @@ fn main() {
     let arguments: Vec<&str> = arguments.iter().map(String::as_str).collect();
     let written = match arguments[..] {
         [] => write_census(),
+        ["figures"] => write_figures(),
         ["list"] => write_listing(),
         ["sheet"] => stdout().write_all(&rack::rack_sheet()),
+        ["sheet", "stack"] => stdout().write_all(&stack::stack_sheet()),
         ["sheet", count] => match count.parse() {
             Ok(count) => write_long_sheet(count),
             Err(_) => leave_with_usage(),
@@ -82,7 +88,7 @@ fn main() {
 }
 
 fn leave_with_usage() -> ! {
-    eprintln!("usage: oracle | oracle list < SHEET | oracle sheet [N] > SHEET");
+    eprintln!("usage: oracle | oracle figures | oracle list < SHEET | oracle sheet [N | stack] > SHEET");
     std::process::exit(2);
 }
 
@@ -105,7 +111,18 @@ fn write_census() -> Result<()> {
     column_lines::push(&mut lines);
     block_lines::push(&mut lines);
     fault_lines::push(&mut lines);
+    write_lines(&lines)
+}
 
+fn write_figures() -> Result<()> {
+    figures_checks::check();
+
+    let mut lines = Vec::new();
+    figures::push(&mut lines);
+    write_lines(&lines)
+}
+
+fn write_lines(lines: &[String]) -> Result<()> {
     let text = lines.join("\n") + "\n";
     stdout().write_all(text.as_bytes())
 }

@@ -1,5 +1,10 @@
--- The laws of widths and verdicts, one idea a file. Answers is for the crates that stand on this one; nothing in this crate uses it.
+-- The laws of widths and verdicts, one idea a file, in reading order. Answers is for the crates that stand on this one; nothing here uses it.
+
+-- powers of two by the sum of their exponents
 pub mod Powers
+-- when the tests of a width and of a word refuse, and what a contract says then
 pub mod Verdicts
+-- the exponent of the exact-count limit, from one logarithm
 pub mod Limits
+-- an answer is a word or a refusal, and not both
 pub mod Answers

@@ -22,7 +22,7 @@ unfoldable pub packed : ℕ → ℕ → List ℕ → List ℕ
 packed k zero bytes = []
 packed k (suc n) bytes = number (take k bytes) ∷ packed k n (drop k bytes)
 
--- the bytes that a word of width 8, 16, 32 or 64 has
+-- the bytes that a word of width 8, 16, 32 or 64 has; only private functions' contracts cite it
 pub data IsWordSize : ℕ → Type 0 where
   one : IsWordSize 1
   two : IsWordSize 2

@@ -1,17 +1,37 @@
--- The laws of whole numbers and of the exact-count limit, one idea a file.
-pub mod Amounts
-pub mod Answers
-pub mod Fractions
-pub mod InAndOut
-pub mod LimitBeyond
-pub mod LimitBinades
-pub mod LimitStrings
-pub mod LimitWords
-pub mod LimitWriting
-pub mod OneOutcome
-pub mod Order
-pub mod Refused
-pub mod TakenOut
-pub mod Takings
+-- The laws of whole numbers, one idea a file, in reading order.
+
+-- ---- taking out
+-- a value has one whole part
 pub mod WholeParts
+-- what is answered once the whole part is known: the range, and then the rule
+pub mod Answers
+-- the whole part of a whole number is the number itself
 pub mod WholeValues
+-- how much a size counts in 2^-307
+pub mod Amounts
+-- what is lost where the lowest bits are dropped
+pub mod Fractions
+-- what is taken out of a size, by where its exponent lies: below zero, from 0 to 63, or past it
+pub mod Takings
+-- ---- what the contracts say of it
+-- two outcomes that a contract allows are equal
+pub mod OneOutcome
+-- NAR, OVER and INEXACT are given exactly when the table of paper 01 says
+pub mod Refused
+-- what is known of a word out of which a whole number was taken
+pub mod TakenOut
+-- in and out again, out and in again
+pub mod InAndOut
+-- taking out keeps the order of words
+pub mod Order
+-- ---- the exact-count limit
+-- the strings of the whole numbers from 2^h to 2^(h + 1) begin alike and are evenly spaced
+pub mod LimitBinades
+-- the string of a whole number: the beginning, its bits without the leading one, and zeros
+pub mod LimitStrings
+-- where its last bit is 1, it needs h bits after the beginning
+pub mod LimitBeyond
+-- so every whole number up to the limit has a word, and no odd one past it has
+pub mod LimitWords
+-- and strict writing refuses none up to the limit
+pub mod LimitWriting

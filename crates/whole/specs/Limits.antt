@@ -1,5 +1,5 @@
--- What the exact-count limit l of a width n promises (paper 01, "Whole numbers and binary64"). A value is counted in 2^-307, so the whole number i
--- is i * 2^307.
+-- What the exact-count limit l of a width n promises (paper 01, "Whole numbers and binary64"). No contract cites it; crate promises states the same of
+-- the calls. A value is counted in 2^-307, so the whole number i is i * 2^307.
 use mathlib.Core.Bool.{Bool}
 use Prim.Native.Nat.{ℕ, _+_, _*_, _^_, _≤_}
 use Rattle.bounds.specs.Widths.{IsLimit}

@@ -3,6 +3,7 @@ pub mod Demands
 pub mod Evens
 pub mod FaceOutcomes
 pub mod Figures
+pub mod Letter
 pub mod Lines
 pub mod Numbers
 pub mod OneOutcome

@@ -35,7 +35,7 @@ fn main() {
     let mut input = std::io::stdin().lock();
     while input.read_line(&mut line).expect("standard input gives its lines") > 0 {
         let case = line.trim_end();
-        // The rounding mode is left as it is: Rust has no way to set another.
+        // Rust takes the rounding mode to be the nearest, so it is left at that.
         if !case.is_empty() && !case.starts_with('#') && !case.starts_with("rounding ") {
             let (call, expected) = case.split_once(" = ").unwrap_or_else(|| stop("it has no answer", case));
             let (name, rest) = call.split_once(' ').unwrap_or_else(|| stop("the call is given nothing", case));

@@ -1,5 +1,5 @@
-/* The floating-point state of x86-64, its register MXCSR: six flags, then which of them interrupt (none, where all their bits are set), then the
- * rounding mode. */
+/* The floating-point state of x86-64, its register MXCSR: bits 0 to 5 are exception flags, bits 7 to 12 keep each from interrupting the program, and
+ * bits 13 and 14 are the rounding mode. */
 #include "rounding.h"
 
 const char *const modes[MODES] = {"nearest", "downward", "upward", "zero"};

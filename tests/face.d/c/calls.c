@@ -1,26 +1,49 @@
 /* The calls of one word, with every field of their answers. */
 #include "calls.h"
 
+#include "rounding.h"
 #include "takum.h"
 
-#include <inttypes.h>
 #include <string.h>
+
+/* Paper 01's name for the number that the header gives its own name. */
+static const char *name_of(uint32_t refusal) {
+    switch (refusal) {
+    case TAKUM_WIDTH: return "WIDTH";
+    case TAKUM_STRAY: return "STRAY";
+    case TAKUM_NOT_REAL: return "NAR";
+    case TAKUM_INEXACT: return "INEXACT";
+    case TAKUM_OVER: return "OVER";
+    case TAKUM_ROOM: return "ROOM";
+    case TAKUM_SIZE: return "SIZE";
+    case TAKUM_MARK: return "MARK";
+    case TAKUM_CHECK: return "CHECK";
+    case TAKUM_COUNT: return "COUNT";
+    case TAKUM_FILL: return "FILL";
+    default: return "which has no name";
+    }
+}
 
 bool put_refusal(answer *to, uint32_t refusal, bool rest_is_zero) {
     if (refusal == TAKUM_OK) {
         return false;
     }
-    put(to, "refused %" PRIu32 "%s", refusal, rest_is_zero ? "" : " beside fields that are not zero");
+    put_number(to, "refused ", refusal);
+    put(to, " ");
+    put(to, name_of(refusal));
+    if (!rest_is_zero) {
+        put(to, " beside fields that are not zero");
+    }
     return true;
 }
 
 static void put_word(answer *to, takum_word_answer got) {
     if (!put_refusal(to, got.refusal, got.word == 0)) {
-        put(to, "word 0x%" PRIx64, got.word);
+        put_hex(to, "word ", got.word);
     }
 }
 
-static bool take_rule(given *from) {
+bool take_rule(given *from) {
     return take_choice(from, "rounded", "strict") ? TAKUM_STRICT : TAKUM_ROUNDED;
 }
 
@@ -34,6 +57,25 @@ static double number_of(uint64_t pattern) {
     double number;
     memcpy(&number, &pattern, sizeof number);
     return number;
+}
+
+void of_constant(given *from, answer *to) {
+    static const struct {
+        const char *name;
+        uint64_t value;
+    } constants[] = {
+        {"LEAST_WIDTH", TAKUM_LEAST_WIDTH},
+        {"GREATEST_WIDTH", TAKUM_GREATEST_WIDTH},
+        {"BLOCK_SIZE", TAKUM_BLOCK_SIZE},
+        {"BLOCK_WORDS", TAKUM_BLOCK_WORDS},
+    };
+    for (size_t i = 0; i < sizeof constants / sizeof constants[0]; i++) {
+        if (take(from, constants[i].name)) {
+            put_number(to, "", constants[i].value);
+            return;
+        }
+    }
+    stop("there is no such constant", from->rest);
 }
 
 void of_largest(given *from, answer *to) {
@@ -51,7 +93,7 @@ void of_nar(given *from, answer *to) {
 void of_limit(given *from, answer *to) {
     takum_limit_answer got = takum_limit(take_width(from));
     if (!put_refusal(to, got.refusal, got.limit == 0)) {
-        put(to, "limit %" PRIu64, got.limit);
+        put_number(to, "limit ", got.limit);
     }
 }
 
@@ -63,11 +105,14 @@ void of_read(given *from, answer *to) {
         return;
     }
     if (got.kind == TAKUM_NUMBER) {
-        put(to, "number %s %" PRId32 " %" PRIu64 " %" PRIu32, got.negative ? "minus" : "plus", got.h, got.m, got.p);
+        put_signed(to, got.negative ? "number minus " : "number plus ", got.h);
+        put_number(to, " ", got.m);
+        put_number(to, " ", got.p);
     } else if (got.kind == TAKUM_ZERO || got.kind == TAKUM_NAR) {
-        put(to, "%s%s", got.kind == TAKUM_NAR ? "nar" : "zero", parts_are_zero ? "" : " beside fields that are not zero");
+        put(to, got.kind == TAKUM_NAR ? "nar" : "zero");
+        put(to, parts_are_zero ? "" : " beside fields that are not zero");
     } else {
-        put(to, "kind %" PRIu32, got.kind);
+        put_number(to, "kind ", got.kind);
     }
 }
 
@@ -76,7 +121,7 @@ void of_compare(given *from, answer *to) {
     uint64_t x = take_number(from);
     takum_order_answer got = takum_compare(n, x, take_number(from));
     if (!put_refusal(to, got.refusal, got.order == 0)) {
-        put(to, "order %" PRId32, got.order);
+        put_signed(to, "order ", got.order);
     }
 }
 
@@ -111,14 +156,24 @@ void of_take_whole(given *from, answer *to) {
     bool strict = take_choice(from, "cut", "strict") ? TAKUM_STRICT : TAKUM_CUT;
     takum_whole_answer got = takum_take_whole(n, strict, take_number(from));
     if (!put_refusal(to, got.refusal, got.whole == 0)) {
-        put(to, "whole %" PRId64, got.whole);
+        put_signed(to, "whole ", got.whole);
     }
+}
+
+/* A NaN whose highest fraction bit is 0. */
+static bool is_signalling(uint64_t pattern) {
+    uint64_t size = pattern & 0x7fffffffffffffff;
+    return size > 0x7ff0000000000000 && size < 0x7ff8000000000000;
 }
 
 void of_write_binary64(given *from, answer *to) {
     uint32_t n = take_width(from);
     bool strict = take_rule(from);
-    put_word(to, takum_write_binary64(n, strict, number_of(take_number(from))));
+    uint64_t pattern = take_number(from);
+    put_word(to, takum_write_binary64(n, strict, number_of(pattern)));
+    if (is_signalling(pattern)) {
+        lower_invalid();
+    }
 }
 
 void of_take_binary64(given *from, answer *to) {
@@ -129,8 +184,8 @@ void of_take_binary64(given *from, answer *to) {
         return;
     }
     if (got.real) {
-        put(to, "number 0x%" PRIx64, pattern_of(got.number));
+        put_hex(to, "number ", pattern_of(got.number));
     } else {
-        put(to, "nar%s", is_zero ? "" : " beside a number that is not zero");
+        put(to, is_zero ? "nar" : "nar beside a number that is not zero");
     }
 }

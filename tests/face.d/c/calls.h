@@ -7,14 +7,17 @@
 /* Takes what the call is given, makes it, and puts its answer. */
 typedef void call(given *from, answer *to);
 
-/* Those of one word (calls.c). */
-call of_largest, of_smallest, of_nar, of_limit, of_read, of_compare, of_negate, of_write, of_move, of_write_whole, of_take_whole, of_write_binary64,
-    of_take_binary64;
+/* Those of one word, and the header's constants (calls.c). */
+call of_constant, of_largest, of_smallest, of_nar, of_limit, of_read, of_compare, of_negate, of_write, of_move, of_write_whole, of_take_whole,
+    of_write_binary64, of_take_binary64;
 
 /* Those that are lent slices (lent.c). */
 call of_move_column, of_read_block;
 
-/* Puts the refusal, if there is one, and whether the rest of the answer is zero then, as it must be. */
+/* The rule of writing and moving. */
+bool take_rule(given *from);
+
+/* Puts the refusal by its number and name, if there is one, and whether the rest of the answer is zero then, as it must be. */
 bool put_refusal(answer *to, uint32_t refusal, bool rest_is_zero);
 
 #endif

@@ -3,7 +3,6 @@
 
 #include "takum.h"
 
-#include <inttypes.h>
 #include <string.h>
 
 enum { GUARDS = 8, MOST_WORDS = 600, MOST_BYTES = 1100 };
@@ -31,7 +30,8 @@ static void put_changes(answer *to, size_t room, size_t written) {
     for (size_t i = 0; i < GUARDS + room + GUARDS; i++) {
         bool may_change = i >= GUARDS && i < GUARDS + written;
         if (!may_change && row[i] != sentinel(i)) {
-            put(to, ", with place %ld of the results changed to 0x%" PRIx64, (long)i - GUARDS, row[i]);
+            put_signed(to, ", with place ", (int64_t)i - GUARDS);
+            put_hex(to, " of the results changed to ", row[i]);
         }
     }
 }
@@ -46,38 +46,37 @@ static void put_difference(answer *to, const void *lent, const void *copy, size_
 void of_move_column(given *from, answer *to) {
     uint32_t source = take_width(from);
     uint32_t target = take_width(from);
-    bool strict = take_choice(from, "rounded", "strict");
+    bool strict = take_rule(from);
     static uint64_t lent[GUARDS + MOST_WORDS + GUARDS], copy[GUARDS + MOST_WORDS + GUARDS];
     size_t count = take_words(from, lent + GUARDS, MOST_WORDS);
-    size_t room;
-    take_room(from, &room);
+    size_t size = (GUARDS + count + GUARDS) * sizeof lent[0];
+    size_t room = take_room(from);
     uint64_t *results = lend_results(room);
-    memcpy(copy, lent, sizeof lent);
+    memcpy(copy, lent, size);
 
     takum_column_answer got = takum_move_column(source, target, strict, lent + GUARDS, count, results, room);
 
     bool has_position = got.refusal == TAKUM_STRAY || got.refusal == TAKUM_INEXACT;
     if (put_refusal(to, got.refusal, got.moved == 0 && (has_position || got.position == 0))) {
         if (has_position) {
-            put(to, " at %zu", got.position);
+            put_number(to, " at ", got.position);
         }
         put_changes(to, room, 0);
     } else {
-        put(to, "moved %zu ", got.moved);
-        put_words(to, results, got.moved <= room ? got.moved : room);
+        put_number(to, "moved ", got.moved);
+        put_words(to, " ", results, got.moved <= room ? got.moved : room);
         if (got.position != 0) {
             put(to, " beside a position that is not zero");
         }
         put_changes(to, room, got.moved);
     }
-    put_difference(to, lent, copy, sizeof lent);
+    put_difference(to, lent, copy, size);
 }
 
 void of_read_block(given *from, answer *to) {
     static uint8_t lent[GUARDS + MOST_BYTES + GUARDS], copy[GUARDS + MOST_BYTES + GUARDS];
     size_t size = take_bytes(from, lent + GUARDS, MOST_BYTES);
-    size_t room;
-    take_room(from, &room);
+    size_t room = take_room(from);
     uint64_t *results = lend_results(room);
     memcpy(copy, lent, sizeof lent);
 
@@ -86,8 +85,10 @@ void of_read_block(given *from, answer *to) {
     if (put_refusal(to, got.refusal, got.width == 0 && got.number == 0 && got.count == 0)) {
         put_changes(to, room, 0);
     } else {
-        put(to, "block %" PRIu32 " %" PRIu32 " %" PRIu32 " ", got.width, got.number, got.count);
-        put_words(to, results, got.count <= room ? got.count : room);
+        put_number(to, "block ", got.width);
+        put_number(to, " ", got.number);
+        put_number(to, " ", got.count);
+        put_words(to, " ", results, got.count <= room ? got.count : room);
         put_changes(to, room, got.count);
     }
     put_difference(to, lent, copy, sizeof lent);

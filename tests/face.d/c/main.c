@@ -1,85 +1,108 @@
 /* Makes the calls of the cases on standard input through include/takum.h and compares the answers; tests/face.d/README.md says what a case is. */
 #include "calls.h"
+#include "rounding.h"
 
 #include <stdio.h>
 #include <string.h>
 
-static const struct {
+static struct {
     const char *name;
     call *make;
+    unsigned long made;
 } calls[] = {
-    {"largest", of_largest},
-    {"smallest", of_smallest},
-    {"nar", of_nar},
-    {"limit", of_limit},
-    {"read", of_read},
-    {"compare", of_compare},
-    {"negate", of_negate},
-    {"write", of_write},
-    {"move", of_move},
-    {"write_whole", of_write_whole},
-    {"take_whole", of_take_whole},
-    {"write_binary64", of_write_binary64},
-    {"take_binary64", of_take_binary64},
-    {"move_column", of_move_column},
-    {"read_block", of_read_block},
+    {"constant", of_constant, 0},
+    {"largest", of_largest, 0},
+    {"smallest", of_smallest, 0},
+    {"nar", of_nar, 0},
+    {"limit", of_limit, 0},
+    {"read", of_read, 0},
+    {"compare", of_compare, 0},
+    {"negate", of_negate, 0},
+    {"write", of_write, 0},
+    {"move", of_move, 0},
+    {"write_whole", of_write_whole, 0},
+    {"take_whole", of_take_whole, 0},
+    {"write_binary64", of_write_binary64, 0},
+    {"take_binary64", of_take_binary64, 0},
+    {"move_column", of_move_column, 0},
+    {"read_block", of_read_block, 0},
 };
 
 /* How many failures are shown; the others are only counted. */
 enum { CALLS = sizeof calls / sizeof calls[0], MOST_SHOWN = 20 };
 
-/* Splits the case into the call's name, what it is given and the answer that is expected. The answer is the name's place in `calls`. */
-static size_t split(char *line, given *from, const char **expected) {
-    char *equals = strstr(line, " = ");
-    char *space = strchr(line, ' ');
-    if (equals == NULL) {
-        stop("it has no answer", line);
-    }
-    *equals = '\0';
-    *space = '\0';
-    from->rest = space + 1;
-    *expected = equals + 3;
-    for (size_t i = 0; i < CALLS; i++) {
-        if (strcmp(line, calls[i].name) == 0) {
-            return i;
+static unsigned long passed, failed;
+
+/* The rounding mode of the next case, and whether it goes on to another with each. */
+static unsigned mode;
+static bool in_turn;
+
+static void take_mode(given *from) {
+    in_turn = take(from, "in turn");
+    for (mode = 0; !in_turn && !take(from, modes[mode]); mode++) {
+        if (mode + 1 == MODES) {
+            stop("there is no such mode", from->rest);
         }
     }
-    stop("there is no such call", line);
-    return 0;
+}
+
+/* The call of that name, by its place. */
+static size_t place_of(const char *name) {
+    size_t place = 0;
+    while (strcmp(calls[place].name, name) != 0) {
+        if (++place == CALLS) {
+            stop("there is no such call", name);
+        }
+    }
+    return place;
+}
+
+static void try(char *line) {
+    static answer got;
+    char *space = strchr(line, ' ');
+    char *equals = strstr(line, " = ");
+    if (equals == NULL || space == equals) {
+        stop("it has no answer, or is given nothing", line);
+    }
+    *space = '\0';
+    *equals = '\0';
+    given from = {space + 1};
+    const char *expected = equals + 3;
+    size_t place = place_of(line);
+
+    got.length = 0;
+    set_mode(mode);
+    calls[place].make(&from, &got);
+    put_state(&got, mode);
+    if (*from.rest != '\0') {
+        stop("more than the call is given", from.rest);
+    }
+    calls[place].made++;
+    if (strcmp(got.text, expected) == 0) {
+        passed++;
+    } else if (++failed <= MOST_SHOWN) {
+        printf("from C, rounding %s: %s %s answers: %s; expected: %s\n", modes[mode], line, space + 1, got.text, expected);
+    }
+    mode = in_turn ? (mode + 1) % MODES : mode;
 }
 
 int main(void) {
-    static char line[16384], shown[16384];
-    static answer got;
-    unsigned long made[CALLS] = {0}, passed = 0, failed = 0;
-
+    static char line[16384];
     while (fgets(line, sizeof line, stdin) != NULL) {
-        line[strcspn(line, "\n")] = '\0';
-        if (line[0] == '\0' || line[0] == '#') {
-            continue;
+        char *end = strchr(line, '\n');
+        if (end == NULL) {
+            stop("its line is too long", line);
         }
-        given from;
-        const char *expected;
-        strcpy(shown, line);
-        size_t place = split(line, &from, &expected);
-        got.length = 0;
-        calls[place].make(&from, &got);
-        if (*from.rest != '\0') {
-            stop("more than the call is given", from.rest);
-        }
-        made[place]++;
-        if (strcmp(got.text, expected) == 0) {
-            passed++;
-        } else {
-            failed++;
-            *strstr(shown, " = ") = '\0';
-            if (failed <= MOST_SHOWN) {
-                printf("from C: %s answers: %s; expected: %s\n", shown, got.text, expected);
-            }
+        *end = '\0';
+        given from = {line};
+        if (take(&from, "rounding")) {
+            take_mode(&from);
+        } else if (line[0] != '\0' && line[0] != '#') {
+            try(line);
         }
     }
     for (size_t i = 0; i < CALLS; i++) {
-        if (made[i] == 0) {
+        if (calls[i].made == 0) {
             failed++;
             printf("from C: %s was never called\n", calls[i].name);
         }

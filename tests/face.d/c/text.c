@@ -1,8 +1,6 @@
 /* The text of a case, taken apart and put together. */
 #include "text.h"
 
-#include <inttypes.h>
-#include <stdarg.h>
 #include <stdio.h>
 #include <stdlib.h>
 #include <string.h>
@@ -20,9 +18,9 @@ static void pass_space(given *from) {
     }
 }
 
-static bool passed(given *from, const char *part) {
-    size_t length = strlen(part);
-    if (strncmp(from->rest, part, length) != 0 || (from->rest[length] != ' ' && from->rest[length] != '\0')) {
+bool take(given *from, const char *word) {
+    size_t length = strlen(word);
+    if (strncmp(from->rest, word, length) != 0 || (from->rest[length] != ' ' && from->rest[length] != '\0')) {
         return false;
     }
     from->rest += length;
@@ -31,23 +29,37 @@ static bool passed(given *from, const char *part) {
 }
 
 bool take_choice(given *from, const char *no, const char *yes) {
-    if (passed(from, yes)) {
+    if (take(from, yes)) {
         return true;
     }
-    if (!passed(from, no)) {
+    if (!take(from, no)) {
         stop("no such choice", from->rest);
     }
     return false;
 }
 
+/* The digit at a place; where there is none, a number that no base has. */
+static unsigned digit_at(const char *place) {
+    if (*place >= '0' && *place <= '9') {
+        return (unsigned)(*place - '0');
+    }
+    return *place >= 'a' && *place <= 'f' ? 10 + (unsigned)(*place - 'a') : 99;
+}
+
 /* A number, and what comes after it left where it is. */
 static uint64_t number_at(given *from) {
-    char *end;
-    if (*from->rest < '0' || *from->rest > '9') {
+    unsigned base = 10;
+    if (from->rest[0] == '0' && from->rest[1] == 'x') {
+        base = 16;
+        from->rest += 2;
+    }
+    if (digit_at(from->rest) >= base) {
         stop("no number", from->rest);
     }
-    uint64_t number = strtoull(from->rest, &end, from->rest[1] == 'x' ? 16 : 10);
-    from->rest = end;
+    uint64_t number = 0;
+    for (; digit_at(from->rest) < base; from->rest++) {
+        number = number * base + digit_at(from->rest);
+    }
     return number;
 }
 
@@ -73,15 +85,15 @@ uint32_t take_width(given *from) {
     return (uint32_t)take_number(from);
 }
 
-void take_room(given *from, size_t *room) {
-    if (!passed(from, "room")) {
+size_t take_room(given *from) {
+    if (!take(from, "room")) {
         stop("no room", from->rest);
     }
-    *room = take_number(from);
+    return take_number(from);
 }
 
 size_t take_words(given *from, uint64_t *words, size_t most) {
-    if (passed(from, "-")) {
+    if (take(from, "-")) {
         return 0;
     }
     size_t count = 0;
@@ -98,20 +110,14 @@ size_t take_words(given *from, uint64_t *words, size_t most) {
     }
 }
 
-static int digit_at(const char *place) {
-    const char *digits = "0123456789abcdef";
-    const char *found = *place == '\0' ? NULL : strchr(digits, *place);
-    return found == NULL ? -1 : (int)(found - digits);
-}
-
 size_t take_bytes(given *from, uint8_t *bytes, size_t most) {
-    if (passed(from, "-")) {
+    if (take(from, "-")) {
         return 0;
     }
     size_t count = 0;
     for (;;) {
         size_t start = count;
-        for (; digit_at(from->rest) >= 0 && digit_at(from->rest + 1) >= 0; from->rest += 2) {
+        for (; digit_at(from->rest) < 16 && digit_at(from->rest + 1) < 16; from->rest += 2) {
             if (count == most) {
                 stop("too many bytes", from->rest);
             }
@@ -136,23 +142,53 @@ size_t take_bytes(given *from, uint8_t *bytes, size_t most) {
     }
 }
 
-void put(answer *to, const char *format, ...) {
-    size_t room = sizeof to->text - to->length;
-    va_list values;
-    va_start(values, format);
-    int length = vsnprintf(to->text + to->length, room, format, values);
-    va_end(values);
-    if (length < 0 || (size_t)length >= room) {
-        stop("its answer is too long", format);
+void put(answer *to, const char *text) {
+    size_t length = strlen(text);
+    if (length >= sizeof to->text - to->length) {
+        stop("its answer is too long", text);
     }
-    to->length += (size_t)length;
+    memcpy(to->text + to->length, text, length + 1);
+    to->length += length;
 }
 
-void put_words(answer *to, const uint64_t *words, size_t count) {
+enum { MOST_DIGITS = 20 };
+
+void put_number(answer *to, const char *before, uint64_t number) {
+    char digits[MOST_DIGITS + 1];
+    char *place = digits + MOST_DIGITS;
+    *place = '\0';
+    do {
+        *--place = "0123456789"[number % 10];
+        number /= 10;
+    } while (number != 0);
+    put(to, before);
+    put(to, place);
+}
+
+void put_signed(answer *to, const char *before, int64_t number) {
+    put(to, before);
+    put_number(to, number < 0 ? "-" : "", number < 0 ? 0 - (uint64_t)number : (uint64_t)number);
+}
+
+void put_hex(answer *to, const char *before, uint64_t number) {
+    char digits[MOST_DIGITS + 1];
+    char *place = digits + MOST_DIGITS;
+    *place = '\0';
+    do {
+        *--place = "0123456789abcdef"[number % 16];
+        number /= 16;
+    } while (number != 0);
+    put(to, before);
+    put(to, "0x");
+    put(to, place);
+}
+
+void put_words(answer *to, const char *before, const uint64_t *words, size_t count) {
+    put(to, before);
     if (count == 0) {
         put(to, "-");
     }
     for (size_t i = 0; i < count; i++) {
-        put(to, "%s0x%" PRIx64, i == 0 ? "" : ",", words[i]);
+        put_hex(to, i == 0 ? "" : ",", words[i]);
     }
 }

@@ -11,13 +11,15 @@ typedef struct given {
     const char *rest;
 } given;
 
-/* The next part, up to a space: a word of the case's language, or a number, decimal or in hex after 0x. A part that is none of them ends the
- * program. */
+/* The next part, up to a space, if it is this word; if not, it stays. */
+bool take(given *from, const char *word);
+
+/* The next part: one of two words, or a number, decimal or in hex after 0x. A part that is none of them ends the program. */
 bool take_choice(given *from, const char *no, const char *yes);
 uint64_t take_number(given *from);
 int64_t take_signed(given *from);
 uint32_t take_width(given *from);
-void take_room(given *from, size_t *room);
+size_t take_room(given *from);
 
 /* A row of words, `-` where it is empty. The answer is their number. */
 size_t take_words(given *from, uint64_t *words, size_t most);
@@ -31,8 +33,11 @@ typedef struct answer {
     size_t length;
 } answer;
 
-void put(answer *to, const char *format, ...);
-void put_words(answer *to, const uint64_t *words, size_t count);
+void put(answer *to, const char *text);
+void put_number(answer *to, const char *before, uint64_t number);
+void put_signed(answer *to, const char *before, int64_t number);
+void put_hex(answer *to, const char *before, uint64_t number);
+void put_words(answer *to, const char *before, const uint64_t *words, size_t count);
 
 /* Ends the program: the case can't be understood. */
 void stop(const char *why, const char *text);

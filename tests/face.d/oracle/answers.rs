@@ -3,11 +3,16 @@ use crate::binary64::Binary64;
 use crate::reading::Reading;
 use crate::refusals::Refusal;
 
+/// The text of a refusal: paper 01's number and name.
+pub fn refused(refusal: Refusal) -> String {
+    format!("refused {} {}", refusal as u32, format!("{refusal:?}").to_uppercase())
+}
+
 /// The text of an answer, or of its refusal.
 pub fn text<T>(answer: Result<T, Refusal>, text_of: impl FnOnce(T) -> String) -> String {
     match answer {
         Ok(answer) => text_of(answer),
-        Err(refusal) => format!("refused {}", refusal as u32),
+        Err(refusal) => refused(refusal),
     }
 }
 

@@ -1,5 +1,5 @@
 //! Pseudo-random columns and blocks, with faults that come alone and together.
-use crate::answers::{row, text};
+use crate::answers::{refused, row, text};
 use crate::blocks::{end_of_words, good_block, read_block, room_of, seal, store, BLOCK_SIZE, BLOCK_WIDTHS};
 use crate::choices::Choices;
 use crate::columns::{move_column, ColumnRefusal, Rule};
@@ -23,8 +23,8 @@ pub fn column(choices: &mut Choices) -> String {
     let mut results = vec![0; room];
     let answer = match move_column(from, to, rule, &words, &mut results) {
         Ok(moved) => format!("moved {moved} {}", row(&results[..moved])),
-        Err(ColumnRefusal::OfAll(refusal)) => format!("refused {}", refusal as u32),
-        Err(ColumnRefusal::At(refusal, position)) => format!("refused {} at {position}", refusal as u32),
+        Err(ColumnRefusal::OfAll(refusal)) => refused(refusal),
+        Err(ColumnRefusal::At(refusal, position)) => format!("{} at {position}", refused(refusal)),
     };
     format!("move_column {from} {to} {name} {} room {room} = {answer}", row(&words))
 }

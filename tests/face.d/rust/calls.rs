@@ -1,8 +1,8 @@
 //! The calls of one word, each by plain numbers and by the types, which must answer the same.
-use crate::text::{put, Given};
+use crate::text::{put, stop, Given};
 use std::cmp::Ordering;
 use std::fmt::{Debug, Write};
-use takum::{calls, Reading, Refusal, Rule, Taking, Takum, Value, Width};
+use takum::{calls, Reading, Refusal, Rule, Taking, Takum, Value, Width, BLOCK_SIZE, BLOCK_WORDS};
 
 /// The answer by plain numbers; where the one by the types is another, the text says so.
 pub fn same<T: PartialEq + Debug>(to: &mut String, plain: T, typed: T) -> T {
@@ -25,6 +25,17 @@ fn takum(n: u32, word: u64) -> Result<Takum, Refusal> {
     let takum = Takum::new(Width::new(n)?, word)?;
     assert!(takum.width().bits() == n && takum.word() == word);
     Ok(takum)
+}
+
+pub fn constant(given: &mut Given, to: &mut String) {
+    let value = match given.part() {
+        "LEAST_WIDTH" => Width::LEAST.bits() as usize,
+        "GREATEST_WIDTH" => Width::GREATEST.bits() as usize,
+        "BLOCK_SIZE" => BLOCK_SIZE,
+        "BLOCK_WORDS" => BLOCK_WORDS,
+        name => stop("there is no such constant", name),
+    };
+    to.push_str(&value.to_string());
 }
 
 pub fn largest(given: &mut Given, to: &mut String) {

@@ -7,7 +7,8 @@ use std::io::BufRead;
 use text::{stop, Given};
 
 /// The calls by their names in a case.
-const CALLS: [(&str, fn(&mut Given, &mut String)); 15] = [
+const CALLS: [(&str, fn(&mut Given, &mut String)); 16] = [
+    ("constant", calls::constant),
     ("largest", calls::largest),
     ("smallest", calls::smallest),
     ("nar", calls::nar),
@@ -34,7 +35,8 @@ fn main() {
     let mut input = std::io::stdin().lock();
     while input.read_line(&mut line).expect("standard input gives its lines") > 0 {
         let case = line.trim_end();
-        if !case.is_empty() && !case.starts_with('#') {
+        // Rust takes the rounding mode to be the nearest, so it is left at that.
+        if !case.is_empty() && !case.starts_with('#') && !case.starts_with("rounding ") {
             let (call, expected) = case.split_once(" = ").unwrap_or_else(|| stop("it has no answer", case));
             let (name, rest) = call.split_once(' ').unwrap_or_else(|| stop("the call is given nothing", case));
             let place = CALLS.iter().position(|known| known.0 == name).unwrap_or_else(|| stop("there is no such call", case));

@@ -23,7 +23,7 @@ fn number_of(part: &str) -> u64 {
 
 impl<'a> Given<'a> {
     /// The next part, up to a space.
-    fn part(&mut self) -> &'a str {
+    pub fn part(&mut self) -> &'a str {
         let (part, rest) = self.rest.split_once(' ').unwrap_or((self.rest, ""));
         self.rest = rest;
         part
@@ -89,11 +89,28 @@ impl<'a> Given<'a> {
     }
 }
 
-/// Puts the text of an answer, or of its refusal.
+/// Paper 01's name for the refusal that the bindings give their own name.
+fn name_of(refusal: Refusal) -> &'static str {
+    match refusal {
+        Refusal::Width => "WIDTH",
+        Refusal::Stray => "STRAY",
+        Refusal::NotReal => "NAR",
+        Refusal::Inexact => "INEXACT",
+        Refusal::Over => "OVER",
+        Refusal::Room => "ROOM",
+        Refusal::Size => "SIZE",
+        Refusal::Mark => "MARK",
+        Refusal::Check => "CHECK",
+        Refusal::Count => "COUNT",
+        Refusal::Fill => "FILL",
+    }
+}
+
+/// Puts the text of an answer, or of its refusal by its number and name.
 pub fn put<T>(to: &mut String, answer: Result<T, Refusal>, text: impl FnOnce(&mut String, T) -> std::fmt::Result) {
     match answer {
         Ok(answer) => text(to, answer),
-        Err(refusal) => write!(to, "refused {}", refusal.number()),
+        Err(refusal) => write!(to, "refused {} {}", refusal.number(), name_of(refusal)),
     }
     .expect("a text takes all that is put");
 }

@@ -1,6 +1,6 @@
 -- The demands that specs/Writing.antt states, from the laws of writing. Assumes nothing.
 use mathlib.Core.Path.{_≡_, refl, sym, ap, ap₂, _∙_, subst}
-use mathlib.Core.Bool.{Bool, false, not}
+use mathlib.Core.Bool.{Bool, true, false, not}
 use mathlib.Core.List.{List, [], _∷_}
 use mathlib.Core.Logic.{inl, inr}
 use Prim.Native.Nat.{ℕ, zero, _-_, _*_, _^_, _≤_, _<_}
@@ -17,23 +17,23 @@ use Rattle.bounds.specs.Widths.{narWord, largest, smallest}
 use Rattle.word.specs.Reads.{num, IsSize, IsReading, Reads}
 use Rattle.word.specs.Orders.{negated}
 use Rattle.bounds.proofs.Answers.{GivesAWord}
+use Rattle.bounds.proofs.Powers.{twice}
 use Rattle.bounds.proofs.Verdicts.{width-fits, width-through, stray-fits, word-passes, move-passes, move-through, answered}
+use Rattle.word.proofs.Signed.{negated-other}
 use Rattle.word.proofs.Values.{grown, words-differ, no-sign}
 use Rattle.word.proofs.Words.{zeros-appended}
 use Rattle.write.specs.declared.value.Rule.{Rule}
 use Rattle.write.specs.declared.value.Value.{Value}
 use Rattle.write.specs.Writes.{Nearest, IsRounded, zero, other, IsWritten, isNegative, IsMoved, Writes, Moves}
-use Rattle.write.specs.Offers.{withSign}
 use Rattle.write.proofs.Exponents.{unit-some}
 use Rattle.write.proofs.Places.{two, wordOf, has-value, from-word}
 use Rattle.write.proofs.Rules.{zero-written, number-written}
-use Rattle.write.proofs.Signs.{signed-word}
 use Rattle.write.proofs.Rounding.{rounded-exists, rounded-one, rounded-not-zero-nor-NaR, past-the-largest, before-the-smallest, rounded-negated, exact-written, written-one}
 use Rattle.write.proofs.Order.{rounding-keeps-order}
 use Rattle.write.proofs.Moves.{Kept, moved-to-the-same, strict-keeps, there-and-back, wider-keeps}
 use Rattle.promises.specs.Refusals.{moveLines}
 use Rattle.promises.specs.Writing as promise
-use Rattle.promises.specs.Writing.{numerator, denominator, withOtherSign, Says, Chain, Goes, ComesHome}
+use Rattle.promises.specs.Writing.{numerator, denominator, withOtherSign, ofSign, Says, Chain, Goes, ComesHome}
 use Rattle.promises.proofs.Lines.{past, good-width, given-or-inexact}
 use Rattle.promises.proofs.WordRefusals.{write-follows, move-follows}
 
@@ -85,12 +85,17 @@ unfolding promise.RoundedIsNeverZeroNorNaR narWord
 rounded-is-never-zero-nor-NaR n v w lo hi some x = rounded-not-zero-nor-NaR n lo hi (v .negative) (numerator v) (denominator v) w (nearest-one v some n w lo hi x)
 
 module _ (n : ℕ) (lo : 2 ≤ n) (hi : n ≤ 64) where
+  of-sign : (s : Bool) (v : ℕ) → 0 < v → v < 2 ^ (n - 1) → wordOf n s v ≡ ofSign n s v
+  unfolding wordOf ofSign
+  of-sign false v h b = refl
+  of-sign true v h b = sym (negated-other n v h (omega (arith, b, twice n lo)))
+
   -- an answer whose word is known for the nearest one
-  end-word : (v : Value) (r : Answer) (e : ℕ) → 0 < e → e < 2 ^ (n - 1) → 0 < v .m → Writes n Rule.Rounded v r → ((w : ℕ) → Nearest n (v .negative) (numerator v) (denominator v) w → w ≡ wordOf n (v .negative) e) → r ≡ Answer.Word (withSign n (v .negative) e)
-  unfolding promise.RoundedIsTheNearest wordOf
+  end-word : (v : Value) (r : Answer) (e : ℕ) → 0 < e → e < 2 ^ (n - 1) → 0 < v .m → Writes n Rule.Rounded v r → ((w : ℕ) → Nearest n (v .negative) (numerator v) (denominator v) w → w ≡ wordOf n (v .negative) e) → r ≡ Answer.Word (ofSign n (v .negative) e)
+  unfolding promise.RoundedIsTheNearest
   end-word v r e first last some x f =
       let t = rounded-is-the-nearest n v r lo hi x in
-      t .1 ∙ ap Answer.Word (f (t .0) (nearest-one v some n (t .0) lo hi (subst (Writes n Rule.Rounded v) (t .1) x)) ∙ signed-word n lo hi (v .negative) e e first last refl)
+      t .1 ∙ ap Answer.Word (f (t .0) (nearest-one v some n (t .0) lo hi (subst (Writes n Rule.Rounded v) (t .1) x)) ∙ of-sign (v .negative) e first last)
 
 pub past-the-largest-word : promise.PastTheLargest
 unfolding promise.PastTheLargest largest wordOf

@@ -1,6 +1,6 @@
 -- What the letter demands of writing and of moves, as statements about what the public contracts allow.
 use mathlib.Core.Path.{_≡_}
-use mathlib.Core.Bool.{false, not}
+use mathlib.Core.Bool.{Bool, false, not, cond}
 use mathlib.Core.List.{List, [], _∷_}
 use mathlib.Core.Logic.{_⊎_}
 use Prim.Native.Nat.{ℕ, _+_, _*_, _^_, _≤_, _<_}
@@ -16,7 +16,6 @@ use Rattle.word.specs.Orders.{signed, order, negated}
 use Rattle.write.specs.declared.value.Rule.{Rule}
 use Rattle.write.specs.declared.value.Value.{Value}
 use Rattle.write.specs.Writes.{HasValue, AtMost, IsRounded, IsExact, Writes, Moves}
-use Rattle.write.specs.Offers.{withSign}
 use Rattle.promises.specs.Demands.{RefusedAs}
 
 -- the size of an offered value as a fraction, counted in 2^-307
@@ -43,12 +42,16 @@ OneRoundedWord = (n : ℕ) (v : Value) → 2 ≤ n → n ≤ 64 → (w : ℕ) ×
 unfoldable pub RoundedIsNeverZeroNorNaR : Type 0
 RoundedIsNeverZeroNorNaR = (n : ℕ) (v : Value) (w : ℕ) → 2 ≤ n → n ≤ 64 → 0 < v .m → Writes n Rule.Rounded v (Answer.Word w) → (w ≡ 0 → ⊥) × (w ≡ narWord n → ⊥)
 
+-- the positive word w for a positive value, and its negation for a negative one
+unfoldable pub ofSign : ℕ → Bool → ℕ → ℕ
+ofSign n negative w = cond negative (negated n w) w
+
 -- at and past either end the end word of the sign: the largest and the smallest positive word have a size z, and every value from there on is written so
 unfoldable pub PastTheLargest : Type 0
-PastTheLargest = (n : ℕ) → 2 ≤ n → n ≤ 64 → (z : ℕ) × HasValue n false z (largest n) × ((v : Value) (r : Answer) → 0 < v .m → z * denominator v ≤ numerator v → Writes n Rule.Rounded v r → r ≡ Answer.Word (withSign n (v .negative) (largest n)))
+PastTheLargest = (n : ℕ) → 2 ≤ n → n ≤ 64 → (z : ℕ) × HasValue n false z (largest n) × ((v : Value) (r : Answer) → 0 < v .m → z * denominator v ≤ numerator v → Writes n Rule.Rounded v r → r ≡ Answer.Word (ofSign n (v .negative) (largest n)))
 
 unfoldable pub BeforeTheSmallest : Type 0
-BeforeTheSmallest = (n : ℕ) → 2 ≤ n → n ≤ 64 → (z : ℕ) × HasValue n false z (smallest n) × ((v : Value) (r : Answer) → 0 < v .m → numerator v ≤ z * denominator v → Writes n Rule.Rounded v r → r ≡ Answer.Word (withSign n (v .negative) (smallest n)))
+BeforeTheSmallest = (n : ℕ) → 2 ≤ n → n ≤ 64 → (z : ℕ) × HasValue n false z (smallest n) × ((v : Value) (r : Answer) → 0 < v .m → numerator v ≤ z * denominator v → Writes n Rule.Rounded v r → r ≡ Answer.Word (ofSign n (v .negative) (smallest n)))
 
 -- at width 2 every positive value is written as the word 1
 unfoldable pub AtWidth2EveryPositiveValueIsWrittenAs1 : Type 0

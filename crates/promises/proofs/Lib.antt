@@ -11,4 +11,5 @@ pub mod SliceRefusals
 pub mod Slices
 pub mod Tests
 pub mod WordRefusals
+pub mod Words
 pub mod Writing

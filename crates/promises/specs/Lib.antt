@@ -4,4 +4,5 @@ pub mod Figures
 pub mod Numbers
 pub mod Refusals
 pub mod Slices
+pub mod Words
 pub mod Writing

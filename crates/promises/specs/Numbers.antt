@@ -50,6 +50,20 @@ NoOddNumberPastTheLimitIsWritten = (n l : ℕ) (x : ℤ) (r : Answer) → GivesL
 unfoldable pub NoOddNumberPastTheLimitComesBack : Type 0
 NoOddNumberPastTheLimitComesBack = (n l w : ℕ) (x : ℤ) → GivesLimit n (Limit.Count l) → l < natAbs x → TakesWhole n Taking.Strict w (Whole.Is x) → natAbs x % 2 ≡ 0
 
+-- From width 5 up, a whole number that is at least the limit, written rounded, is an even whole number, and at least the limit too.
+unfoldable pub FromTheLimitOnRoundedIsEven : Type 0
+FromTheLimitOnRoundedIsEven = (n l w : ℕ) (x : ℤ) → 5 ≤ n → GivesLimit n (Limit.Count l) → l ≤ natAbs x → WritesWhole n Rule.Rounded x (Answer.Word w) → (y : ℤ) × IsWhole n y w × (natAbs y % 2 ≡ 0) × (l ≤ natAbs y)
+
+-- So an odd one past the limit comes back even, by either way of taking, and not as itself.
+unfoldable pub NoOddNumberPastTheLimitComesBackOdd : Type 0
+NoOddNumberPastTheLimitComesBackOdd = (n l w : ℕ) (x y : ℤ) (taking : Taking) → 5 ≤ n → GivesLimit n (Limit.Count l) → natAbs x % 2 ≡ 1 → l < natAbs x → WritesWhole n Rule.Rounded x (Answer.Word w) → TakesWhole n taking w (Whole.Is y)
+    → (natAbs y % 2 ≡ 0) × (y ≡ x → ⊥)
+
+-- At widths 2 to 4 this is false: the limit is 1, and 3 is written rounded and comes back as 1.
+unfoldable pub UpTo4ThreeComesBackAsOne : Type 0
+UpTo4ThreeComesBackAsOne = (n : ℕ) → 2 ≤ n → n ≤ 4
+    → ((a : Limit) → GivesLimit n a → a ≡ Limit.Count 1) × ((r : Answer) → WritesWhole n Rule.Rounded (pos 3) r → (w : ℕ) × (r ≡ Answer.Word w) × ((taking : Taking) (a : Whole) → TakesWhole n taking w a → a ≡ Whole.Is (pos 1)))
+
 -- at width 16 the limit is 512
 unfoldable pub At16TheLimitIs512 : Type 0
 At16TheLimitIs512 = (a : Limit) → GivesLimit 16 a → a ≡ Limit.Count 512

@@ -5,6 +5,8 @@ pub mod Fractions
 pub mod InAndOut
 pub mod LimitBeyond
 pub mod LimitBinades
+pub mod LimitEvens
+pub mod LimitRounded
 pub mod LimitStrings
 pub mod LimitWords
 pub mod LimitWriting

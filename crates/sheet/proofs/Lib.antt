@@ -9,6 +9,7 @@ pub mod Sizes
 pub mod OneOutcome
 pub mod Totals
 pub mod Changes
+pub mod OneNumber
 pub mod Results
 pub mod Rooms
 pub mod Case

@@ -15,6 +15,7 @@ use Rattle.bounds.specs.declared.width.Limit.{Limit}
 use Rattle.bounds.specs.declared.refusal.Verdict.{Verdict}
 use Rattle.bounds.specs.Refusals.{widthTest, through, refused}
 use Rattle.bounds.specs.Widths.{narWord, IsLimit, GivesLimit}
+use Rattle.bounds.proofs.Consecutive.{rule-gives-inequality, inequality-gives-rule, greatest-of-inequality}
 use Rattle.bounds.proofs.Verdicts.{width-fits, width-through, word-passes, answered}
 use Rattle.write.specs.declared.value.Rule.{Rule}
 use Rattle.write.specs.Writes.{HasValue, IsRounded, IsWritten, isNegative}
@@ -94,6 +95,18 @@ unfolding promise.TheLimitPlusOneIsRefused IsWhole TheLimitPlusOneHasNoWord
 the-limit-plus-one-is-refused n l x r g q y =
     let k = known n l g in
     no-word n x r (k .lo) (k .hi) (λ w z. the-limit-plus-one-has-no-word n l (k .lo) (k .hi) (k .limit) (isNegative x) w (subst (λ (i : ℕ). HasValue n (isNegative x) (i * 2 ^ 307) w) q z)) y
+
+-- ---- document 004, Proposition 5
+pub proposition-five-says-the-same : promise.PropositionFiveSaysTheSame
+unfolding promise.PropositionFiveSaysTheSame
+proposition-five-says-the-same n v five some = (rule-gives-inequality n v, inequality-gives-rule n v some)
+
+pub the-limit-is-that-of-proposition-five : promise.TheLimitIsThatOfPropositionFive
+unfolding promise.TheLimitIsThatOfPropositionFive
+the-limit-is-that-of-proposition-five n l five g =
+    let limit = known n l g .limit in
+    let t = greatest-of-inequality n (limit .is) in
+    (limit .v, limit .limit, t .holds, t .most)
 
 -- ---- the line in the ledger
 pub no-odd-number-past-the-limit-is-written : promise.NoOddNumberPastTheLimitIsWritten

@@ -1,7 +1,7 @@
 -- What the letter demands of whole numbers, and what is promised of binary64, as statements about what the public contracts allow.
 use mathlib.Core.Path.{_≡_}
 use mathlib.Core.Bool.{Bool, false}
-use Prim.Native.Nat.{ℕ, _+_, _*_, _%_, _^_, _≤_, _<_}
+use Prim.Native.Nat.{ℕ, _+_, _-_, _*_, _%_, _^_, _≤_, _<_}
 use lib.Dec.{T}
 use lib.IntN.{ℤ, pos, negsuc, natAbs}
 use lib.Ieee.{Float, nan, inf, fin, neg, lt, le}
@@ -11,7 +11,7 @@ use Rattle.bounds.specs.declared.refusal.Verdict.{Verdict}
 use Rattle.bounds.specs.declared.width.Limit.{Limit}
 use Rattle.word.specs.Takum.{real, takum}
 use Rattle.bounds.specs.Refusals.{IsWord}
-use Rattle.bounds.specs.Widths.{narWord, GivesLimit}
+use Rattle.bounds.specs.Widths.{narWord, Within, GivesLimit}
 use Rattle.word.specs.Orders.{signed, order, negated}
 use Rattle.write.specs.declared.value.Rule.{Rule}
 use Rattle.write.specs.Writes.{HasValue, isNegative}
@@ -40,6 +40,15 @@ TheLimitPlusOneIsRefused = (n l : ℕ) (x : ℤ) (r : Answer) → GivesLimit n (
 -- and any whole number is refused as INEXACT exactly when it has no word
 unfoldable pub AWholeNumberIsRefusedExactlyWhereItHasNoWord : Type 0
 AWholeNumberIsRefusedExactlyWhereItHasNoWord = (n : ℕ) (x : ℤ) (r : Answer) → 2 ≤ n → n ≤ 64 → WritesWhole n Rule.Strict x r → GivenOrInexact (IsWhole n x) r
+
+-- ---- document 004, Proposition 5, which is stated from width 5 up
+-- its inequality, v * 2^v < 2^(n - 3), holds of the same numbers v from 1 on as paper 01's rule, v + floor(log2 v) <= n - 4
+unfoldable pub PropositionFiveSaysTheSame : Type 0
+PropositionFiveSaysTheSame = (n v : ℕ) → 5 ≤ n → 1 ≤ v → (Within n v → v * 2 ^ v < 2 ^ (n - 3)) × (v * 2 ^ v < 2 ^ (n - 3) → Within n v)
+
+-- so the limit is 2^v with the greatest v of that inequality
+unfoldable pub TheLimitIsThatOfPropositionFive : Type 0
+TheLimitIsThatOfPropositionFive = (n l : ℕ) → 5 ≤ n → GivesLimit n (Limit.Count l) → (v : ℕ) × (l ≡ 2 ^ v) × (v * 2 ^ v < 2 ^ (n - 3)) × ((u : ℕ) → u * 2 ^ u < 2 ^ (n - 3) → u ≤ v)
 
 -- ---- the line in the ledger
 -- past the limit an odd whole number, of either sign, has no word, and strict writing refuses it

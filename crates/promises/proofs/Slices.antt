@@ -2,10 +2,10 @@
 use mathlib.Core.Path.{_≡_, refl, sym, ap, _∙_, subst}
 use mathlib.Core.List.{List}
 use mathlib.Core.Logic.{_⊎_, inl, inr}
-use Prim.Native.Nat.{ℕ, _*_, _<_}
+use Prim.Native.Nat.{ℕ}
 use native.Mathlib.Decide.{ℕ-discrete}
 use native.Mathlib.Omega.{arith}
-use lib.ListN.{length, getD, length-append, length-drop}
+use lib.ListN.{length, length-append, length-drop}
 use Rattle.bounds.specs.declared.refusal.Refusal.{Refusal}
 use Rattle.bounds.specs.Refusals.{through, refused}
 use Rattle.bounds.proofs.Verdicts.{refused-as}
@@ -14,17 +14,14 @@ use Rattle.column.specs.Columns.{Holds}
 use Rattle.column.proofs.Positions.{every-word-counted, word-at, others-unchanged, first, none-refused-before}
 use Rattle.column.proofs.Strict.{strict-column-keeps}
 use Rattle.sheet.specs.declared.block.Block.{Block}
-use Rattle.sheet.specs.Layout.{numberAt, mark, numbers}
+use Rattle.sheet.specs.Layout.{mark}
 use Rattle.sheet.specs.Reads.{ReadsBlock, FillsResults}
 use Rattle.sheet.proofs.Passing.{passes, was-read, other-mark, other-A}
 use Rattle.sheet.proofs.Results.{words-length, holds, result-at, result-kept, result-is-word}
-use Rattle.sheet.specs.Changes.{ChangedWithin}
-use Rattle.sheet.proofs.Packing.{numbers-at}
-use Rattle.sheet.proofs.Changes.{same-A, same-B, others, number-differs, sum-differs}
-use Rattle.sheet.proofs.OneNumber.{byte-differs, outside}
+use Rattle.sheet.proofs.Changes.{same-A, same-B, others, differs, sum-differs}
+use Rattle.sheet.proofs.OneNumber.{changed-within}
 use Rattle.promises.specs.Demands.{RefusedAs, ReadingIsTheDefinition}
 use Rattle.promises.specs.Slices as promise
-use Rattle.promises.specs.Slices.{OneNumberDiffers}
 use Rattle.promises.proofs.Demands.{reading-is-the-definition}
 
 pub a-refused-column-writes-nothing : promise.ARefusedColumnWritesNothing
@@ -63,34 +60,10 @@ the-remainder-is-kept block before after w i n r f = (results-length block befor
 
 pub a-change-in-one-number-is-a-change-of-its-bytes : promise.AChangeInOneNumberIsAChangeOfItsBytes
 unfolding promise.AChangeInOneNumberIsAChangeOfItsBytes
-a-change-in-one-number-is-a-change-of-its-bytes i old new bo bn bytes = (numbers-changed, bytes-changed)
-  where
-    at : (block : List ℕ) → i < 126 → getD (numbers block) i 0 ≡ numberAt 4 (4 * i) block
-    at block h = numbers-at block i h
-
-    numbers-changed : ChangedWithin i old new → OneNumberDiffers i old new
-    numbers-changed c =
-        record {
-          one-of-126 = c .one-of-126;
-          size = c .size;
-          others = others i old new c;
-          differs = λ q. number-differs i old new c bo bn (sym (at new (c .one-of-126)) ∙ q ∙ at old (c .one-of-126));
-          same-A = same-A i old new c;
-          same-B = same-B i old new c;
-        }
-
-    bytes-changed : OneNumberDiffers i old new → ChangedWithin i old new
-    bytes-changed d =
-        let t = byte-differs 4 (4 * i) new old (λ q. d .differs (at new (d .one-of-126) ∙ q ∙ sym (at old (d .one-of-126)))) in
-        record {
-          one-of-126 = d .one-of-126;
-          size = d .size;
-          outside = outside i old new bo bn bytes (d .size) (d .others) (d .same-A) (d .same-B);
-          j = t .0;
-          from = t .1;
-          to = t .2;
-          differs = t .3;
-        }
+a-change-in-one-number-is-a-change-of-its-bytes i old new bo bn bytes = (
+  λ c. record { one-of-126 = c .one-of-126; size = c .size; others = others i old new c; differs = differs i old new c bo bn; same-A = same-A i old new c; same-B = same-B i old new c },
+  λ d. changed-within i old new bo bn bytes (d .size) (d .others) (d .same-A) (d .same-B) (d .one-of-126) (d .differs),
+)
 
 pub a-change-in-one-number-is-noticed : promise.AChangeInOneNumberIsNoticed
 unfolding promise.AChangeInOneNumberIsNoticed ReadsBlock

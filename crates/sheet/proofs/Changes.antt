@@ -45,8 +45,11 @@ module _ (i : ℕ) (old new : List ℕ) (c : ChangedWithin i old new) where
 
   module _ (bo : AreBytes old) (bn : AreBytes new) where
     -- number i isn't
-    pub number-differs : numberAt 4 (4 * i) new ≡ numberAt 4 (4 * i) old → ⊥
+    number-differs : numberAt 4 (4 * i) new ≡ numberAt 4 (4 * i) old → ⊥
     number-differs e = c .differs (bytes-same 4 (4 * i) new old bn bo e (c .j) (c .from) (c .to))
+
+    pub differs : getD (numbers new) i 0 ≡ getD (numbers old) i 0 → ⊥
+    differs e = number-differs (sym (numbers-at new i (c .one-of-126)) ∙ e ∙ numbers-at old i (c .one-of-126))
 
     -- so A isn't the sum any more
     pub sum-differs : sumA (numbers old) ≡ A old → sumA (numbers new) ≡ A new → ⊥

@@ -9,14 +9,15 @@ use native.Mathlib.Omega.{arith}
 use lib.ListN.{length, getD, List·getD-eq-default}
 use Rattle.bounds.proofs.Powers.{not-more}
 use Rattle.sheet.specs.Layout.{AreBytes, number, numberAt, numbers, A, B}
+use Rattle.sheet.specs.Changes.{ChangedWithin}
 use Rattle.sheet.proofs.LittleEndian.{numberAt-suc, bytes-same}
 use Rattle.sheet.proofs.Packing.{numbers-at}
 
 -- numbers that differ have a byte that differs
-abbrev pub Differing : ℕ → ℕ → List ℕ → List ℕ → Type 0
+abbrev Differing : ℕ → ℕ → List ℕ → List ℕ → Type 0
 Differing k i xs ys = (j : ℕ) × (i ≤ j) × (j < i + k) × (getD xs j 0 ≡ getD ys j 0 → ⊥)
 
-pub byte-differs : (k i : ℕ) (xs ys : List ℕ) → (numberAt k i xs ≡ numberAt k i ys → ⊥) → Differing k i xs ys
+byte-differs : (k i : ℕ) (xs ys : List ℕ) → (numberAt k i xs ≡ numberAt k i ys → ⊥) → Differing k i xs ys
 unfolding numberAt number
 byte-differs zero i xs ys f = absurd (f refl)
 byte-differs (suc k) i xs ys f = by (ℕ-discrete (getD xs i 0) (getD ys i 0)) (byte-differs k (suc i) xs ys)
@@ -35,7 +36,7 @@ module _ (i : ℕ) (old new : List ℕ) (bo : AreBytes old) (bn : AreBytes new) 
       other q (inl l) = omega (arith, q, l)
       other q (inr l) = omega (arith, q, l)
 
-  pub outside : (j : ℕ) → (j < 4 * i) ⊎ (4 * i + 4 ≤ j) → getD new j 0 ≡ getD old j 0
+  outside : (j : ℕ) → (j < 4 * i) ⊎ (4 * i + 4 ≤ j) → getD new j 0 ≡ getD old j 0
   unfolding A B
   outside j o = by (decLt j 504) (decLt j 508) (decLt j 512)
     where
@@ -44,3 +45,8 @@ module _ (i : ℕ) (old new : List ℕ) (bo : AreBytes old) (bn : AreBytes new) 
       by (no f) (yes h) e = bytes-same 4 504 new old bn bo same-A j (not-more f) h
       by (no f) (no g) (yes h) = bytes-same 4 508 new old bn bo same-B j (not-more g) h
       by (no f) (no g) (no h) = List·getD-eq-default new 0 (omega (arith, not-more h, size, bytes)) ∙ sym (List·getD-eq-default old 0 (omega (arith, not-more h, bytes)))
+
+  pub changed-within : i < 126 → (getD (numbers new) i 0 ≡ getD (numbers old) i 0 → ⊥) → ChangedWithin i old new
+  changed-within one-of-126 differs =
+      let t = byte-differs 4 (4 * i) new old (λ q. differs (numbers-at new i one-of-126 ∙ q ∙ sym (numbers-at old i one-of-126))) in
+      record { one-of-126 = one-of-126; size = size; outside = outside; j = t .0; from = t .1; to = t .2; differs = t .3 }

@@ -1,7 +1,7 @@
 -- Two blocks whose numbers, A and B are the same but for number i have the same bytes but for the four of number i, of which one at least isn't. Assumes nothing.
 use mathlib.Core.Path.{_≡_, refl, sym, ap₂, _∙_}
 use mathlib.Core.List.{List}
-use mathlib.Core.Logic.{_⊎_, inl, inr}
+use mathlib.Core.Logic.{⊎-elim}
 use Prim.Native.Nat.{ℕ, zero, suc, _+_, _*_, _/_, _≤_, _<_}
 use native.Mathlib.Decide.{decLt, ℕ-discrete}
 use native.Mathlib.Nat.{le-refl}
@@ -29,19 +29,15 @@ byte-differs (suc k) i xs ys f = by (ℕ-discrete (getD xs i 0) (getD ys i 0)) (
 
 module _ (i : ℕ) (old new : List ℕ) (bo : AreBytes old) (bn : AreBytes new) (bytes : length old ≡ 512) (size : length new ≡ length old) (others : (j : ℕ) → (j ≡ i → ⊥) → getD (numbers new) j 0 ≡ getD (numbers old) j 0) (same-A : A new ≡ A old) (same-B : B new ≡ B old) where
   -- the bytes of another number, of A and of B, and past the end
-  of-number : (j : ℕ) → j < 504 → (j < 4 * i) ⊎ (4 * i + 4 ≤ j) → getD new j 0 ≡ getD old j 0
-  of-number j h o = bytes-same 4 (4 * (j / 4)) new old bn bo (sym (numbers-at new (j / 4) (omega (arith, h))) ∙ others (j / 4) (λ q. other q o) ∙ numbers-at old (j / 4) (omega (arith, h))) j (omega arith) (omega arith)
-    where
-      other : j / 4 ≡ i → (j < 4 * i) ⊎ (4 * i + 4 ≤ j) → ⊥
-      other q (inl l) = omega (arith, q, l)
-      other q (inr l) = omega (arith, q, l)
+  of-number : (j : ℕ) → j < 504 → (j / 4 ≡ i → ⊥) → getD new j 0 ≡ getD old j 0
+  of-number j h other = bytes-same 4 (4 * (j / 4)) new old bn bo (sym (numbers-at new (j / 4) (omega (arith, h))) ∙ others (j / 4) other ∙ numbers-at old (j / 4) (omega (arith, h))) j (omega arith) (omega arith)
 
-  outside : (j : ℕ) → (j < 4 * i) ⊎ (4 * i + 4 ≤ j) → getD new j 0 ≡ getD old j 0
+  elsewhere : (j : ℕ) → (j / 4 ≡ i → ⊥) → getD new j 0 ≡ getD old j 0
   unfolding A B
-  outside j o = by (decLt j 504) (decLt j 508) (decLt j 512)
+  elsewhere j other = by (decLt j 504) (decLt j 508) (decLt j 512)
     where
       by : Dec (j < 504) → Dec (j < 508) → Dec (j < 512) → getD new j 0 ≡ getD old j 0
-      by (yes h) d e = of-number j h o
+      by (yes h) d e = of-number j h other
       by (no f) (yes h) e = bytes-same 4 504 new old bn bo same-A j (not-more f) h
       by (no f) (no g) (yes h) = bytes-same 4 508 new old bn bo same-B j (not-more g) h
       by (no f) (no g) (no h) = List·getD-eq-default new 0 (omega (arith, not-more h, size, bytes)) ∙ sym (List·getD-eq-default old 0 (omega (arith, not-more h, bytes)))
@@ -49,4 +45,12 @@ module _ (i : ℕ) (old new : List ℕ) (bo : AreBytes old) (bn : AreBytes new) 
   pub changed-within : i < 126 → (getD (numbers new) i 0 ≡ getD (numbers old) i 0 → ⊥) → ChangedWithin i old new
   changed-within one-of-126 differs =
       let t = byte-differs 4 (4 * i) new old (λ q. differs (numbers-at new i one-of-126 ∙ q ∙ sym (numbers-at old i one-of-126))) in
-      record { one-of-126 = one-of-126; size = size; outside = outside; j = t .0; from = t .1; to = t .2; differs = t .3 }
+      record {
+        one-of-126 = one-of-126;
+        size = size;
+        outside = λ j o. elsewhere j (λ q. ⊎-elim (λ l. omega (arith, q, l)) (λ l. omega (arith, q, l)) o);
+        j = t .0;
+        from = t .1;
+        to = t .2;
+        differs = t .3;
+      }

@@ -1,4 +1,5 @@
--- The laws of widths and verdicts, one idea a file, in reading order. Answers is for the crates that stand on this one; nothing here uses it.
+-- The laws of widths and verdicts, one idea a file, in reading order. Answers and Consecutive are for the crates that stand on
+-- this one; nothing here uses them.
 
 -- powers of two by the sum of their exponents
 pub mod Powers
@@ -8,3 +9,5 @@ pub mod Verdicts
 pub mod Limits
 -- an answer is a word or a refusal, and not both
 pub mod Answers
+-- Proposition 5 of document 004 and the rule of paper 01 say the same
+pub mod Consecutive

@@ -15,7 +15,7 @@ below-power zero = lit< tt
 below-power (suc k) = omega (arith, below-power k, two-pow-succ k)
 
 -- every number but 0 has its logarithm
-log : (a : ℕ) → zero < a → (L : ℕ) × (2 ^ L ≤ a) × (a < 2 ^ suc L)
+pub log : (a : ℕ) → zero < a → (L : ℕ) × (2 ^ L ≤ a) × (a < 2 ^ suc L)
 log a h = let t = leading-top a a h (below-power a) in (t .0, t .2, t .3)
 
 -- a smaller power has the smaller exponent

@@ -1,4 +1,4 @@
--- What the crate's trial of one word answers.
+-- Serves private functions only: what the crate's trial of one word answers.
 use Prim.Native.Nat.{ℕ}
 use Rattle.bounds.specs.declared.answer.Answer.{Answer}
 use Rattle.bounds.specs.declared.refusal.Verdict.{Verdict}

@@ -14,9 +14,10 @@ use Rattle.word.specs.Reads.{num, den, IsSize, signedSize}
 use Rattle.word.proofs.Heads.{both}
 use Rattle.bounds.proofs.Verdicts.{width-fits, answered}
 use Rattle.write.specs.declared.value.Rule.{Rule}
-use Rattle.write.specs.Writes.{HasValue, other, IsWritten, Writes}
+use Rattle.write.specs.Writes.{HasValue, other, IsWritten, isNegative, Writes}
 use Rattle.write.proofs.Rounding.{tie-nearest, none-between, written-one}
-use Rattle.promises.specs.Figures.{Said, plus, minus, nar, IsSaid, Figure, reads, writes, refuses, whole, below, figures, FigureHolds, AllHold}
+use Rattle.whole.specs.Wholes.{WritesWhole}
+use Rattle.promises.specs.Figures.{Said, plus, minus, nar, IsSaid, Figure, reads, writes, refuses, writesWhole, refusesWhole, whole, below, figures, FigureHolds, AllHold}
 use Rattle.promises.specs.Demands.{RefusedAs, ReadingIsTheDefinition}
 use Rattle.promises.specs.Writing.{numerator, denominator, AWordsValueIsWrittenAsTheWord}
 use Rattle.promises.proofs.Tests.{same, same-is, is-word, word-is, has, has-is}
@@ -70,11 +71,20 @@ apart : ℕ → Rule → ℕ → ℕ → ℕ → ℕ → ℕ → Bool
 apart n Rule.Rounded M number v z z' = false
 apart n Rule.Strict M number v z z' = neighbours n M v z z' && ((ltb z (scaled M) && ltb (scaled M) z') && eqb number 4)
 
+-- what is written for the number, and what is refused, v being the last word at or below it
+given : ℕ → Rule → ℕ → ℕ → ℕ → Bool
+given n rule M w v = exactly n M w v || midway n rule M w v (size-of (takum n v)) (size-of (takum n (suc v)))
+
+not-given : ℕ → Rule → ℕ → ℕ → ℕ → Bool
+not-given n rule M number v = apart n rule M number v (size-of (takum n v)) (size-of (takum n (suc v)))
+
 -- ---- the test of one figure and of a list of them
 passes : Figure → Bool
 passes (reads n w x) = is-word n w && said x (takum n w)
-passes (writes n rule M w) = let v = low-word n M in exactly n M w v || midway n rule M w v (size-of (takum n v)) (size-of (takum n (suc v)))
-passes (refuses n rule M number) = let v = low-word n M in apart n rule M number v (size-of (takum n v)) (size-of (takum n (suc v)))
+passes (writes n rule M w) = given n rule M w (low-word n M)
+passes (refuses n rule M number) = not-given n rule M number (low-word n M)
+passes (writesWhole n rule M w) = given n rule M w (low-word n M)
+passes (refusesWhole n rule M number) = not-given n rule M number (low-word n M)
 
 all-pass : List Figure → Bool
 all-pass [] = true
@@ -138,17 +148,28 @@ apart-holds n Rule.Strict M number v z z' t = λ a x.
       known = sym (eqb→eq number 4 (w .1));
     }
 
+given-holds : (n : ℕ) (rule : Rule) (M w v : ℕ) → T (given n rule M w v) → (a : Answer) → Writes n rule (whole M) a → a ≡ Answer.Word w
+unfolding given
+given-holds n rule M w v ok = ⊎-elim (exactly-holds n rule M w v) (midway-holds n rule M w v (size-of (takum n v)) (size-of (takum n (suc v)))) (either (exactly n M w v) (midway n rule M w v (size-of (takum n v)) (size-of (takum n (suc v)))) ok)
+
+not-given-holds : (n : ℕ) (rule : Rule) (M number v : ℕ) → T (not-given n rule M number v) → (a : Answer) → Writes n rule (whole M) a → RefusedAs Answer Answer.Refused number a
+unfolding not-given
+not-given-holds n rule M number v ok = apart-holds n rule M number v (size-of (takum n v)) (size-of (takum n (suc v))) ok
+
+-- a whole number is offered as the value is
+as-value : (n : ℕ) (rule : Rule) (M : ℕ) (a : Answer) → WritesWhole n rule (pos M) a → Writes n rule (whole M) a
+unfolding WritesWhole Writes whole isNegative num den
+as-value n rule M a x = x
+
 holds : (f : Figure) → T (passes f) → FigureHolds f
 unfolding passes FigureHolds ReadingIsTheDefinition
 holds (reads n w x) ok = λ a h.
     let y = both (is-word n w) (said x (takum n w)) ok in
     (takum n w, said-is x (takum n w) (y .1), reading-is-the-definition n w a (word-is n w (y .0)) h)
-holds (writes n rule M w) ok =
-    let v = low-word n M in
-    ⊎-elim (exactly-holds n rule M w v) (midway-holds n rule M w v (size-of (takum n v)) (size-of (takum n (suc v)))) (either (exactly n M w v) (midway n rule M w v (size-of (takum n v)) (size-of (takum n (suc v)))) ok)
-holds (refuses n rule M number) ok =
-    let v = low-word n M in
-    apart-holds n rule M number v (size-of (takum n v)) (size-of (takum n (suc v))) ok
+holds (writes n rule M w) ok = given-holds n rule M w (low-word n M) ok
+holds (refuses n rule M number) ok = not-given-holds n rule M number (low-word n M) ok
+holds (writesWhole n rule M w) ok = λ a x. given-holds n rule M w (low-word n M) ok a (as-value n rule M a x)
+holds (refusesWhole n rule M number) ok = λ a x. not-given-holds n rule M number (low-word n M) ok a (as-value n rule M a x)
 
 all-hold : (fs : List Figure) → T (all-pass fs) → AllHold fs
 unfolding all-pass AllHold
@@ -156,5 +177,5 @@ all-hold [] t = tt
 all-hold (f ∷ fs) t = let x = both (passes f) (all-pass fs) t in (holds f (x .0), all-hold fs (x .1))
 
 pub figures-hold : AllHold figures
-unfolding figures below said num den signedSize power same is-word passes all-pass regimeOf characteristicOf S D R r p C F c e value meaning N padded takum exactly has low-word last-below size-of scaled midway apart neighbours
+unfolding figures below said num den signedSize power same is-word passes all-pass regimeOf characteristicOf S D R r p C F c e value meaning N padded takum exactly has low-word last-below size-of scaled midway apart neighbours given not-given
 figures-hold = all-hold figures tt

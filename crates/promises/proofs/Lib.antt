@@ -5,6 +5,7 @@ pub mod FaceOutcomes
 pub mod Figures
 pub mod Letter
 pub mod Lines
+pub mod Narrow
 pub mod Numbers
 pub mod OneOutcome
 pub mod Refusals
@@ -12,4 +13,5 @@ pub mod SliceRefusals
 pub mod Slices
 pub mod Tests
 pub mod WordRefusals
+pub mod Words
 pub mod Writing

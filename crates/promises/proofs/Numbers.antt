@@ -1,27 +1,33 @@
 -- The promises that specs/Numbers.antt states, from the laws of whole numbers and of binary64. Assumes nothing.
 use mathlib.Core.Path.{_≡_, refl, sym, ap, subst}
+use mathlib.Core.Bool.{false}
 use mathlib.Core.Logic.{_⊎_, ⊎-elim}
 use Prim.Native.Nat.{ℕ, _*_, _%_, _^_, _≤_}
-use native.Mathlib.Nat.{zero-lt-suc}
+use native.Mathlib.Nat.{zero-lt-suc, le-of-lt}
 use native.Mathlib.Omega.{arith}
-use lib.IntN.{ℤ, natAbs}
+use lib.IntN.{ℤ, pos, natAbs}
 use lib.Ieee.{Float, neg, round, binary64}
 use Rattle.bounds.specs.declared.answer.Answer.{Answer}
 use Rattle.word.specs.Takum.{Takum, real, NaR, takum}
 use Rattle.word.proofs.Values.{NaR-word}
 use Rattle.word.specs.Orders.{negated}
 use Rattle.bounds.specs.declared.width.Limit.{Limit}
-use Rattle.bounds.specs.Refusals.{through, refused}
+use Rattle.bounds.specs.declared.refusal.Verdict.{Verdict}
+use Rattle.bounds.specs.Refusals.{widthTest, through, refused}
 use Rattle.bounds.specs.Widths.{narWord, IsLimit, GivesLimit}
+use Rattle.bounds.proofs.Consecutive.{rule-gives-inequality, inequality-gives-rule, greatest-of-inequality}
 use Rattle.bounds.proofs.Verdicts.{width-fits, width-through, word-passes, answered}
 use Rattle.write.specs.declared.value.Rule.{Rule}
-use Rattle.write.specs.Writes.{HasValue, isNegative}
-use Rattle.whole.specs.Wholes.{WritesWhole}
+use Rattle.write.specs.Writes.{HasValue, IsRounded, IsWritten, isNegative}
+use Rattle.whole.specs.declared.taking.Taking.{Taking}
+use Rattle.whole.specs.declared.taking.Whole.{Whole}
+use Rattle.whole.specs.Wholes.{overTest, WritesWhole, TakesWhole}
 use Rattle.whole.specs.Limits.{TheLimitPlusOneHasNoWord}
 use Rattle.whole.proofs.LimitWords.{the-limit-plus-one-has-no-word, no-odd-number-past-the-limit-has-a-word}
+use Rattle.whole.proofs.LimitRounded.{rounded-to-even}
 use Rattle.whole.proofs.LimitWriting.{strict-writing-up-to-the-limit-is-never-refused}
 use Rattle.whole.proofs.WholeValues.{valueOf}
-use Rattle.whole.proofs.InAndOut.{strictly-written, strictly-taken, whole-comes-back, word-comes-back}
+use Rattle.whole.proofs.InAndOut.{strictly-written, strictly-taken, taken-as-written, written-comes-back, whole-comes-back, word-comes-back}
 use Rattle.whole.proofs.Order.{taking-keeps-order}
 use Rattle.binary64.specs.declared.taking.Binary64.{Binary64}
 use Rattle.binary64.specs.Takes.{IsTaken, TakesBinary64}
@@ -35,6 +41,7 @@ use Rattle.binary64.proofs.Written.{value-written}
 use Rattle.binary64.proofs.OneOutcome.{writes-binary64-one, takes-binary64-one}
 use Rattle.promises.proofs.Evens.{limit-of-16, even-at-16}
 use Rattle.promises.proofs.Lines.{past, good-width, given-or-inexact}
+use Rattle.promises.proofs.Narrow.{limit-up-to-4, three-is-rounded-to-one}
 use Rattle.promises.proofs.OneOutcome.{gives-limit-one}
 use Rattle.promises.proofs.WordRefusals.{write-whole-follows}
 use Rattle.promises.specs.Demands.{RefusedAs}
@@ -89,6 +96,18 @@ the-limit-plus-one-is-refused n l x r g q y =
     let k = known n l g in
     no-word n x r (k .lo) (k .hi) (λ w z. the-limit-plus-one-has-no-word n l (k .lo) (k .hi) (k .limit) (isNegative x) w (subst (λ (i : ℕ). HasValue n (isNegative x) (i * 2 ^ 307) w) q z)) y
 
+-- ---- document 004, Proposition 5
+pub proposition-five-says-the-same : promise.PropositionFiveSaysTheSame
+unfolding promise.PropositionFiveSaysTheSame
+proposition-five-says-the-same n v five some = (rule-gives-inequality n v, inequality-gives-rule n v some)
+
+pub the-limit-is-that-of-proposition-five : promise.TheLimitIsThatOfPropositionFive
+unfolding promise.TheLimitIsThatOfPropositionFive
+the-limit-is-that-of-proposition-five n l five g =
+    let limit = known n l g .limit in
+    let t = greatest-of-inequality n (limit .is) in
+    (limit .v, limit .limit, t .holds, t .most)
+
 -- ---- the line in the ledger
 pub no-odd-number-past-the-limit-is-written : promise.NoOddNumberPastTheLimitIsWritten
 unfolding promise.NoOddNumberPastTheLimitIsWritten IsWhole
@@ -105,6 +124,39 @@ no-odd-number-past-the-limit-comes-back n l w x g past y =
   where
     even : (natAbs x % 2 ≡ 1 → ⊥) → natAbs x % 2 ≡ 0
     even f = omega (arith, f)
+
+-- what the contract says of a whole number that was written rounded
+rounded-whole : (n w : ℕ) (x : ℤ) → 2 ≤ n → n ≤ 64 → WritesWhole n Rule.Rounded x (Answer.Word w) → IsRounded n (isNegative x) (natAbs x * 2 ^ 307) 1 w
+unfolding WritesWhole IsWritten
+rounded-whole n w x lo hi y = answered (width-fits n lo hi) y
+
+pub from-the-limit-on-rounded-is-even : promise.FromTheLimitOnRoundedIsEven
+unfolding promise.FromTheLimitOnRoundedIsEven IsWhole valueOf
+from-the-limit-on-rounded-is-even n l w x five g h y =
+    let k = known n l g in
+    let t = rounded-to-even n l five (k .hi) (k .limit) (isNegative x) (natAbs x) w h (rounded-whole n w x (k .lo) (k .hi) y) in
+    (t .0, record { word = t .1 .word; means = t .1 .means }, t .2, t .3)
+
+pub no-odd-number-past-the-limit-comes-back-odd : promise.NoOddNumberPastTheLimitComesBackOdd
+unfolding promise.NoOddNumberPastTheLimitComesBackOdd promise.FromTheLimitOnRoundedIsEven IsWhole valueOf
+no-odd-number-past-the-limit-comes-back-odd n l w x y taking five g odd past r o =
+    let t = from-the-limit-on-rounded-is-even n l w x five g (le-of-lt past) r in
+    let same : natAbs y ≡ natAbs (t .0) = ap natAbs (taken-as-written n (t .0) y w taking (record { word = t .1 .word; means = t .1 .means }) o) in
+    (omega (arith, same, t .2), λ q. differ same (t .2) (ap natAbs q))
+  where
+    differ : {i j : ℕ} → i ≡ j → j % 2 ≡ 0 → i ≡ natAbs x → ⊥
+    differ p even q = omega (arith, p, even, q, odd)
+
+pub up-to-4-three-comes-back-as-one : promise.UpTo4ThreeComesBackAsOne
+unfolding promise.UpTo4ThreeComesBackAsOne GivesLimit IsWritten WritesWhole valueOf isNegative overTest
+up-to-4-three-comes-back-as-one n lo short = (λ a x. gives-limit-one n a (Limit.Count 1) x (through fits (1, refl, limit-up-to-4 n short)), λ r x. by r (answered fits x))
+  where
+    fits : widthTest n ≡ Verdict.Through
+    fits = width-fits n lo (omega (arith, short))
+
+    by : (r : Answer) → IsWritten n Rule.Rounded false (3 * 2 ^ 307) 1 r → (w : ℕ) × (r ≡ Answer.Word w) × ((taking : Taking) (a : Whole) → TakesWhole n taking w a → a ≡ Whole.Is (pos 1))
+    by (Answer.Refused q) x = absurd x
+    by (Answer.Word w) x = let t = three-is-rounded-to-one n lo short w x in (w, refl, λ taking a o. written-comes-back n (pos 1) w taking a refl (record { word = t .word; means = t .means }) o)
 
 pub at-16-the-limit-is-512 : promise.At16TheLimitIs512
 unfolding promise.At16TheLimitIs512 GivesLimit

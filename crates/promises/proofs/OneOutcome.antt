@@ -7,6 +7,8 @@ use Prim.Native.Nat.{ℕ, _^_}
 use native.Mathlib.Nat.{le-antisymm}
 use lib.IntN.{ℤ}
 use Rattle.bounds.specs.declared.answer.Answer.{Answer}
+use Rattle.bounds.specs.declared.refusal.Refusal.{Refusal}
+use Rattle.bounds.specs.declared.refusal.Verdict.{Verdict}
 use Rattle.word.specs.declared.fields.Fields.{Fields}
 use Rattle.word.specs.declared.size.Size.{Size}
 use Rattle.word.specs.declared.order.Comparison.{Comparison}
@@ -16,6 +18,7 @@ use Rattle.bounds.specs.declared.width.Made.{Made}
 use Rattle.word.specs.Takum.{takum, fractionBits}
 use Rattle.word.specs.Cuts.{Cuts}
 use Rattle.word.specs.Sizes.{Sizes}
+use Rattle.bounds.specs.Refusals.{numberOf, widthTest, wordTest, _then_}
 use Rattle.bounds.specs.Widths.{Greatest, greatest, none, IsLimit, Makes, GivesWord, GivesLimit}
 use Rattle.word.specs.Reads.{IsReading, Reads}
 use Rattle.word.specs.Orders.{signed, order, negated, Compares, Negates}
@@ -36,6 +39,20 @@ use Rattle.promises.specs.Writing.{Goes, ComesHome}
 given : {A : Type 0} (x : A) (a b : A) → a ≡ x → b ≡ x → a ≡ b
 given x a b p q = p ∙ sym q
 
+-- ---- the tests, and a refusal's number
+pub tests-width-one : (n : ℕ) (a b : Verdict) → a ≡ widthTest n → b ≡ widthTest n → a ≡ b
+tests-width-one n = given (widthTest n)
+
+pub tests-word-one : (n w : ℕ) (a b : Verdict) → a ≡ wordTest n w → b ≡ wordTest n w → a ≡ b
+tests-word-one n w = given (wordTest n w)
+
+pub tests-in-a-row-one : (u v : Verdict) (a b : Verdict) → a ≡ u then v → b ≡ u then v → a ≡ b
+tests-in-a-row-one u v = given (u then v)
+
+pub number-one : (q : Refusal) (a b : ℕ) → a ≡ numberOf q → b ≡ numberOf q → a ≡ b
+number-one q = given (numberOf q)
+
+-- ---- widths
 pub makes-one : (n : ℕ) (a b : Made) → Makes n a → Makes n b → a ≡ b
 unfolding Makes
 makes-one n a b = decided-one Made.Refused (λ x. x ≡ Made.Width (record { bits = n })) (given (Made.Width (record { bits = n }))) a b
@@ -59,6 +76,7 @@ gives-limit-one n a b = decided-one Limit.Refused (λ x. (l : ℕ) × (x ≡ Lim
     limits-one a b x y =
         x .1 ∙ ap Limit.Count (x .2 .limit ∙ ap (λ (v : ℕ). 2 ^ v) (exponent-one n (x .2 .is) (y .2 .is)) ∙ sym (y .2 .limit)) ∙ sym (y .1)
 
+-- ---- words
 pub reads-one : (n w : ℕ) (a b : Reading) → Reads n w a → Reads n w b → a ≡ b
 unfolding Reads
 reads-one n w a b = decided-one Reading.Refused (IsReading (takum n w) (fractionBits n w)) (reading-one (takum n w) (fractionBits n w)) a b

@@ -18,7 +18,8 @@ use Rattle.sheet.specs.Layout.{mark}
 use Rattle.sheet.specs.Reads.{ReadsBlock, FillsResults}
 use Rattle.sheet.proofs.Passing.{passes, was-read, other-mark, other-A}
 use Rattle.sheet.proofs.Results.{words-length, holds, result-at, result-kept, result-is-word}
-use Rattle.sheet.proofs.Changes.{sum-differs}
+use Rattle.sheet.proofs.Changes.{same-A, same-B, others, differs, sum-differs}
+use Rattle.sheet.proofs.OneNumber.{changed-within}
 use Rattle.promises.specs.Demands.{RefusedAs, ReadingIsTheDefinition}
 use Rattle.promises.specs.Slices as promise
 use Rattle.promises.proofs.Demands.{reading-is-the-definition}
@@ -56,6 +57,13 @@ results-length block before after w i n r f =
 pub the-remainder-is-kept : promise.TheRemainderIsKept
 unfolding promise.TheRemainderIsKept
 the-remainder-is-kept block before after w i n r f = (results-length block before after w i n r f, result-kept block before after w i n r f)
+
+pub a-change-in-one-number-is-a-change-of-its-bytes : promise.AChangeInOneNumberIsAChangeOfItsBytes
+unfolding promise.AChangeInOneNumberIsAChangeOfItsBytes
+a-change-in-one-number-is-a-change-of-its-bytes i old new bo bn bytes = (
+  λ c. record { one-of-126 = c .one-of-126; size = c .size; others = others i old new c; differs = differs i old new c bo bn; same-A = same-A i old new c; same-B = same-B i old new c },
+  λ d. changed-within i old new bo bn bytes (d .size) (d .others) (d .same-A) (d .same-B) (d .one-of-126) (d .differs),
+)
 
 pub a-change-in-one-number-is-noticed : promise.AChangeInOneNumberIsNoticed
 unfolding promise.AChangeInOneNumberIsNoticed ReadsBlock

@@ -1,12 +1,12 @@
 -- The demands that specs/Writing.antt states, from the laws of writing. Assumes nothing.
 use mathlib.Core.Path.{_≡_, refl, sym, ap, ap₂, _∙_, subst}
-use mathlib.Core.Bool.{Bool, false, not}
+use mathlib.Core.Bool.{Bool, true, false, not}
 use mathlib.Core.List.{List, [], _∷_}
 use mathlib.Core.Logic.{inl, inr}
 use Prim.Native.Nat.{ℕ, zero, _-_, _*_, _^_, _≤_, _<_}
-use native.Mathlib.Nat.{zero-mul, mul-pos}
+use native.Mathlib.Nat.{zero-mul, mul-pos, mul-assoc}
 use native.Mathlib.Omega.{arith}
-use lib.IntN.{pos, _+ℤ_, _-ℤ_}
+use lib.IntN.{pos, _+ℤ_}
 use Rattle.bounds.specs.declared.answer.Answer.{Answer}
 use Rattle.bounds.specs.declared.refusal.Refusal.{Refusal}
 use Rattle.word.specs.Takum.{Takum, real, takum}
@@ -14,26 +14,26 @@ use Rattle.bounds.specs.declared.refusal.Verdict.{Verdict}
 use Rattle.word.specs.declared.reading.Reading.{Reading}
 use Rattle.bounds.specs.Refusals.{widthTest, strayTest, _then_, IsWord, through, refused}
 use Rattle.bounds.specs.Widths.{narWord, largest, smallest}
-use Rattle.word.specs.Reads.{num, IsSize, IsReading, Reads}
-use Rattle.word.specs.Orders.{negated}
+use Rattle.word.specs.Reads.{num, IsSize, signedSize, IsReading, Reads}
+use Rattle.word.specs.Orders.{order, negated}
 use Rattle.bounds.proofs.Answers.{GivesAWord}
+use Rattle.bounds.proofs.Powers.{twice}
 use Rattle.bounds.proofs.Verdicts.{width-fits, width-through, stray-fits, word-passes, move-passes, move-through, answered}
-use Rattle.word.proofs.Values.{grown, words-differ, no-sign}
+use Rattle.word.proofs.Signed.{negated-other}
+use Rattle.word.proofs.Values.{grown, words-differ, no-sign, order-of-values}
 use Rattle.word.proofs.Words.{zeros-appended}
 use Rattle.write.specs.declared.value.Rule.{Rule}
 use Rattle.write.specs.declared.value.Value.{Value}
-use Rattle.write.specs.Writes.{Nearest, IsRounded, zero, other, IsWritten, isNegative, IsMoved, Writes, Moves}
-use Rattle.write.specs.Offers.{withSign}
+use Rattle.write.specs.Writes.{Nearest, IsRounded, zero, other, IsExact, IsWritten, isNegative, IsMoved, Writes, Moves}
 use Rattle.write.proofs.Exponents.{unit-some}
 use Rattle.write.proofs.Places.{two, wordOf, has-value, from-word}
 use Rattle.write.proofs.Rules.{zero-written, number-written}
-use Rattle.write.proofs.Signs.{signed-word}
 use Rattle.write.proofs.Rounding.{rounded-exists, rounded-one, rounded-not-zero-nor-NaR, past-the-largest, before-the-smallest, rounded-negated, exact-written, written-one}
-use Rattle.write.proofs.Order.{rounding-keeps-order}
+use Rattle.write.proofs.Order.{rounding-keeps-order, order-times}
 use Rattle.write.proofs.Moves.{Kept, moved-to-the-same, strict-keeps, there-and-back, wider-keeps}
 use Rattle.promises.specs.Refusals.{moveLines}
 use Rattle.promises.specs.Writing as promise
-use Rattle.promises.specs.Writing.{numerator, denominator, withOtherSign, Says, Chain, Goes, ComesHome}
+use Rattle.promises.specs.Writing.{numerator, denominator, withOtherSign, ofSign, Says, Chain, Goes, ComesHome}
 use Rattle.promises.proofs.Lines.{past, good-width, given-or-inexact}
 use Rattle.promises.proofs.WordRefusals.{write-follows, move-follows}
 
@@ -85,12 +85,17 @@ unfolding promise.RoundedIsNeverZeroNorNaR narWord
 rounded-is-never-zero-nor-NaR n v w lo hi some x = rounded-not-zero-nor-NaR n lo hi (v .negative) (numerator v) (denominator v) w (nearest-one v some n w lo hi x)
 
 module _ (n : ℕ) (lo : 2 ≤ n) (hi : n ≤ 64) where
+  of-sign : (s : Bool) (v : ℕ) → 0 < v → v < 2 ^ (n - 1) → wordOf n s v ≡ ofSign n s v
+  unfolding wordOf ofSign
+  of-sign false v h b = refl
+  of-sign true v h b = sym (negated-other n v h (omega (arith, b, twice n lo)))
+
   -- an answer whose word is known for the nearest one
-  end-word : (v : Value) (r : Answer) (e : ℕ) → 0 < e → e < 2 ^ (n - 1) → 0 < v .m → Writes n Rule.Rounded v r → ((w : ℕ) → Nearest n (v .negative) (numerator v) (denominator v) w → w ≡ wordOf n (v .negative) e) → r ≡ Answer.Word (withSign n (v .negative) e)
-  unfolding promise.RoundedIsTheNearest wordOf
+  end-word : (v : Value) (r : Answer) (e : ℕ) → 0 < e → e < 2 ^ (n - 1) → 0 < v .m → Writes n Rule.Rounded v r → ((w : ℕ) → Nearest n (v .negative) (numerator v) (denominator v) w → w ≡ wordOf n (v .negative) e) → r ≡ Answer.Word (ofSign n (v .negative) e)
+  unfolding promise.RoundedIsTheNearest
   end-word v r e first last some x f =
       let t = rounded-is-the-nearest n v r lo hi x in
-      t .1 ∙ ap Answer.Word (f (t .0) (nearest-one v some n (t .0) lo hi (subst (Writes n Rule.Rounded v) (t .1) x)) ∙ signed-word n lo hi (v .negative) e e first last refl)
+      t .1 ∙ ap Answer.Word (f (t .0) (nearest-one v some n (t .0) lo hi (subst (Writes n Rule.Rounded v) (t .1) x)) ∙ of-sign (v .negative) e first last)
 
 pub past-the-largest-word : promise.PastTheLargest
 unfolding promise.PastTheLargest largest wordOf
@@ -133,18 +138,21 @@ unfolding promise.StrictWritingIsRefusedExactlyWhereThereIsNoWord IsWritten
 strict-writing-is-refused-exactly-where-there-is-no-word n v r lo hi x =
     given-or-inexact _ r (λ w q. written n Rule.Strict v (Answer.Word w) lo hi (subst (Writes n Rule.Strict v) q x)) (past Answer.Refused r 1 _ _ (good-width n (lo, hi)) (write-follows n Rule.Strict v r x))
 
-pub what-was-read-is-written-back : promise.WhatWasReadIsWrittenBack
-unfolding promise.WhatWasReadIsWrittenBack promise.AWordsValueIsWrittenAsTheWord Says Reads IsReading IsSize numerator denominator
-what-was-read-is-written-back n w rule Reading.Zero v r i x says y =
+-- a word that was read has exactly the value that the reading says
+read-exactly : (n w : ℕ) (a : Reading) (v : Value) → IsWord n w → Reads n w a → Says a v → IsExact n (v .negative) (numerator v) (denominator v) w
+unfolding Says Reads IsReading IsSize numerator denominator
+read-exactly n w Reading.Zero v i x says =
     let zero : takum n w ≡ real (pos 0) = answered (word-passes n w i) x in
-    a-words-value-is-written-as-the-word n rule v w r (i .least) (i .most)
-    (record { z = 0; is = record { word = i; means = zero ∙ ap real (sym (no-sign (v .negative))) }; same = zero-mul (denominator v) ∙ sym (no-numerator v says) }) y
-what-was-read-is-written-back n w rule (Reading.Number s h m p) v r i x says y =
+    record { z = 0; is = record { word = i; means = zero ∙ ap real (sym (no-sign (v .negative))) }; same = zero-mul (denominator v) ∙ sym (no-numerator v says) }
+read-exactly n w (Reading.Number s h m p) v i x says =
     let number = answered (word-passes n w i) x in
-    let u : Value = record { negative = s; m = m; k = h -ℤ pos p } in
-    a-words-value-is-written-as-the-word n rule u w r (i .least) (i .most) (record { z = number .v; is = record { word = i; means = number .means }; same = sym (number .size) }) (subst (λ (v : Value). Writes n rule v r) says y)
-what-was-read-is-written-back n w rule Reading.NotReal v r i x says y = absurd says
-what-was-read-is-written-back n w rule (Reading.Refused q) v r i x says y = absurd says
+    subst (λ (v : Value). IsExact n (v .negative) (numerator v) (denominator v) w) (sym says) (record { z = number .v; is = record { word = i; means = number .means }; same = sym (number .size) })
+read-exactly n w Reading.NotReal v i x says = absurd says
+read-exactly n w (Reading.Refused q) v i x says = absurd says
+
+pub what-was-read-is-written-back : promise.WhatWasReadIsWrittenBack
+unfolding promise.WhatWasReadIsWrittenBack promise.AWordsValueIsWrittenAsTheWord
+what-was-read-is-written-back n w rule a v r i x says y = a-words-value-is-written-as-the-word n rule v w r (i .least) (i .most) (read-exactly n w a v i x says) y
 
 pub rounding-commutes-with-negation : promise.RoundingCommutesWithNegation
 unfolding promise.RoundingCommutesWithNegation IsWritten withOtherSign numerator denominator
@@ -152,8 +160,24 @@ rounding-commutes-with-negation n v w r lo hi x y =
     let w-is = written n Rule.Rounded v (Answer.Word w) lo hi x in
     written-one n lo hi Rule.Rounded (not (v .negative)) (numerator v) (denominator v) r (Answer.Word (negated n w)) (some-denominator v) (written n Rule.Rounded (withOtherSign v) r lo hi y) (rounded-negated n lo hi (v .negative) (numerator v) (denominator v) w w-is)
 
+-- the order of two words is that of their values, and so of any multiples of them
+pub the-order-of-values-is-that-of-their-words : promise.TheOrderOfValuesIsThatOfTheirWords
+unfolding promise.TheOrderOfValuesIsThatOfTheirWords promise.orderOf
+the-order-of-values-is-that-of-their-words n x y a b u v i j p q says says' =
+    let s = read-exactly n x a u i p says in
+    let t = read-exactly n y b v j q says' in
+    let du = denominator u in
+    let dv = denominator v in
+    sym
+    (order-of-values n x y i j (signedSize (u .negative) (s .z)) (signedSize (v .negative) (t .z)) (s .is .means) (t .is .means)
+    ∙ order-times (u .negative) (v .negative) (s .z) (t .z) (du * dv) (mul-pos (some-denominator u) (some-denominator v))
+    ∙ ap₂ (λ (a b : ℕ). order (signedSize (u .negative) a) (signedSize (v .negative) b)) (sym (mul-assoc (s .z) du dv) ∙ ap (λ (a : ℕ). a * dv) (s .same)) (other (t .z) du dv ∙ ap (λ (a : ℕ). a * du) (t .same)))
+  where
+    other : (z d e : ℕ) → z * (d * e) ≡ z * e * d
+    other z d e = omega arith
+
 pub rounding-keeps-the-order : promise.RoundingKeepsOrder
-unfolding promise.RoundingKeepsOrder promise.NotGreater IsWritten
+unfolding promise.RoundingKeepsOrder promise.orderOf IsWritten
 rounding-keeps-the-order n u v x y lo hi h p q =
     rounding-keeps-order n lo hi (u .negative) (v .negative) (numerator u) (denominator u) (numerator v) (denominator v) x y (some-denominator u) (some-denominator v) (written n Rule.Rounded u (Answer.Word x) lo hi p) (written n Rule.Rounded v (Answer.Word y) lo hi q) h
 

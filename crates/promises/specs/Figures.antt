@@ -11,6 +11,7 @@ use Rattle.word.specs.Reads.{IsSize, signedSize, IsReading, Reads}
 use Rattle.write.specs.declared.value.Rule.{Rule}
 use Rattle.write.specs.declared.value.Value.{Value}
 use Rattle.write.specs.Writes.{Writes}
+use Rattle.whole.specs.Wholes.{WritesWhole}
 use Rattle.promises.specs.Demands.{RefusedAs}
 
 -- -k, for the exponents below 0
@@ -29,12 +30,14 @@ IsSaid (plus M k) t = (z : ℕ) × IsSize M k z × (t ≡ real (signedSize false
 IsSaid (minus M k) t = (z : ℕ) × IsSize M k z × (t ≡ real (signedSize true z))
 IsSaid nar t = t ≡ NaR
 
--- reads n w x: the word w of n bits is x; writes n rule M w: the whole number M, written in n bits by the rule, is the word w; refuses n rule M number:
--- it is the refusal with this number
+-- reads n w x: the word w of n bits is x; writes n rule M w: the value M, written in n bits by the rule, is the word w; refuses n rule M number:
+-- it is the refusal with this number; writesWhole and refusesWhole: the same of M as a whole number, which is the call a tally goes through
 pub data Figure : Type 0 where
   reads : ℕ → ℕ → Said → Figure
   writes : ℕ → Rule → ℕ → ℕ → Figure
   refuses : ℕ → Rule → ℕ → ℕ → Figure
+  writesWhole : ℕ → Rule → ℕ → ℕ → Figure
+  refusesWhole : ℕ → Rule → ℕ → ℕ → Figure
 
 unfoldable pub whole : ℕ → Value
 whole M = record { negative = false; m = M; k = pos 0 }
@@ -58,6 +61,11 @@ figures =
     ∷ writes 16 Rule.Rounded 513 0x5A00
     ∷ refuses 16 Rule.Strict 513 4
     ∷ writes 16 Rule.Rounded 1023 0x5B00
+    ∷ writesWhole 16 Rule.Rounded 512 0x5A00
+    ∷ writesWhole 16 Rule.Strict 512 0x5A00
+    ∷ writesWhole 16 Rule.Rounded 513 0x5A00
+    ∷ refusesWhole 16 Rule.Strict 513 4
+    ∷ writesWhole 16 Rule.Rounded 1023 0x5B00
     ∷ []
 
 -- whatever reading or answer the contract allows is the figure's
@@ -65,6 +73,8 @@ unfoldable pub FigureHolds : Figure → Type 0
 FigureHolds (reads n w x) = (a : Reading) → Reads n w a → (t : Takum) × IsSaid x t × IsReading t (fractionBits n w) a
 FigureHolds (writes n rule M w) = (a : Answer) → Writes n rule (whole M) a → a ≡ Answer.Word w
 FigureHolds (refuses n rule M number) = (a : Answer) → Writes n rule (whole M) a → RefusedAs Answer Answer.Refused number a
+FigureHolds (writesWhole n rule M w) = (a : Answer) → WritesWhole n rule (pos M) a → a ≡ Answer.Word w
+FigureHolds (refusesWhole n rule M number) = (a : Answer) → WritesWhole n rule (pos M) a → RefusedAs Answer Answer.Refused number a
 
 -- every figure of a list holds
 unfoldable pub AllHold : List Figure → Type 0

@@ -5,4 +5,5 @@ pub mod Letter
 pub mod Numbers
 pub mod Refusals
 pub mod Slices
+pub mod Words
 pub mod Writing

@@ -1,7 +1,7 @@
 -- What the letter demands of whole numbers, and what is promised of binary64, as statements about what the public contracts allow.
 use mathlib.Core.Path.{_≡_}
 use mathlib.Core.Bool.{Bool, false}
-use Prim.Native.Nat.{ℕ, _+_, _*_, _%_, _^_, _≤_, _<_}
+use Prim.Native.Nat.{ℕ, _+_, _-_, _*_, _%_, _^_, _≤_, _<_}
 use lib.Dec.{T}
 use lib.IntN.{ℤ, pos, negsuc, natAbs}
 use lib.Ieee.{Float, nan, inf, fin, neg, lt, le}
@@ -11,7 +11,7 @@ use Rattle.bounds.specs.declared.refusal.Verdict.{Verdict}
 use Rattle.bounds.specs.declared.width.Limit.{Limit}
 use Rattle.word.specs.Takum.{real, takum}
 use Rattle.bounds.specs.Refusals.{IsWord}
-use Rattle.bounds.specs.Widths.{narWord, GivesLimit}
+use Rattle.bounds.specs.Widths.{narWord, Within, GivesLimit}
 use Rattle.word.specs.Orders.{signed, order, negated}
 use Rattle.write.specs.declared.value.Rule.{Rule}
 use Rattle.write.specs.Writes.{HasValue, isNegative}
@@ -41,6 +41,15 @@ TheLimitPlusOneIsRefused = (n l : ℕ) (x : ℤ) (r : Answer) → GivesLimit n (
 unfoldable pub AWholeNumberIsRefusedExactlyWhereItHasNoWord : Type 0
 AWholeNumberIsRefusedExactlyWhereItHasNoWord = (n : ℕ) (x : ℤ) (r : Answer) → 2 ≤ n → n ≤ 64 → WritesWhole n Rule.Strict x r → GivenOrInexact (IsWhole n x) r
 
+-- ---- document 004, Proposition 5, which is stated from width 5 up
+-- its inequality, v * 2^v < 2^(n - 3), holds of the same numbers v from 1 on as paper 01's rule, v + floor(log2 v) <= n - 4
+unfoldable pub PropositionFiveSaysTheSame : Type 0
+PropositionFiveSaysTheSame = (n v : ℕ) → 5 ≤ n → 1 ≤ v → (Within n v → v * 2 ^ v < 2 ^ (n - 3)) × (v * 2 ^ v < 2 ^ (n - 3) → Within n v)
+
+-- so the limit is 2^v with the greatest v of that inequality
+unfoldable pub TheLimitIsThatOfPropositionFive : Type 0
+TheLimitIsThatOfPropositionFive = (n l : ℕ) → 5 ≤ n → GivesLimit n (Limit.Count l) → (v : ℕ) × (l ≡ 2 ^ v) × (v * 2 ^ v < 2 ^ (n - 3)) × ((u : ℕ) → u * 2 ^ u < 2 ^ (n - 3) → u ≤ v)
+
 -- ---- the line in the ledger
 -- past the limit an odd whole number, of either sign, has no word, and strict writing refuses it
 unfoldable pub NoOddNumberPastTheLimitIsWritten : Type 0
@@ -49,6 +58,20 @@ NoOddNumberPastTheLimitIsWritten = (n l : ℕ) (x : ℤ) (r : Answer) → GivesL
 -- so a whole number that a word has there is even
 unfoldable pub NoOddNumberPastTheLimitComesBack : Type 0
 NoOddNumberPastTheLimitComesBack = (n l w : ℕ) (x : ℤ) → GivesLimit n (Limit.Count l) → l < natAbs x → TakesWhole n Taking.Strict w (Whole.Is x) → natAbs x % 2 ≡ 0
+
+-- From width 5 up, a whole number that is at least the limit, written rounded, is an even whole number, and at least the limit too.
+unfoldable pub FromTheLimitOnRoundedIsEven : Type 0
+FromTheLimitOnRoundedIsEven = (n l w : ℕ) (x : ℤ) → 5 ≤ n → GivesLimit n (Limit.Count l) → l ≤ natAbs x → WritesWhole n Rule.Rounded x (Answer.Word w) → (y : ℤ) × IsWhole n y w × (natAbs y % 2 ≡ 0) × (l ≤ natAbs y)
+
+-- So an odd one past the limit comes back even, by either way of taking, and not as itself.
+unfoldable pub NoOddNumberPastTheLimitComesBackOdd : Type 0
+NoOddNumberPastTheLimitComesBackOdd = (n l w : ℕ) (x y : ℤ) (taking : Taking) → 5 ≤ n → GivesLimit n (Limit.Count l) → natAbs x % 2 ≡ 1 → l < natAbs x → WritesWhole n Rule.Rounded x (Answer.Word w) → TakesWhole n taking w (Whole.Is y)
+    → (natAbs y % 2 ≡ 0) × (y ≡ x → ⊥)
+
+-- At widths 2 to 4 this is false: the limit is 1, and 3 is written rounded and comes back as 1.
+unfoldable pub UpTo4ThreeComesBackAsOne : Type 0
+UpTo4ThreeComesBackAsOne = (n : ℕ) → 2 ≤ n → n ≤ 4
+    → ((a : Limit) → GivesLimit n a → a ≡ Limit.Count 1) × ((r : Answer) → WritesWhole n Rule.Rounded (pos 3) r → (w : ℕ) × (r ≡ Answer.Word w) × ((taking : Taking) (a : Whole) → TakesWhole n taking w a → a ≡ Whole.Is (pos 1)))
 
 -- at width 16 the limit is 512
 unfoldable pub At16TheLimitIs512 : Type 0

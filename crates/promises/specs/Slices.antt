@@ -15,7 +15,7 @@ use Rattle.write.specs.Writes.{Moves}
 use Rattle.column.specs.declared.moving.Column.{Column}
 use Rattle.column.specs.Columns.{MovesColumn, Holds}
 use Rattle.sheet.specs.declared.block.Block.{Block}
-use Rattle.sheet.specs.Layout.{AreBytes, numberAt, mark, numbers, A}
+use Rattle.sheet.specs.Layout.{AreBytes, numberAt, mark, numbers, A, B}
 use Rattle.sheet.specs.Sums.{sumA}
 use Rattle.sheet.specs.Reads.{ReadsBlock, FillsResults}
 use Rattle.sheet.specs.Changes.{ChangedWithin}
@@ -54,6 +54,19 @@ EachWordOfABlockIsRead = (block before after : List ℕ) (w i n j : ℕ) (a : Re
 -- the results behind the words are as they were, and the slice is as long as it was
 unfoldable pub TheRemainderIsKept : Type 0
 TheRemainderIsKept = (block before after : List ℕ) (w i n : ℕ) → ReadsBlock block (length before) (Block.Read w i n) → FillsResults block before after → (length after ≡ length before) × ((j : ℕ) → n ≤ j → getD after j 0 ≡ getD before j 0)
+
+-- Two blocks of the same length have the same numbers, A and B, but for number i.
+pub record OneNumberDiffers (i : ℕ) (old new : List ℕ) : Type 0 where
+  pub one-of-126 : i < 126
+  pub size : length new ≡ length old
+  pub others : (j : ℕ) → (j ≡ i → ⊥) → getD (numbers new) j 0 ≡ getD (numbers old) j 0
+  pub differs : getD (numbers new) i 0 ≡ getD (numbers old) i 0 → ⊥
+  pub same-A : A new ≡ A old
+  pub same-B : B new ≡ B old
+
+-- that is the case exactly where only bytes of number i were changed
+unfoldable pub AChangeInOneNumberIsAChangeOfItsBytes : Type 0
+AChangeInOneNumberIsAChangeOfItsBytes = (i : ℕ) (old new : List ℕ) → AreBytes old → AreBytes new → length old ≡ 512 → (ChangedWithin i old new → OneNumberDiffers i old new) × (OneNumberDiffers i old new → ChangedWithin i old new)
 
 -- Any change confined to one of the 126 numbers of a block with its mark and the right A is noticed: as CHECK, or as MARK, which is tested before it,
 -- where byte 0 is what changed.

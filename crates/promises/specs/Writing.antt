@@ -1,10 +1,10 @@
 -- What the letter demands of writing and of moves, as statements about what the public contracts allow.
 use mathlib.Core.Path.{_≡_}
-use mathlib.Core.Bool.{false, not}
+use mathlib.Core.Bool.{Bool, false, not, cond}
 use mathlib.Core.List.{List, [], _∷_}
 use mathlib.Core.Logic.{_⊎_}
 use Prim.Native.Nat.{ℕ, _+_, _*_, _^_, _≤_, _<_}
-use lib.IntN.{pos, _+ℤ_, _-ℤ_}
+use lib.IntN.{ℤ, pos, _+ℤ_, _-ℤ_}
 use Rattle.bounds.specs.declared.answer.Answer.{Answer}
 use Rattle.word.specs.declared.reading.Reading.{Reading}
 use Rattle.bounds.specs.declared.refusal.Refusal.{Refusal}
@@ -15,8 +15,7 @@ use Rattle.word.specs.Reads.{num, den, IsSize, signedSize, Reads}
 use Rattle.word.specs.Orders.{signed, order, negated}
 use Rattle.write.specs.declared.value.Rule.{Rule}
 use Rattle.write.specs.declared.value.Value.{Value}
-use Rattle.write.specs.Writes.{HasValue, AtMost, IsRounded, IsExact, Writes, Moves}
-use Rattle.write.specs.Offers.{withSign}
+use Rattle.write.specs.Writes.{HasValue, IsRounded, IsExact, Writes, Moves}
 use Rattle.promises.specs.Demands.{RefusedAs}
 
 -- the size of an offered value as a fraction, counted in 2^-307
@@ -43,12 +42,16 @@ OneRoundedWord = (n : ℕ) (v : Value) → 2 ≤ n → n ≤ 64 → (w : ℕ) ×
 unfoldable pub RoundedIsNeverZeroNorNaR : Type 0
 RoundedIsNeverZeroNorNaR = (n : ℕ) (v : Value) (w : ℕ) → 2 ≤ n → n ≤ 64 → 0 < v .m → Writes n Rule.Rounded v (Answer.Word w) → (w ≡ 0 → ⊥) × (w ≡ narWord n → ⊥)
 
+-- the positive word w for a positive value, and its negation for a negative one
+unfoldable pub ofSign : ℕ → Bool → ℕ → ℕ
+ofSign n negative w = cond negative (negated n w) w
+
 -- at and past either end the end word of the sign: the largest and the smallest positive word have a size z, and every value from there on is written so
 unfoldable pub PastTheLargest : Type 0
-PastTheLargest = (n : ℕ) → 2 ≤ n → n ≤ 64 → (z : ℕ) × HasValue n false z (largest n) × ((v : Value) (r : Answer) → 0 < v .m → z * denominator v ≤ numerator v → Writes n Rule.Rounded v r → r ≡ Answer.Word (withSign n (v .negative) (largest n)))
+PastTheLargest = (n : ℕ) → 2 ≤ n → n ≤ 64 → (z : ℕ) × HasValue n false z (largest n) × ((v : Value) (r : Answer) → 0 < v .m → z * denominator v ≤ numerator v → Writes n Rule.Rounded v r → r ≡ Answer.Word (ofSign n (v .negative) (largest n)))
 
 unfoldable pub BeforeTheSmallest : Type 0
-BeforeTheSmallest = (n : ℕ) → 2 ≤ n → n ≤ 64 → (z : ℕ) × HasValue n false z (smallest n) × ((v : Value) (r : Answer) → 0 < v .m → numerator v ≤ z * denominator v → Writes n Rule.Rounded v r → r ≡ Answer.Word (withSign n (v .negative) (smallest n)))
+BeforeTheSmallest = (n : ℕ) → 2 ≤ n → n ≤ 64 → (z : ℕ) × HasValue n false z (smallest n) × ((v : Value) (r : Answer) → 0 < v .m → numerator v ≤ z * denominator v → Writes n Rule.Rounded v r → r ≡ Answer.Word (ofSign n (v .negative) (smallest n)))
 
 -- at width 2 every positive value is written as the word 1
 unfoldable pub AtWidth2EveryPositiveValueIsWrittenAs1 : Type 0
@@ -87,13 +90,17 @@ WhatWasReadIsWrittenBack = (n w : ℕ) (rule : Rule) (a : Reading) (v : Value) (
 unfoldable pub RoundingCommutesWithNegation : Type 0
 RoundingCommutesWithNegation = (n : ℕ) (v : Value) (w : ℕ) (r : Answer) → 2 ≤ n → n ≤ 64 → Writes n Rule.Rounded v (Answer.Word w) → Writes n Rule.Rounded (withOtherSign v) r → r ≡ Answer.Word (negated n w)
 
--- the value u is at most the value v
-unfoldable pub NotGreater : Value → Value → Type 0
-NotGreater u v = AtMost (u .negative) (numerator u) (denominator u) (v .negative) (numerator v) (denominator v)
+-- How the value u compares with v: -1, 0 or 1. Both sizes are multiplied by both denominators.
+unfoldable pub orderOf : Value → Value → ℤ
+orderOf u v = order (signedSize (u .negative) (numerator u * denominator v)) (signedSize (v .negative) (numerator v * denominator u))
 
--- and its word is not greater either
+-- of the values of two words it is the order of the words
+unfoldable pub TheOrderOfValuesIsThatOfTheirWords : Type 0
+TheOrderOfValuesIsThatOfTheirWords = (n x y : ℕ) (a b : Reading) (u v : Value) → IsWord n x → IsWord n y → Reads n x a → Reads n y b → Says a u → Says b v → orderOf u v ≡ order (signed n x) (signed n y)
+
+-- and a value that is not greater is written as a word that is not greater
 unfoldable pub RoundingKeepsOrder : Type 0
-RoundingKeepsOrder = (n : ℕ) (u v : Value) (x y : ℕ) → 2 ≤ n → n ≤ 64 → NotGreater u v → Writes n Rule.Rounded u (Answer.Word x) → Writes n Rule.Rounded v (Answer.Word y) → order (signed n x) (signed n y) ≡ pos 1 → ⊥
+RoundingKeepsOrder = (n : ℕ) (u v : Value) (x y : ℕ) → 2 ≤ n → n ≤ 64 → (orderOf u v ≡ pos 1 → ⊥) → Writes n Rule.Rounded u (Answer.Word x) → Writes n Rule.Rounded v (Answer.Word y) → order (signed n x) (signed n y) ≡ pos 1 → ⊥
 
 -- ---- moves: what is read at the one width is written at the other, by either rule
 unfoldable pub AMoveIsAReadingAndAWriting : Type 0

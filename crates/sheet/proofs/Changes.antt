@@ -8,7 +8,7 @@ use native.Mathlib.Omega.{arith}
 use lib.Arith.{lt-of-le-ne}
 use lib.ListN.{getD, List·getD-eq-default}
 use Rattle.bounds.proofs.Powers.{not-more}
-use Rattle.sheet.specs.Layout.{AreBytes, numberAt, numbers, A}
+use Rattle.sheet.specs.Layout.{AreBytes, numberAt, numbers, A, B}
 use Rattle.sheet.specs.Sums.{total, sumA}
 use Rattle.sheet.specs.Changes.{ChangedWithin}
 use Rattle.sheet.proofs.LittleEndian.{number-same, bytes-same, numberAt-below}
@@ -21,12 +21,16 @@ module _ (i : ℕ) (old new : List ℕ) (c : ChangedWithin i old new) where
   same-outside k (inl h) = number-same 4 k new old (λ j l u. c .outside j (inl (omega arith)))
   same-outside k (inr h) = number-same 4 k new old (λ j l u. c .outside j (inr (omega arith)))
 
-  same-A : A new ≡ A old
+  pub same-A : A new ≡ A old
   unfolding A
   same-A = same-outside 504 (inr (omega (arith, c .one-of-126)))
 
+  pub same-B : B new ≡ B old
+  unfolding B
+  same-B = same-outside 508 (inr (omega (arith, c .one-of-126)))
+
   -- the other numbers are the same
-  others : (j : ℕ) → (j ≡ i → ⊥) → getD (numbers new) j 0 ≡ getD (numbers old) j 0
+  pub others : (j : ℕ) → (j ≡ i → ⊥) → getD (numbers new) j 0 ≡ getD (numbers old) j 0
   others j f = by (decLt j 126) (decLt j i)
     where
       past : (block : List ℕ) → 126 ≤ j → getD (numbers block) j 0 ≡ 0
@@ -43,6 +47,9 @@ module _ (i : ℕ) (old new : List ℕ) (c : ChangedWithin i old new) where
     -- number i isn't
     number-differs : numberAt 4 (4 * i) new ≡ numberAt 4 (4 * i) old → ⊥
     number-differs e = c .differs (bytes-same 4 (4 * i) new old bn bo e (c .j) (c .from) (c .to))
+
+    pub differs : getD (numbers new) i 0 ≡ getD (numbers old) i 0 → ⊥
+    differs e = number-differs (sym (numbers-at new i (c .one-of-126)) ∙ e ∙ numbers-at old i (c .one-of-126))
 
     -- so A isn't the sum any more
     pub sum-differs : sumA (numbers old) ≡ A old → sumA (numbers new) ≡ A new → ⊥

@@ -21,6 +21,8 @@ pub mod OneOutcome
 pub mod Totals
 -- so after a change within one of the 126 numbers A isn't their sum
 pub mod Changes
+-- a change within one of the 126 numbers is a change of that number, and of no other
+pub mod OneNumber
 -- what stands in the results after a block was read, place by place
 pub mod Results
 -- COUNT is given exactly where there are more than 496, 248, 124 or 62 words

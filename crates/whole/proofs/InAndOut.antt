@@ -11,6 +11,7 @@ use Rattle.bounds.specs.declared.refusal.Verdict.{Verdict}
 use Rattle.bounds.specs.Refusals.{_then_, IsWord, through, refused}
 use Rattle.word.specs.Takum.{Takum, real, takum}
 use Rattle.word.specs.Reads.{signedSize}
+use Rattle.word.proofs.Values.{real-inj}
 use Rattle.bounds.proofs.Answers.{GivesAWord}
 use Rattle.bounds.proofs.Verdicts.{then-through, open-when, width-fits, word-passes, answered}
 use Rattle.write.specs.declared.value.Rule.{Rule}
@@ -18,10 +19,11 @@ use Rattle.write.specs.Writes.{isNegative, IsWritten}
 use Rattle.write.proofs.Rounding.{exact-written}
 use Rattle.whole.specs.declared.taking.Taking.{Taking}
 use Rattle.whole.specs.declared.taking.Whole.{Whole}
-use Rattle.whole.specs.Wholes.{overTest, inexactTest, IsTaken, WritesWhole, TakesWhole}
+use Rattle.whole.specs.Wholes.{IsWholePart, overTest, inexactTest, IsTaken, WritesWhole, TakesWhole}
 use Rattle.whole.proofs.OneOutcome.{taken-one}
 use Rattle.whole.proofs.TakenOut.{taken-out}
-use Rattle.whole.proofs.WholeValues.{valueOf, exact-value, taken-as-itself}
+use Rattle.whole.proofs.WholeParts.{one-whole-part}
+use Rattle.whole.proofs.WholeValues.{valueOf, is-its-whole-part, exact-value, taken-as-itself}
 
 -- ---- a whole number in
 pub record Written (n : ℕ) (x : ℤ) (w : ℕ) : Type 0 where
@@ -54,11 +56,18 @@ strictly-taken n w x y =
     record { word = k .word; means = k .means ∙ ap real (exact-value (k .z) x (k .part) (not-inexact (k .z) x (k .allowed))) }
 
 -- ---- there and back
-pub whole-comes-back : (n : ℕ) (x : ℤ) (w : ℕ) (rule : Taking) (a : Whole) → overTest x ≡ Verdict.Through → WritesWhole n Rule.Strict x (Answer.Word w) → TakesWhole n rule w a → a ≡ Whole.Is x
+-- a word that has the value of a whole number gives that one and no other, by either rule
+pub written-comes-back : (n : ℕ) (x : ℤ) (w : ℕ) (rule : Taking) (a : Whole) → overTest x ≡ Verdict.Through → Written n x w → TakesWhole n rule w a → a ≡ Whole.Is x
 unfolding TakesWhole
-whole-comes-back n x w rule a inside y t =
-    let k = strictly-written n x w y in
-    taken-one rule (real (valueOf x)) a (Whole.Is x) (subst (λ (t : Takum). IsTaken rule t a) (k .means) (answered (word-passes n w (k .word)) t)) (taken-as-itself rule x inside)
+written-comes-back n x w rule a inside k t = taken-one rule (real (valueOf x)) a (Whole.Is x) (subst (λ (t : Takum). IsTaken rule t a) (k .means) (answered (word-passes n w (k .word)) t)) (taken-as-itself rule x inside)
+
+pub taken-as-written : (n : ℕ) (x y : ℤ) (w : ℕ) (rule : Taking) → Written n x w → TakesWhole n rule w (Whole.Is y) → y ≡ x
+taken-as-written n x y w rule k t =
+    let o = taken-out n rule w y t in
+    one-whole-part (valueOf x) y x (subst (λ (z : ℤ). IsWholePart z y) (real-inj (sym (o .means) ∙ k .means)) (o .part)) (is-its-whole-part x)
+
+pub whole-comes-back : (n : ℕ) (x : ℤ) (w : ℕ) (rule : Taking) (a : Whole) → overTest x ≡ Verdict.Through → WritesWhole n Rule.Strict x (Answer.Word w) → TakesWhole n rule w a → a ≡ Whole.Is x
+whole-comes-back n x w rule a inside y = written-comes-back n x w rule a inside (strictly-written n x w y)
 
 pub word-comes-back : (n w : ℕ) (x : ℤ) (rule : Rule) (r : Answer) → TakesWhole n Taking.Strict w (Whole.Is x) → WritesWhole n rule x r → r ≡ Answer.Word w
 word-comes-back n w x rule r t y = written-as n rule x w r (strictly-taken n w x t) y

@@ -35,3 +35,7 @@ pub mod LimitBeyond
 pub mod LimitWords
 -- and strict writing refuses none up to the limit
 pub mod LimitWriting
+-- from width 5 up every word that is at least the limit in size is an even whole number
+pub mod LimitEvens
+-- so a whole number past the limit is rounded to an even one
+pub mod LimitRounded

@@ -32,7 +32,7 @@ log-of : (a : ℕ) → zero < a → (L : ℕ) × Log L a
 log-of a some = (a - 1 - leadingZeros a a, leading-log a a some (below-power a) .1)
 
 -- ---- the rule of the limit's exponent
-at-most : (n : ℕ) {v : ℕ} → Greatest n v → (u : ℕ) → Within n u → u ≤ v
+pub at-most : (n : ℕ) {v : ℕ} → Greatest n v → (u : ℕ) → Within n u → u ≤ v
 at-most n (greatest x f) u y = f u y
 at-most n (none f) u y = absurd (f u y)
 

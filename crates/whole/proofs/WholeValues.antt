@@ -27,7 +27,7 @@ pub is-its-whole-part : (x : ℤ) → IsWholePart (valueOf x) x
 unfolding valueOf
 is-its-whole-part x = subst (IsWholePart (valueOf x)) (rejoined x) (whole-part (isNegative x) (natAbs x * 2 ^ 307) (natAbs x) (le-refl (natAbs x * 2 ^ 307)) (mul-lt-mul-of-pos-right (le-refl (suc (natAbs x))) (pow-pos 307)))
 
-signed-value : (s : Bool) (i : ℕ) → valueOf (signedSize s i) ≡ signedSize s (i * 2 ^ 307)
+pub signed-value : (s : Bool) (i : ℕ) → valueOf (signedSize s i) ≡ signedSize s (i * 2 ^ 307)
 unfolding valueOf signedSize isNegative
 signed-value false i = refl
 signed-value true zero = refl

@@ -1,4 +1,4 @@
--- What the parts of taking out answer: the whole part of a size, its range, its sign and the rule.
+-- Serves private functions only: what the parts of taking out answer, which are the whole part of a size, its range, its sign and the rule.
 use mathlib.Core.Path.{_≡_}
 use mathlib.Core.Bool.{Bool, cond}
 use Prim.Native.Nat.{ℕ, _-_, _^_}

@@ -122,7 +122,7 @@ module _ (g : ℕ → ℕ) (B : ℕ) (start : g 0 ≡ 0) (up : (a b : ℕ) → a
   lt-kept true false a b ha hb = negative-positive a b ∙ keeps-zero a b ha hb ∙ sym (negative-positive (g a) (g b))
   lt-kept true true a b ha hb = negative-lt a b ∙ keeps b a hb ha ∙ sym (negative-lt (g a) (g b))
 
-  order-kept : (s t : Bool) (a b : ℕ) → a < B → b < B → order (signedSize s a) (signedSize t b) ≡ order (signedSize s (g a)) (signedSize t (g b))
+  pub order-kept : (s t : Bool) (a b : ℕ) → a < B → b < B → order (signedSize s a) (signedSize t b) ≡ order (signedSize s (g a)) (signedSize t (g b))
   unfolding order
   order-kept s t a b ha hb = ap₂ (λ (x y : Bool). cond x (negsuc 0) (cond y (pos 1) (pos 0))) (lt-kept s t a b ha hb) (lt-kept t s b a hb ha)
 

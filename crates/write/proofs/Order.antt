@@ -1,20 +1,20 @@
 -- Rounding keeps the order of values: a value that is not greater has a word that is not greater. Assumes nothing.
 use mathlib.Core.Path.{_≡_, refl, sym, ap, ap₂, _∙_}
 use mathlib.Core.Bool.{Bool, true, false, true≢false, cond}
-use Prim.Native.Nat.{ℕ, zero, suc, _-_, _*_, _^_, _≤_, _<_, zero-le}
-use native.Mathlib.Nat.{zero-mul, mul-pos, lt-of-not-le, le-of-eq, le-trans}
+use Prim.Native.Nat.{ℕ, zero, suc, _+_, _-_, _*_, _^_, _≤_, _<_, zero-le, suc-le-suc}
+use native.Mathlib.Nat.{zero-mul, mul-pos, lt-of-not-le, le-of-eq, le-of-lt, le-trans, eq-of-mul-eq-mul-right, mul-lt-mul-of-pos-right}
 use native.Mathlib.Decide.{decLe}
 use native.Mathlib.Omega.{arith}
-use borrow.Author.Tests.{ltb-true}
+use borrow.Author.Tests.{lt-ltb, le-ltb, ltb-true}
 use lib.IntN.{ℤ, pos, negsuc, natAbs, pos-ne-negsuc}
 use lib.Pow.{pow-pos}
 use lib.Signed.{ltZ}
-use Rattle.bounds.proofs.Powers.{twice}
+use Rattle.bounds.proofs.Powers.{not-more, twice}
 use Rattle.word.specs.Orders.{signed, order}
 use Rattle.word.specs.Reads.{signedSize}
-use Rattle.word.proofs.Signed.{signed-low, signed-high}
-use Rattle.word.proofs.Values.{grown, grown-lt, no-sign}
-use Rattle.write.specs.Writes.{IsRounded, zero, other, AtMost}
+use Rattle.word.proofs.Signed.{signed-low, signed-high, order-above}
+use Rattle.word.proofs.Values.{grown, grown-lt, no-sign, order-kept}
+use Rattle.write.specs.Writes.{IsRounded, zero, other}
 use Rattle.write.proofs.Nearest.{NearestPlace, place-order}
 use Rattle.write.proofs.Places.{wordOf, from-word}
 
@@ -45,6 +45,24 @@ pub apart : (v v' : ℕ) → order (signedSize true v) (pos v') ≡ pos 1 → �
 unfolding signedSize
 apart zero v' q = omega (arith, ltb-true v' 0 (greater (pos 0) (pos v') q))
 apart (suc i) v' q = absurd (true≢false (sym (greater (negsuc i) (pos v') q)))
+
+-- and what it tells of the sizes
+abbrev pub NotGreater : ℤ → ℤ → Type 0
+NotGreater x y = order x y ≡ pos 1 → ⊥
+
+pub positive-sizes : (v v' : ℕ) → NotGreater (pos v) (pos v') → v ≤ v'
+positive-sizes v v' f = not-more (λ (h : v' < v). f (order-above (pos v) (pos v') (le-ltb v v' (le-of-lt h)) (lt-ltb v' v h)))
+
+pub negative-sizes : (v v' : ℕ) → NotGreater (signedSize true v) (signedSize true v') → v' ≤ v
+unfolding signedSize
+negative-sizes v zero f = zero-le
+negative-sizes zero (suc j) f = absurd (f (order-above (pos 0) (negsuc j) refl refl))
+negative-sizes (suc i) (suc j) f = suc-le-suc (not-more (λ (h : i < j). f (order-above (negsuc i) (negsuc j) (le-ltb j i (le-of-lt h)) (lt-ltb i j h))))
+
+pub nothing-left : (v v' : ℕ) → NotGreater (pos v) (signedSize true v') → (v ≡ 0) × (v' ≡ 0)
+unfolding signedSize
+nothing-left v zero f = (omega (arith, positive-sizes v 0 f), refl)
+nothing-left v (suc j) f = absurd (f (order-above (pos v) (negsuc j) refl refl))
 
 module _ (n : ℕ) (lo : 2 ≤ n) (hi : n ≤ 64) where
   -- the place of a rounded word, nothing for zero
@@ -79,13 +97,22 @@ module _ (n : ℕ) (lo : 2 ≤ n) (hi : n ≤ 64) where
           none-left q = let none : a' ≡ 0 = omega (arith, q) in ap (λ (y : ℕ). y * b) none ∙ zero-mul b
       by (no f) (no e) = place-order (grown n) (2 ^ (n - 1)) a b a' b' (λ v u p l r. grown-lt n v u lo hi l r) some some' h (x .v) (y .v) (x .place (lt-of-not-le f)) (y .place (lt-of-not-le e))
 
-  pub rounding-keeps-order : (s s' : Bool) (a b a' b' w w' : ℕ) → 0 < b → 0 < b' → IsRounded n s a b w → IsRounded n s' a' b' w' → AtMost s a b s' a' b' → order (signed n w) (signed n w') ≡ pos 1 → ⊥
-  unfolding AtMost signedSize
+  no-factor : (a b : ℕ) → 0 < b → a * b ≡ 0 → a ≡ 0
+  no-factor a b some q = eq-of-mul-eq-mul-right b some a 0 (q ∙ sym (zero-mul b))
+
+  pub rounding-keeps-order : (s s' : Bool) (a b a' b' w w' : ℕ) → 0 < b → 0 < b' → IsRounded n s a b w → IsRounded n s' a' b' w' → NotGreater (signedSize s (a * b')) (signedSize s' (a' * b)) → NotGreater (signed n w) (signed n w')
+  unfolding signedSize
   rounding-keeps-order s s' a b a' b' w w' some some' x y h q =
       by s s' h (at s a b w x) (at s' a' b' w' y) q
     where
-      by : (s s' : Bool) → AtMost s a b s' a' b' → (x : At s a b w) (y : At s' a' b' w') → order (signed n w) (signed n w') ≡ pos 1 → ⊥
-      by false false h x y q = both-positive (x .v) (y .v) (places false false a b a' b' w w' some some' h x y) (sym (ap₂ order (x .word) (y .word)) ∙ q)
-      by true true h x y q = both-negative (x .v) (y .v) (places true true a' b' a b w' w some' some h y x) (sym (ap₂ order (x .word) (y .word)) ∙ q)
+      by : (s s' : Bool) → NotGreater (signedSize s (a * b')) (signedSize s' (a' * b)) → (x : At s a b w) (y : At s' a' b' w') → order (signed n w) (signed n w') ≡ pos 1 → ⊥
+      by false false h x y q = both-positive (x .v) (y .v) (places false false a b a' b' w w' some some' (positive-sizes (a * b') (a' * b) h) x y) (sym (ap₂ order (x .word) (y .word)) ∙ q)
+      by true true h x y q = both-negative (x .v) (y .v) (places true true a' b' a b w' w some' some (negative-sizes (a * b') (a' * b) h) y x) (sym (ap₂ order (x .word) (y .word)) ∙ q)
       by true false h x y q = apart (x .v) (y .v) (sym (ap₂ order (x .word) (y .word)) ∙ q)
-      by false true h x y q = both-positive 0 0 (le-of-eq refl) (sym (ap₂ order (x .word ∙ ap pos (x .none (h .0))) (y .word ∙ ap (signedSize true) (y .none (h .1)))) ∙ q)
+      by false true h x y q =
+          let t = nothing-left (a * b') (a' * b) h in
+          both-positive 0 0 (le-of-eq refl) (sym (ap₂ order (x .word ∙ ap pos (x .none (no-factor a b' some' (t .0)))) (y .word ∙ ap (signedSize true) (y .none (no-factor a' b some (t .1))))) ∙ q)
+
+-- both sizes times a number, and the order is the same
+pub order-times : (s s' : Bool) (v v' k : ℕ) → 0 < k → order (signedSize s v) (signedSize s' v') ≡ order (signedSize s (v * k)) (signedSize s' (v' * k))
+order-times s s' v v' k some = order-kept (λ (x : ℕ). x * k) (suc (v + v')) (zero-mul k) (λ a b h l. mul-lt-mul-of-pos-right h some) s s' v v' (omega arith) (omega arith)

@@ -1,4 +1,4 @@
--- The normal size that size::nearest, the hub, takes, (m + rest) * 2^(h - 63), and what the hub and its parts answer.
+-- Serves private functions only: the normal size that size::nearest, the hub, takes, (m + rest) * 2^(h - 63), and what the hub and its parts answer.
 use mathlib.Core.Path.{_≡_}
 use mathlib.Core.Bool.{Bool, true, false, cond}
 use Prim.Native.Nat.{ℕ, _+_, _-_, _*_, _/_, _%_, _^_, _≤_, _<_}

@@ -31,14 +31,6 @@ pub record Nearest (n : ℕ) (negative : Bool) (a b w : ℕ) : Type 0 where
   pub nearest : (z' w' : ℕ) → 0 < z' → HasValue n negative z' w' → distance a (z * b) ≤ distance a (z' * b)
   pub even : (z' w' : ℕ) → 0 < z' → HasValue n negative z' w' → distance a (z * b) ≡ distance a (z' * b) → (w' ≡ w) ⊎ (w % 2 ≡ 0)
 
--- The value with sign s and size a / b is at most the one with sign s' and size a' / b'. No contract needs it: the promise that rounding keeps
--- order does.
-unfoldable pub AtMost : Bool → ℕ → ℕ → Bool → ℕ → ℕ → Type 0
-AtMost false a b false a' b' = a * b' ≤ a' * b
-AtMost true a b true a' b' = a' * b ≤ a * b'
-AtMost true a b false a' b' = Unit {0}
-AtMost false a b true a' b' = (a ≡ 0) × (a' ≡ 0)
-
 -- Rounded: zero gives the zero word, every other value the nearest one.
 pub data IsRounded (n : ℕ) (negative : Bool) (a b w : ℕ) : Type 0 where
   zero : a ≡ 0 → w ≡ 0 → IsRounded n negative a b w

@@ -7,6 +7,11 @@ ghost use mathlib.Core.Bool.{false};
 ghost use Prim.Native.Nat.{_+_, _≤_, _<_, _^_};
 ghost use lib.ListN.{length};
 
+// A piece has 16 blocks, and the text of each has at most 496 lines of up to 96 bytes.
+const PIECE: usize = 16 * 512;
+
+const TEXT: usize = 16 * 496 * 96;
+
 // Whether the listing ends here, and the place of the block that comes next.
 struct Next {
     ends: bool,
@@ -15,8 +20,8 @@ struct Next {
 
 // Lists all blocks of the input. A proved loop has to end, and nothing says that an input does: it ends after 2^60 blocks, which no run has.
 pub(crate) fn list_all() {
-    let mut piece = [0u8; 8192];
-    let mut text = [0u8; 761856];
+    let mut piece = [0u8; PIECE];
+    let mut text = [0u8; TEXT];
     let mut words = [0u64; 496];
     let mut place = 0;
     while place < 1 << 60 {

@@ -1,8 +1,9 @@
 -- `block_at` meets its contract. Assumes nothing.
-use mathlib.Core.Path.{_≡_, sym, ap, _∙_}
-use Prim.Native.Nat.{ℕ, _+_, _-_, _≤_}
+use mathlib.Core.Path.{sym, _∙_}
+use Prim.Native.Nat.{_-_, _≤_}
+use native.Mathlib.Nat.{add-sub-cancel-left}
 use native.Mathlib.Omega.{arith}
-use lib.ListN.{length, take, drop, length-drop}
+use lib.ListN.{length, drop, length-drop}
 use lib.Seq.{take-all}
 use borrow.Author.Needs.{needs}
 use Rattle.lister.proofs.runs.block_at.Statement.{statement}
@@ -42,10 +43,7 @@ part-result-end-2 : tie.Need-part-result-end-2
 part-result-end-2 c = search needs
 
 returns-2 : tie.Need-returns-2
-returns-2 c =
-    let s = c .before .before in
-    let k : s .args .i + 512 - s .args .i ≡ 512 = omega arith in
-    ap (λ (n : ℕ). take n (drop (s .args .i) (s .args .piece .now))) k
+returns-2 c = simp add-sub-cancel-left
 
 pub block-at-spec : {M : Type 1} → statement M
 block-at-spec =

@@ -11,3 +11,5 @@ pub mod Listed
 pub mod ReadOut
 -- the texts of a run's blocks, one after another
 pub mod Gathered
+-- a run at its edges: no bytes, a short last piece, pieces one after another
+pub mod Edges

@@ -6,8 +6,7 @@ use native.Mathlib.Omega.{arith}
 use lib.ListN.{length, drop, length-append, length-drop, drop-of-length-le}
 use lib.Seq.{take-all, take-append-le, drop-append-le}
 use Rattle.bounds.specs.declared.refusal.Refusal.{Refusal}
-use Rattle.bounds.specs.declared.refusal.Verdict.{Verdict}
-use Rattle.bounds.specs.Refusals.{through, refused}
+use Rattle.bounds.proofs.Verdicts.{refused-as}
 use Rattle.sheet.proofs.Passing.{other-size}
 use Rattle.lister.specs.Listing.{most, ListsBlock, ListsBlocks, none, some}
 use Rattle.lister.specs.Text.{IsRefusedLine}
@@ -20,8 +19,7 @@ nothing-listed (some t h x r) = absurd (omega arith)
 -- a short piece is refused 7
 short-block : (block : List ℕ) (i : ℕ) (t : List ℕ) → length block < 512 → ListsBlock block i t → IsRefusedLine i Refusal.Size t
 unfolding ListsBlock
-short-block block i t h (through e x) = let z : _≡_ {A = ℕ} 0 1 = cc (other-size block most (λ (q : length block ≡ 512). omega arith)) in absurd (omega arith)
-short-block block i t h (refused {q = q} e x) = subst (λ (q : Refusal). IsRefusedLine i q t) (cc (other-size block most (λ (q : length block ≡ 512). omega arith))) x
+short-block block i t h x = refused-as Refusal.Size (sym (other-size block most (λ (q : length block ≡ 512). omega arith))) x
 
 pub short-listed : {bytes : List ℕ} {i : ℕ} {t : List ℕ} → 0 < length bytes → length bytes < 512 → ListsBlocks bytes i t → IsRefusedLine i Refusal.Size t
 short-listed h l none = absurd (omega arith)

@@ -13,3 +13,5 @@ pub mod ReadOut
 pub mod Gathered
 -- a run at its edges: no bytes, a short last piece, pieces one after another
 pub mod Edges
+-- a run has one listing
+pub mod OneOutcome

@@ -26,7 +26,7 @@ slice-aggregate-list-piece-3 c = sym (c .before .before .before .before .loop .i
 
 list-piece-requires : tie.Need-list-piece-requires Inv-loop μ-loop
 list-piece-requires c κs = let i = c .before .before .before .before .loop .inv in
-    (i .2, i .3, i .4, c .before .before .before .loop-test .taken)
+    (i .2, i .3, i .4, omega (arith, c .before .before .before .loop-test .taken))
 
 returns : tie.Need-returns Inv-loop μ-loop
 returns c = tt

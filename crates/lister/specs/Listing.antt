@@ -1,6 +1,7 @@
--- What the lister prints for a block (paper 01, "The lister").
-use mathlib.Core.List.{List}
-use Prim.Native.Nat.{ℕ}
+-- What the lister prints for a block, and for a run of blocks (paper 01, "The lister").
+use mathlib.Core.List.{List, [], _++_}
+use Prim.Native.Nat.{ℕ, suc, _+_, _/_, _<_}
+use lib.ListN.{length, take, drop}
 use Rattle.bounds.specs.Refusals.{Decided}
 use Rattle.sheet.specs.Layout.{width, blockNumber, words}
 use Rattle.sheet.specs.Reads.{blockTest}
@@ -13,3 +14,13 @@ most = 496
 -- A line for each of the block's words, or `block I refused N` with I its place in the input.
 unfoldable pub ListsBlock : List ℕ → ℕ → List ℕ → Type 0
 ListsBlock block i t = Decided (blockTest block most) (λ q. IsRefusedLine i q t) (AreLines (blockNumber block) (width block) 0 (words block) t)
+
+-- How many blocks so many bytes are, a short last piece being one.
+abbrev pub blocks : ℕ → ℕ
+blocks n = (n + 511) / 512
+
+-- Where there are no bytes, nothing; else what is printed for the first 512 of them, or for all if they are fewer, as a block at place i, and then
+-- for the others, from place i + 1 on.
+pub data ListsBlocks : List ℕ → ℕ → List ℕ → Type 0 where
+  none : {i : ℕ} → ListsBlocks [] i []
+  some : {bytes u : List ℕ} {i : ℕ} (t : List ℕ) → 0 < length bytes → ListsBlock (take 512 bytes) i t → ListsBlocks (drop 512 bytes) (suc i) u → ListsBlocks bytes i (t ++ u)

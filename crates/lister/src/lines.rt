@@ -3,6 +3,7 @@ use crate::text::put_byte;
 use crate::text::put_decimal;
 use crate::text::put_digits;
 use crate::text::put_signed;
+use crate::text::put_text;
 use bounds::refusal::Refusal;
 use bounds::width::Width;
 use whole::taking::Taking;
@@ -11,7 +12,7 @@ use whole::taking::take_whole;
 ghost use Prim.Native.Nat.{_+_, _≤_};
 ghost use lib.ListN.{length};
 ghost use Rattle.lister.specs.Puts.{Puts, PutsSome};
-ghost use Rattle.lister.specs.Text.{nar, over, refusalText, IsShown, IsField, IsWordText, IsLine};
+ghost use Rattle.lister.specs.Text.{refusalText, IsShown, IsField, IsWordText, IsLine};
 
 // The line of one word.
 pub(crate) fn put_line(
@@ -67,26 +68,7 @@ fn put_refusal(out: &mut [u8], at: usize, q: Refusal) -> usize
     ensures { λ r. ⌜ Puts (now (out .entry)) at (refusalText q) (now (out .exit)) r ⌝ }
 {
     if q.number() == 5 {
-        return put_over(out, at);
+        return put_text(out, at, b"over");
     }
-    put_nar(out, at)
-}
-
-fn put_nar(out: &mut [u8], at: usize) -> usize
-    requires { ⌜ at + 21 ≤ length (now out) ⌝ }
-    ensures { λ r. ⌜ Puts (now (out .entry)) at nar (now (out .exit)) r ⌝ }
-{
-    let n = put_byte(out, at, 0x6e);
-    let a = put_byte(out, n, 0x61);
-    put_byte(out, a, 0x72)
-}
-
-fn put_over(out: &mut [u8], at: usize) -> usize
-    requires { ⌜ at + 21 ≤ length (now out) ⌝ }
-    ensures { λ r. ⌜ Puts (now (out .entry)) at over (now (out .exit)) r ⌝ }
-{
-    let o = put_byte(out, at, 0x6f);
-    let v = put_byte(out, o, 0x76);
-    let e = put_byte(out, v, 0x65);
-    put_byte(out, e, 0x72)
+    put_text(out, at, b"nar")
 }

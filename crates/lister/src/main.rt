@@ -3,6 +3,7 @@ mod blocks;
 mod lines;
 mod pieces;
 mod reading;
+mod runs;
 mod text;
 
 use crate::pieces::list_all;

@@ -1,32 +1,28 @@
 // Filling a lent buffer from standard input, in as many pieces as it comes.
 use libc::STDIN_FILENO;
+ghost use mathlib.Core.Path.{_≡_};
+ghost use mathlib.Core.Bool.{false};
 ghost use Prim.Native.Nat.{_+_, _≤_, _<_};
 ghost use lib.ListN.{length};
 
-// How many bytes there are, and whether the input ended there.
+// How many bytes there are, and whether the input ends with them; else the buffer is full.
 pub(crate) struct Filled {
     pub(crate) count: usize,
-    pub(crate) is_last: bool,
+    pub(crate) ends: bool,
 }
 
 pub(crate) fn fill(buf: &mut [u8]) -> Filled
-    ensures { λ r. ⌜ r .count ≤ length (now (buf .exit)) ⌝ }
+    ensures { λ r. ⌜ (r .count ≤ length (now (buf .exit))) × (r .ends ≡ false → r .count ≡ length (now (buf .exit))) ⌝ }
 {
     let mut count = 0;
     while count < buf.len() {
         let got = read_at(buf, count);
         if got == 0 {
-            return Filled {
-                count,
-                is_last: true,
-            };
+            return Filled { count, ends: true };
         }
         count += got;
     }
-    Filled {
-        count,
-        is_last: false,
-    }
+    Filled { count, ends: false }
 }
 
 // One read behind what is there. A read that fails is told on standard error, and ends the input as its end does.

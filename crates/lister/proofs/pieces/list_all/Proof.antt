@@ -1,39 +1,48 @@
--- `list_all` is safe and ends. The measure is the number of turns that are left. Assumes nothing.
-use Prim.Native.Nat.{_≤_, _^_}
+-- `list_all` is safe and ends. The measure is the number of places that are left. Assumes nothing.
+use mathlib.Core.Path.{_≡_, refl, sym, _∙_}
+use Prim.Native.Nat.{ℕ, _-_, _%_, _^_, _≤_, zero-le}
 use native.Mathlib.Omega.{arith}
-use native.Mathlib.Nat.{le-refl}
+use lib.ListN.{length, length-replicate}
 use Rattle.lister.proofs.pieces.list_all.Statement.{statement}
 use Rattle.lister.proofs.pieces.list_all.Tie as tie
 
 abbrev Inv-loop : tie.InvT-loop
-Inv-loop all turns₀ turns = turns ≤ 2 ^ 48
+Inv-loop piece₀ text₀ words₀ place₀ piece text words place = (place ≤ 2 ^ 60) × (place % 16 ≡ 0) × (length piece ≡ 8192) × (length text ≡ 761856) × (length words ≡ 496)
 
 abbrev μ-loop : tie.MeasureT-loop
-μ-loop all turns₀ turns = turns
+μ-loop piece₀ text₀ words₀ place₀ piece text words place = 2 ^ 60 - place
 
 loop-holds : tie.Need-loop-holds Inv-loop μ-loop
-loop-holds c = le-refl _
+loop-holds c = (zero-le, refl, length-replicate {A = ℕ} 8192 0, length-replicate {A = ℕ} 761856 0, length-replicate {A = ℕ} 496 0)
 
-sub-list-piece : tie.Need-sub-list-piece Inv-loop μ-loop
-sub-list-piece c = c .before .loop .inv
+slice-aggregate-list-piece : tie.Need-slice-aggregate-list-piece Inv-loop μ-loop
+slice-aggregate-list-piece c = sym (c .before .before .loop .inv .2)
 
-mul-list-piece : tie.Need-mul-list-piece Inv-loop μ-loop
-mul-list-piece c = record { fits = omega (arith, c .before .loop .inv) }
+slice-aggregate-list-piece-2 : tie.Need-slice-aggregate-list-piece-2 Inv-loop μ-loop
+slice-aggregate-list-piece-2 c = sym (c .before .before .before .loop .inv .3)
+
+slice-aggregate-list-piece-3 : tie.Need-slice-aggregate-list-piece-3 Inv-loop μ-loop
+slice-aggregate-list-piece-3 c = sym (c .before .before .before .before .loop .inv .4)
 
 list-piece-requires : tie.Need-list-piece-requires Inv-loop μ-loop
-list-piece-requires c κs = omega (arith, c .before .loop .inv)
-
-sub-turns : tie.Need-sub-turns Inv-loop μ-loop
-sub-turns c = omega arith
-
-loop-less : tie.Need-loop-less Inv-loop μ-loop
-loop-less c = omega arith
-
-loop-again : tie.Need-loop-again Inv-loop μ-loop
-loop-again c = omega (arith, c .before .before .before .loop .inv)
+list-piece-requires c κs = let i = c .before .before .before .before .loop .inv in
+    (i .2, i .3, i .4, omega (arith, c .before .before .before .loop-test .taken))
 
 returns : tie.Need-returns Inv-loop μ-loop
 returns c = tt
+
+loop-less : tie.Need-loop-less Inv-loop μ-loop
+loop-less c =
+    let p = c .before .before .before .before .list-piece .ensures (c .if1 .left) in
+    omega (arith, p, c .before .before .before .before .before .before .before .before .loop-test .taken)
+
+loop-again : tie.Need-loop-again Inv-loop μ-loop
+loop-again c =
+    let i = c .before .before .before .before .before .before .before .before .before .loop .inv in
+    let l = c .before .before .before .before .list-piece in
+    let p = l .ensures (c .if1 .left) in
+    let less = c .before .before .before .before .before .before .before .before .loop-test .taken in
+    (omega (arith, p, i .1, less), omega (arith, p, i .1), l .kept .0 ∙ i .2, l .kept .1 .0 ∙ i .3, l .kept .1 .1 .0 ∙ i .4)
 
 returns-2 : tie.Need-returns-2 Inv-loop μ-loop
 returns-2 c = tt
@@ -45,11 +54,11 @@ list-all-spec =
     Inv-loop
     μ-loop
     loop-holds
-    sub-list-piece
-    mul-list-piece
+    slice-aggregate-list-piece
+    slice-aggregate-list-piece-2
+    slice-aggregate-list-piece-3
     list-piece-requires
-    sub-turns
+    returns
     loop-less
     loop-again
-    returns
     returns-2)

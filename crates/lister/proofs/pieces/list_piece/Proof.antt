@@ -1,60 +1,84 @@
--- `list_piece` is safe: the bytes that were read are those that are listed. Assumes nothing.
-use mathlib.Core.Path.{refl, sym}
+-- `list_piece` meets its contract: what is listed are the bytes that were read, and a full piece has 16 blocks. Assumes nothing.
+use mathlib.Core.Path.{sym}
+use mathlib.Core.Bool.{true≢false}
+use Prim.Native.Nat.{_≤_}
 use native.Mathlib.Omega.{arith}
+use lib.ListN.{length, take}
 use lib.Seq.{length-take-le}
 use borrow.Author.Needs.{needs}
+use Rattle.lister.specs.Listing.{most}
+use Rattle.lister.specs.Puts.{PutsSome}
+use Rattle.lister.proofs.Placed as Placed
 use Rattle.lister.proofs.pieces.list_piece.Statement.{statement}
 use Rattle.lister.proofs.pieces.list_piece.Tie as tie
-
-large-buffer-requires : tie.Need-large-buffer-requires
-large-buffer-requires c κs = search needs
-
-large-buffer-requires-2 : tie.Need-large-buffer-requires-2
-large-buffer-requires-2 c κs = search needs
-
-slice-aggregate-fill : tie.Need-slice-aggregate-fill
-slice-aggregate-fill c = search needs
 
 fill-requires : tie.Need-fill-requires
 fill-requires c κs = search needs
 
-array-share-prefix-piece : tie.Need-array-share-prefix-piece
-array-share-prefix-piece c = search needs
+slice-reshare-prefix-put-blocks : tie.Need-slice-reshare-prefix-put-blocks
+slice-reshare-prefix-put-blocks c = search needs
 
-slice-aggregate-list-blocks : tie.Need-slice-aggregate-list-blocks
-slice-aggregate-list-blocks c = sym (length-take-le _ _ (c .before .before .fill .ensures))
+slice-aggregate-put-blocks : tie.Need-slice-aggregate-put-blocks
+slice-aggregate-put-blocks c = sym (length-take-le _ _ (c .before .before .before .before .before .fill .ensures .0))
 
-slice-aggregate-list-blocks-2 : tie.Need-slice-aggregate-list-blocks-2
-slice-aggregate-list-blocks-2 c = search needs
+put-blocks-requires : tie.Need-put-blocks-requires
+unfolding most
+put-blocks-requires c κs =
+    let s = c .before .before .before .before .before .before .before .before .before .before in
+    let f = c .before .before .before .before .before .fill in
+    let read = length-take-le (f .result .count) (f .last .0) (f .ensures .0) in
+    let few : length (take (f .result .count) (f .last .0)) ≤ 8192 = omega (arith, f .kept .0, s .pre .0) in
+    (s .pre .2, omega (arith, s .pre .1), omega (arith, s .pre .3))
 
-slice-aggregate-list-blocks-3 : tie.Need-slice-aggregate-list-blocks-3
-slice-aggregate-list-blocks-3 c = search needs
+write-out-requires : tie.Need-write-out-requires
+unfolding PutsSome
+write-out-requires c κs =
+    let p = c .before .before .before .before .before .put-blocks .ensures .0 .2 in
+    omega (arith, p .place, p .room, Placed.same-length _ _ _ _ _ p)
 
-list-blocks-requires : tie.Need-list-blocks-requires
-list-blocks-requires c κs =
-    let f = c .before .before .before .before .fill in
-    let s = c .before .before .before .before .before .before .before .before in
-    let read = length-take-le (f .result .count) (f .last .0) (f .ensures) in
-    (omega (arith, read, f .ensures, f .kept .0, c .before .before .before .before .before .before .before .large-buffer .ensures), sym (c .before .before .before .before .before .before .large-buffer2 .ensures), refl, s .pre)
+same-length : tie.Need-same-length
+same-length c = search needs
+
+same-length-2 : tie.Need-same-length-2
+same-length-2 c = search needs
+
+same-length-3 : tie.Need-same-length-3
+same-length-3 c = search needs
 
 returns : tie.Need-returns
-returns c = search needs
+returns c e =
+    let s = c .before .before .before .before .before .before .before .before .before .before .before .before .before .before .before .before .before .before in
+    let f = c .before .before .before .before .before .before .before .before .before .before .before .before .before .fill in
+    let p = c .before .before .before .before .before .before .before .put-blocks .ensures .1 in
+    let read = length-take-le (f .result .count) (f .last .0) (f .ensures .0) in
+    omega (arith, p, f .ensures .1 e, f .kept .0, s .pre .0)
+
+same-length-4 : tie.Need-same-length-4
+same-length-4 c = search needs
+
+same-length-5 : tie.Need-same-length-5
+same-length-5 c = search needs
+
+same-length-6 : tie.Need-same-length-6
+same-length-6 c = search needs
 
 returns-2 : tie.Need-returns-2
-returns-2 c = search needs
+returns-2 c e = absurd (true≢false e)
 
 pub list-piece-spec : {M : Type 1} → statement M
 list-piece-spec =
     tie.close
     (tie.spec
-    large-buffer-requires
-    large-buffer-requires-2
-    slice-aggregate-fill
     fill-requires
-    array-share-prefix-piece
-    slice-aggregate-list-blocks
-    slice-aggregate-list-blocks-2
-    slice-aggregate-list-blocks-3
-    list-blocks-requires
+    slice-reshare-prefix-put-blocks
+    slice-aggregate-put-blocks
+    put-blocks-requires
+    write-out-requires
+    same-length
+    same-length-2
+    same-length-3
     returns
+    same-length-4
+    same-length-5
+    same-length-6
     returns-2)

@@ -1,5 +1,6 @@
 -- `fill` is safe and ends: each turn adds to the count, which never passes the buffer's end. Assumes nothing.
 use mathlib.Core.Path.{_≡_, refl}
+use mathlib.Core.Bool.{true≢false}
 use Prim.Native.Nat.{_-_, _≤_, zero-le}
 use native.Mathlib.Nat.{pos-of-ne-zero}
 use native.Mathlib.Omega.{arith}
@@ -24,7 +25,7 @@ same-length : tie.Need-same-length Inv-loop μ-loop
 same-length c = search needs
 
 returns : tie.Need-returns Inv-loop μ-loop
-returns c = search needs
+returns c = (search needs, λ e. absurd (true≢false e))
 
 add-count : tie.Need-add-count Inv-loop μ-loop
 add-count c = search needs
@@ -40,7 +41,7 @@ same-length-2 : tie.Need-same-length-2 Inv-loop μ-loop
 same-length-2 c = search needs
 
 returns-2 : tie.Need-returns-2 Inv-loop μ-loop
-returns-2 c = search needs
+returns-2 c = (search needs, λ e. search needs)
 
 pub fill-spec : {M : Type 1} → statement M
 fill-spec =

@@ -1,0 +1,44 @@
+// The text of a run of blocks: of each in order, with its own place in the input.
+use crate::blocks::put_block;
+ghost use mathlib.Core.Path.{_≡_};
+ghost use Prim.Native.Nat.{_+_, _*_, _≤_, _<_, _^_};
+ghost use lib.ListN.{length, take, drop};
+ghost use Rattle.lister.specs.Listing.{most, blocks, ListsBlocks};
+ghost use Rattle.lister.specs.Puts.{PutsSome};
+
+// How long the text is, and the place of the block that comes after the run.
+pub(crate) struct Run {
+    pub(crate) length: usize,
+    pub(crate) place: u64,
+}
+
+// The text of all blocks of a piece, the first of them at this place. The last one may be short, and is refused then.
+pub(crate) fn put_blocks(out: &mut [u8], words: &mut [u64], piece: &[u8], place: u64) -> Run
+    requires { ⌜ (length (now words) ≡ most) × (47616 * blocks (length (now piece)) ≤ length (now out)) × (place + blocks (length (now piece)) < 2 ^ 64) ⌝ }
+    ensures { λ r. ⌜ PutsSome (ListsBlocks (now (piece .entry)) place) (now (out .entry)) 0 (now (out .exit)) (r .length) × (r .place ≡ place + blocks (length (now (piece .entry)))) ⌝ }
+{
+    let mut at = 0;
+    let mut i = 0;
+    let mut here = place;
+    while i < piece.len() {
+        at = put_block(out, at, words, block_at(piece, i), here);
+        i += 512;
+        here += 1;
+    }
+    Run {
+        length: at,
+        place: here,
+    }
+}
+
+// The block that begins at byte i: 512 bytes, or those that are left.
+fn block_at(piece: &[u8], i: usize) -> &[u8]
+    requires { ⌜ i ≤ length (now piece) ⌝ }
+    ensures { λ r. ⌜ now r ≡ take 512 (drop i (now (piece .entry))) ⌝ }
+{
+    if piece.len() - i < 512 {
+        return &piece[i..];
+    }
+    let end = i + 512;
+    &piece[i..end]
+}

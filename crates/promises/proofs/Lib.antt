@@ -1,7 +1,9 @@
 -- The promises, proved from what the other crates make public.
 pub mod Demands
 pub mod Evens
+pub mod FaceLaws
 pub mod FaceOutcomes
+pub mod FaceWords
 pub mod Figures
 pub mod Lines
 pub mod Numbers

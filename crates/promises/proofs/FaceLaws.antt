@@ -1,6 +1,6 @@
 -- The law of the face: a struct follows the lines that the answer follows, because a refusal is handed over by its number, with zeros. Assumes nothing.
 use mathlib.Core.Path.{_≡_, refl, sym, ap, _∙_, subst}
-use mathlib.Core.Bool.{Bool, true, false, false≢true}
+use mathlib.Core.Bool.{Bool, true, false}
 use mathlib.Core.List.{List, [], _∷_, _++_}
 use mathlib.Core.Logic.{inl, inr}
 use Prim.Native.Nat.{ℕ}
@@ -14,7 +14,7 @@ use Rattle.whole.specs.declared.taking.Taking.{Taking}
 use Rattle.takum.specs.declared.handed.HandedWord.{HandedWord}
 use Rattle.takum.specs.Handed.{HandsOver, ruleOf, takingOf, wordHanded}
 use Rattle.promises.specs.Refusals.{Line, line, FollowsUpTo, Follows}
-use Rattle.promises.specs.Face.{FieldFollows, Hands, HandsWord, NoneHolds}
+use Rattle.promises.specs.Face.{FieldFollows, HandsWord, NoneHolds}
 use Rattle.promises.proofs.WordRefusals.{rounded-strict}
 
 -- from one answer to its struct
@@ -25,21 +25,21 @@ handed-so R a refusal (line number When ∷ lines) Zeros Then zeros answer (inl 
 handed-so R a refusal (line number When ∷ lines) Zeros Then zeros answer (inr (h, x)) = inr (h, handed-so R a refusal lines Zeros Then zeros answer x)
 
 -- for any answers, structs and contract
-module _ {A H : Type 0} (R : Refusal → A) {handed : A → H} (refusal : H → ℕ) (Zeros Answer : H → Type 0) (lines : List Line) {Gives : A → Type 0} where
+module _ {A H : Type 0} (R : Refusal → A) {handed : A → H} (refusal : H → ℕ) (Zeros Then : H → Type 0) (lines : List Line) {Gives : A → Type 0} where
   pub hands :
-      ((q : Refusal) → (refusal (handed (R q)) ≡ numberOf q) × Zeros (handed (R q)))
-      → ((a : A) → Gives a → ((q : Refusal) → a ≡ R q → ⊥) → (refusal (handed a) ≡ 0) × Answer (handed a))
+      ((q : Refusal) → Gives (R q) → (refusal (handed (R q)) ≡ numberOf q) × Zeros (handed (R q)))
+      → ((a : A) → Gives a → ((q : Refusal) → a ≡ R q → ⊥) → Then (handed a))
       → ((a : A) → Gives a → Follows R a lines)
-      → (r : H) → HandsOver handed Gives r → Hands (refusal r) lines (Zeros r) (Answer r)
-  hands zeros answer follows r h = subst (λ (r : H). Hands (refusal r) lines (Zeros r) (Answer r)) (sym (h .is)) (by (h .answer) (h .given))
+      → (r : H) → HandsOver handed Gives r → FieldFollows (refusal r) lines (Zeros r) (Then r)
+  hands zeros then follows r h = subst (λ (r : H). FieldFollows (refusal r) lines (Zeros r) (Then r)) (sym (h .is)) (by (h .answer) (h .given))
     where
-      by : (a : A) → Gives a → Hands (refusal (handed a)) lines (Zeros (handed a)) (Answer (handed a))
-      by a x = handed-so R a _ lines _ _ (λ q e. subst (λ (b : A). (refusal (handed b) ≡ numberOf q) × Zeros (handed b)) (sym e) (zeros q)) (answer a x) (follows a x)
+      by : (a : A) → Gives a → FieldFollows (refusal (handed a)) lines (Zeros (handed a)) (Then (handed a))
+      by a x = handed-so R a _ lines _ _ (λ q e. subst (λ (b : A). (refusal (handed b) ≡ numberOf q) × Zeros (handed b)) (sym e) (zeros q (subst Gives e x))) (then a x) (follows a x)
 
 -- a call that answers with a word
 module _ (lines : List Line) {Gives : Answer → Type 0} (Is : ℕ → Type 0) where
   pub word-hands : ((w : ℕ) → Gives (Answer.Word w) → Is w) → ((a : Answer) → Gives a → Follows Answer.Refused a lines) → (r : HandedWord) → HandsOver wordHanded Gives r → HandsWord lines Is r
-  word-hands is follows r h = hands Answer.Refused (λ r. r .refusal) (λ r. r .word ≡ 0) (λ r. Is (r .word)) lines (λ q. (refl, refl)) by follows r h
+  word-hands is follows r h = hands Answer.Refused (λ r. r .refusal) (λ r. r .word ≡ 0) (λ r. (r .refusal ≡ 0) × Is (r .word)) lines (λ q x. (refl, refl)) by follows r h
     where
       by : (a : Answer) → Gives a → ((q : Refusal) → a ≡ Answer.Refused q → ⊥) → (wordHanded a .refusal ≡ 0) × Is (wordHanded a .word)
       by (Answer.Word w) x none = (refl, is w x)

@@ -3,9 +3,8 @@ use mathlib.Core.Path.{_≡_, refl, sym, ap, _∙_, subst}
 use mathlib.Core.Bool.{Bool, true, false, false≢true}
 use mathlib.Core.List.{List, [], _∷_}
 use mathlib.Core.Logic.{_⊎_, inl, inr}
-use Prim.Native.Nat.{ℕ, _+_, _*_, _^_, _≤_, _<_}
+use Prim.Native.Nat.{ℕ, _*_, _^_}
 use native.Mathlib.Omega.{arith}
-use borrow.Author.Tests.{eqb-true}
 use lib.Ieee.{Float, nan, inf, fin, up, down, binary64, ofBits}
 use lib.IntN.{ℤ, pos, natAbs, _+ℤ_}
 use Rattle.bounds.specs.declared.answer.Answer.{Answer}
@@ -13,13 +12,11 @@ use Rattle.bounds.specs.declared.refusal.Refusal.{Refusal}
 use Rattle.bounds.specs.declared.refusal.Verdict.{Verdict}
 use Rattle.bounds.specs.Refusals.{widthTest, IsWord, Decided}
 use Rattle.bounds.specs.Widths.{narWord, GivesWord}
-use Rattle.bounds.proofs.Verdicts.{width-through, word-through, move-through, open-when, then-through}
+use Rattle.bounds.proofs.Verdicts.{width-through, word-through, move-through}
 use Rattle.word.specs.Takum.{Takum, real, NaR, takum}
 use Rattle.word.specs.Reads.{num, den}
 use Rattle.word.proofs.Values.{not-NaR}
-use Rattle.write.specs.declared.value.Rule.{Rule}
 use Rattle.write.specs.Writes.{IsExact, IsWritten, IsMoved, isNegative, Writes, Moves}
-use Rattle.whole.specs.declared.taking.Taking.{Taking}
 use Rattle.whole.specs.declared.taking.Whole.{Whole}
 use Rattle.whole.specs.Wholes.{IsWholePart, WritesWhole, TakesWhole}
 use Rattle.whole.proofs.InAndOut.{strictly-taken}
@@ -34,15 +31,15 @@ use Rattle.takum.specs.declared.handed.HandedNumber.{HandedNumber}
 use Rattle.takum.specs.Handed.{HandsOver, ruleOf, takingOf, wordHanded, wholeHanded, numberHanded}
 use Rattle.promises.specs.Demands.{TheNaRWord}
 use Rattle.promises.specs.Numbers.{IsWhole, AWordThatIsNotNaRGoesOutAsANumber}
-use Rattle.promises.specs.Refusals.{Line, FollowsUpTo, Follows, width, stray, nar, over, noWord, moveLines}
-use Rattle.promises.specs.Face.{Hands, HandsWord, inexact, IsGiven, IsNaR, HandsNaR, HandsValue, HandsWritten, HandsWholeWritten, HandsBinary64Written, HandsWhole, HandsNumber, wordLines, IsMovedTo, HandsMoved}
+use Rattle.promises.specs.Refusals.{Line, FollowsUpTo, Follows, width, stray, nar, over, moveLines}
+use Rattle.promises.specs.Face.{inexact, IsGiven, IsNaR, HandsNaR, HandsValue, HandsWritten, HandsWholeWritten, HandsBinary64Written, HandsWhole, HandsNumber, wordLines, IsMovedTo, HandsMoved}
 use Rattle.promises.proofs.Demands.{the-NaR-word}
 use Rattle.promises.proofs.FaceLaws.{hands, word-hands, unrefused, last-retold, flag-retold, takes-strictly}
 use Rattle.promises.proofs.FaceWords.{NaR-hands}
 use Rattle.promises.proofs.Lines.{width-tells, follow}
 use Rattle.promises.proofs.Numbers.{a-word-that-is-not-NaR-goes-out-as-a-number}
 use Rattle.promises.proofs.Refusals.{refusals-follow-the-table}
-use Rattle.promises.proofs.WordRefusals.{of-width, word-none, inexact-line}
+use Rattle.promises.proofs.WordRefusals.{word-none, inexact-line}
 
 -- ---- writing: the flag's rule gives what the flag asks for
 given : (strict : Bool) (n : ℕ) (s : Bool) (a b w : ℕ) → IsWritten n (ruleOf strict) s a b (Answer.Word w) → IsGiven strict n s a b w
@@ -108,7 +105,7 @@ taken-strictly false n w x y e = absurd (false≢true e)
 pub take-whole-hands : (n : ℕ) (strict : Bool) (w : ℕ) (r : HandedWhole) → HandsOver wholeHanded (TakesWhole n (takingOf strict) w) r → HandsWhole n strict w r
 unfolding HandsWhole
 take-whole-hands n strict w =
-    hands Whole.Refused (λ r. r .refusal) (λ r. r .whole ≡ pos 0) (λ r. Taken (r .whole)) lines (λ q. (refl, refl)) by
+    hands Whole.Refused (λ r. r .refusal) (λ r. r .whole ≡ pos 0) (λ r. (r .refusal ≡ 0) × Taken (r .whole)) lines (λ q x. (refl, refl)) by
     (λ a x. last-retold Whole.Refused a (width n ∷ stray n w ∷ nar n w ∷ over n w ∷ []) 4 _ _ (λ h. (takes-strictly strict (h .0), h .1)) (λ h. (ap takingOf (h .0), h .1)) (refusals-follow-the-table .take-whole n (takingOf strict) w a x))
   where
     lines : List Line
@@ -136,7 +133,7 @@ no-number n w i x = by (takum n w) refl
 
 pub take-binary64-hands : (n w : ℕ) (r : HandedNumber) → HandsOver numberHanded (taken.TakesBinary64 n w) r → HandsNumber n w r
 unfolding HandsNumber taken.TakesBinary64
-take-binary64-hands n w = hands Binary64.Refused (λ r. r .refusal) (λ r. (r .real ≡ false) × (r .number ≡ ofBits binary64 0)) Taken (width n ∷ stray n w ∷ []) (λ q. (refl, (refl, refl))) by (refusals-follow-the-table .take-binary64 n w)
+take-binary64-hands n w = hands Binary64.Refused (λ r. r .refusal) (λ r. (r .real ≡ false) × (r .number ≡ ofBits binary64 0)) (λ r. (r .refusal ≡ 0) × Taken r) (width n ∷ stray n w ∷ []) (λ q x. (refl, (refl, refl))) by (refusals-follow-the-table .take-binary64 n w)
   where
     Taken : HandedNumber → Type 0
     Taken r = ((r .real ≡ true) × taken.IsTaken (takum n w) (Binary64.Number (r .number))) ⊎ ((r .real ≡ false) × (r .number ≡ ofBits binary64 0) × (takum n w ≡ NaR))

@@ -1,5 +1,5 @@
 -- What the exported calls on lent slices hand over and leave there, from their contracts. Assumes nothing.
-use mathlib.Core.Path.{_≡_, refl, sym, ap, _∙_, subst}
+use mathlib.Core.Path.{_≡_, refl, sym, ap, subst}
 use mathlib.Core.Bool.{Bool}
 use mathlib.Core.List.{List, [], _∷_, _++_}
 use mathlib.Core.Logic.{_⊎_, inl, inr}
@@ -21,7 +21,7 @@ use Rattle.takum.specs.declared.handed.HandedColumn.{HandedColumn}
 use Rattle.takum.specs.Handed.{HandsOver, MovesTheColumn, ruleOf, columnHanded, blockHanded}
 use Rattle.promises.specs.Refusals.{Follows, width, room, size, mark, check, blockWidth, count, fill}
 use Rattle.promises.specs.Slices.{ARefusedBlockWritesNothing}
-use Rattle.promises.specs.Face.{FieldFollows, NoneHolds, wordLines, IsMovedTo, MovedAll, RefusedAtPosition, HandsColumn, HandsBlock}
+use Rattle.promises.specs.Face.{NoneHolds, wordLines, MovedAll, RefusedAtPosition, HandsColumn, HandsBlock}
 use Rattle.promises.proofs.FaceLaws.{handed-so, hands, unrefused, none-holds}
 use Rattle.promises.proofs.FaceNumbers.{moved-word, moved-follows}
 use Rattle.promises.proofs.Lines.{past, good-width}
@@ -66,32 +66,29 @@ module _ (n n' : ℕ) (strict : Bool) (words before after : List ℕ) where
 
   pub column-hands : (r : HandedColumn) → HandsOver columnHanded (MovesTheColumn n n' (ruleOf strict) words before after) r → HandsColumn n n' strict words before after r
   unfolding HandsColumn MovesTheColumn MovesColumn Holds
-  column-hands r h = subst (HandsColumn n n' strict words before after) (sym (h .is)) (by (h .answer) (h .given .0) (h .given .1))
+  column-hands = hands Column.Refused (λ r. r .refusal) (λ r. (r .position ≡ 0) × (r .moved ≡ 0) × (after ≡ before)) Tried (width n ∷ width n' ∷ room (length words) (length before) ∷ []) (λ q x. (refl, (refl, refl, x .1))) by (λ a x. refusals-follow-the-table .move-column n n' (ruleOf strict) words (length before) a (x .0))
     where
-      by : (a : Column) → MovesColumn n n' (ruleOf strict) words (length before) a → Holds n n' (ruleOf strict) words before a after → HandsColumn n n' strict words before after (columnHanded a)
-      by a x y = handed-so Column.Refused a _ (width n ∷ width n' ∷ room (length words) (length before) ∷ []) _ _ (λ q e. zeros q (subst (λ (b : Column). Holds n n' (ruleOf strict) words before b after) e y) e) answer (refusals-follow-the-table .move-column n n' (ruleOf strict) words (length before) a x)
-        where
-          zeros : (q : Refusal) → after ≡ before → a ≡ Column.Refused q → (columnHanded a .refusal ≡ numberOf q) × ((columnHanded a .position ≡ 0) × (columnHanded a .moved ≡ 0) × (after ≡ before))
-          zeros q kept e = subst (λ (b : Column). (columnHanded b .refusal ≡ numberOf q) × ((columnHanded b .position ≡ 0) × (columnHanded b .moved ≡ 0) × (after ≡ before))) (sym e) (refl, (refl, refl, kept))
+      Tried : HandedColumn → Type 0
+      Tried r = MovedAll n n' strict words before after r ⊎ RefusedAtPosition n n' strict words before after r
 
-          answer : ((q : Refusal) → a ≡ Column.Refused q → ⊥) → MovedAll n n' strict words before after (columnHanded a) ⊎ RefusedAtPosition n n' strict words before after (columnHanded a)
-          answer none =
-              let t = unrefused none x in
-              let u = then-through (widthTest n then widthTest n') (roomTest (length words) (length before)) (t .0) in
-              let v = then-through (widthTest n) (widthTest n') (u .0) in
-              tried a (v .0) (v .1) (t .1) y
+      by : (a : Column) → MovesTheColumn n n' (ruleOf strict) words before after a → ((q : Refusal) → a ≡ Column.Refused q → ⊥) → Tried (columnHanded a)
+      by a x none =
+          let t = unrefused none (x .0) in
+          let u = then-through (widthTest n then widthTest n') (roomTest (length words) (length before)) (t .0) in
+          let v = then-through (widthTest n) (widthTest n') (u .0) in
+          tried a (v .0) (v .1) (t .1) (x .1)
 
 -- ---- a block
 module _ (b before after : List ℕ) where
   pub block-hands : (r : HandedBlock) → HandsOver blockHanded (ReadsBlock b (length before)) r → FillsResults b before after → HandsBlock b before after r
   unfolding HandsBlock ReadsBlock FillsResults ARefusedBlockWritesNothing
-  block-hands r h f = subst (HandsBlock b before after) (sym (h .is)) (by (h .answer) (h .given))
+  block-hands r h f =
+      hands Block.Refused (λ r. r .refusal) (λ r. (r .width ≡ 0) × (r .number ≡ 0) × (r .count ≡ 0) × (after ≡ before)) Read
+      (size b ∷ mark b ∷ check b ∷ blockWidth b ∷ count b ∷ fill b ∷ room (block.count b) (length before) ∷ [])
+      (λ q x. (refl, (refl, refl, refl, a-refused-block-writes-nothing b before after q x f))) by (refusals-follow-the-table .read-block b (length before)) r h
     where
-      by : (a : Block) → ReadsBlock b (length before) a → HandsBlock b before after (blockHanded a)
-      by a x = handed-so Block.Refused a _ _ _ _ zeros answer (refusals-follow-the-table .read-block b (length before) a x)
-        where
-          zeros : (q : Refusal) → a ≡ Block.Refused q → (blockHanded a .refusal ≡ numberOf q) × ((blockHanded a .width ≡ 0) × (blockHanded a .number ≡ 0) × (blockHanded a .count ≡ 0) × (after ≡ before))
-          zeros q e = subst (λ (c : Block). (blockHanded c .refusal ≡ numberOf q) × ((blockHanded c .width ≡ 0) × (blockHanded c .number ≡ 0) × (blockHanded c .count ≡ 0) × (after ≡ before))) (sym e) (refl, (refl, refl, refl, a-refused-block-writes-nothing b before after q (subst (ReadsBlock b (length before)) e x) f))
+      Read : HandedBlock → Type 0
+      Read r = (r .refusal ≡ 0) × ((r .width ≡ block.width b) × (r .number ≡ block.blockNumber b) × (r .count ≡ block.count b) × (after ≡ block.words b ++ drop (block.count b) before))
 
-          answer : ((q : Refusal) → a ≡ Block.Refused q → ⊥) → (blockHanded a .refusal ≡ 0) × ((blockHanded a .width ≡ block.width b) × (blockHanded a .number ≡ block.blockNumber b) × (blockHanded a .count ≡ block.count b) × (after ≡ block.words b ++ drop (block.count b) before))
-          answer none = let t = unrefused none x in subst (λ (c : Block). (blockHanded c .refusal ≡ 0) × ((blockHanded c .width ≡ block.width b) × (blockHanded c .number ≡ block.blockNumber b) × (blockHanded c .count ≡ block.count b) × (after ≡ block.words b ++ drop (block.count b) before))) (sym (t .1)) (refl, (refl, refl, refl, answered (t .0) f))
+      by : (a : Block) → ReadsBlock b (length before) a → ((q : Refusal) → a ≡ Block.Refused q → ⊥) → Read (blockHanded a)
+      by a x none = let t = unrefused none x in subst (λ (c : Block). Read (blockHanded c)) (sym (t .1)) (refl, (refl, refl, refl, answered (t .0) f))

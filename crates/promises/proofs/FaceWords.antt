@@ -1,19 +1,19 @@
 -- What the exported calls on widths and words hand over, from their contracts. Assumes nothing.
 use mathlib.Core.Path.{_≡_, refl, sym, ap, _∙_, subst}
-use mathlib.Core.Bool.{Bool, true, false}
-use mathlib.Core.List.{List, [], _∷_}
+use mathlib.Core.Bool.{false}
+use mathlib.Core.List.{[], _∷_}
 use mathlib.Core.Logic.{inl, inr}
-use Prim.Native.Nat.{ℕ, _+_, _*_, _^_, _≤_, _<_}
+use Prim.Native.Nat.{ℕ, _*_, _^_, _≤_, _<_}
 use native.Mathlib.Decide.{decLt}
 use native.Mathlib.Omega.{arith}
-use lib.IntN.{ℤ, pos, natAbs, _+ℤ_}
+use lib.IntN.{pos, natAbs}
 use Rattle.bounds.specs.declared.answer.Answer.{Answer}
 use Rattle.bounds.specs.declared.refusal.Refusal.{Refusal}
 use Rattle.bounds.specs.declared.width.Limit.{Limit}
 use Rattle.bounds.specs.Refusals.{IsWord}
 use Rattle.bounds.specs.Widths.{largest, smallest, narWord, IsLimit, GivesWord, GivesLimit}
 use Rattle.bounds.proofs.Powers.{not-more}
-use Rattle.bounds.proofs.Verdicts.{width-through, word-through, words-through, move-through}
+use Rattle.bounds.proofs.Verdicts.{width-through, word-through, words-through}
 use Rattle.word.specs.declared.order.Comparison.{Comparison}
 use Rattle.word.specs.declared.reading.Reading.{Reading}
 use Rattle.word.specs.Takum.{Takum, real, NaR, takum, fractionBits}
@@ -31,7 +31,7 @@ use Rattle.takum.specs.Handed.{HandsOver, wordHanded, readingHanded, comparison
 use Rattle.promises.specs.Demands.{TheEndWords, TheNaRWord}
 use Rattle.promises.specs.Numbers.{IsWhole}
 use Rattle.promises.specs.Refusals.{width, stray}
-use Rattle.promises.specs.Face.{Hands, HandsWord, IsNaR, IsLargest, IsSmallest, CountsUpTo, HandsLargest, HandsSmallest, HandsNaR, HandsLimit, NoNumber, IsToldBy, HandsReading, orderOf, HandsComparison, HandsNegated}
+use Rattle.promises.specs.Face.{HandsWord, IsNaR, IsLargest, IsSmallest, CountsUpTo, HandsLargest, HandsSmallest, HandsNaR, HandsLimit, NoNumber, IsToldBy, HandsReading, orderOf, HandsComparison, HandsNegated}
 use Rattle.promises.proofs.Demands.{the-end-words, the-NaR-word}
 use Rattle.promises.proofs.FaceLaws.{hands, word-hands, unrefused}
 use Rattle.promises.proofs.Refusals.{refusals-follow-the-table}
@@ -67,7 +67,7 @@ counts n l lo hi i = (λ x h. every-whole-number-up-to-the-limit-has-a-word n l 
 
 pub limit-hands : (n : ℕ) (r : HandedLimit) → HandsOver limitHanded (GivesLimit n) r → HandsLimit n r
 unfolding HandsLimit GivesLimit
-limit-hands n = hands Limit.Refused (λ r. r .refusal) (λ r. r .limit ≡ 0) (λ r. CountsUpTo n (r .limit)) (width n ∷ []) (λ q. (refl, refl)) by (refusals-follow-the-table .limit n)
+limit-hands n = hands Limit.Refused (λ r. r .refusal) (λ r. r .limit ≡ 0) (λ r. (r .refusal ≡ 0) × CountsUpTo n (r .limit)) (width n ∷ []) (λ q x. (refl, refl)) by (refusals-follow-the-table .limit n)
   where
     by : (a : Limit) → GivesLimit n a → ((q : Refusal) → a ≡ Limit.Refused q → ⊥) → (limitHanded a .refusal ≡ 0) × CountsUpTo n (limitHanded a .limit)
     by (Limit.Count l) x none = let (h, (k, e, i)) = unrefused none x in let u = width-through n h in let same : k ≡ l = cc in (refl, subst (CountsUpTo n) same (counts n k (u .0) (u .1) i))
@@ -76,7 +76,7 @@ limit-hands n = hands Limit.Refused (λ r. r .refusal) (λ r. r .limit ≡ 0) (�
 -- ---- one word
 pub read-hands : (n w : ℕ) (r : HandedReading) → HandsOver readingHanded (Reads n w) r → HandsReading n w r
 unfolding HandsReading NoNumber IsToldBy IsReading Reads
-read-hands n w = hands Reading.Refused (λ r. r .refusal) (λ r. (r .kind ≡ 0) × NoNumber r) (IsToldBy n w) (width n ∷ stray n w ∷ []) (λ q. (refl, (refl, (refl, refl, refl, refl)))) (λ a x none. by a (unrefused none x .1)) (refusals-follow-the-table .read n w)
+read-hands n w = hands Reading.Refused (λ r. r .refusal) (λ r. (r .kind ≡ 0) × NoNumber r) (λ r. (r .refusal ≡ 0) × IsToldBy n w r) (width n ∷ stray n w ∷ []) (λ q x. (refl, (refl, (refl, refl, refl, refl)))) (λ a x none. by a (unrefused none x .1)) (refusals-follow-the-table .read n w)
   where
     by : (a : Reading) → IsReading (takum n w) (fractionBits n w) a → (readingHanded a .refusal ≡ 0) × IsToldBy n w (readingHanded a)
     by Reading.Zero x = (refl, inl (refl, x, (refl, refl, refl, refl)))
@@ -93,7 +93,7 @@ order-of-meanings n x y ix iy NaR NaR h k = ap (λ (v : ℕ). order (signed n x)
 
 pub compare-hands : (n x y : ℕ) (r : HandedComparison) → HandsOver comparisonHanded (Compares n x y) r → HandsComparison n x y r
 unfolding HandsComparison Compares
-compare-hands n x y = hands Comparison.Refused (λ r. r .refusal) (λ r. r .order ≡ pos 0) (λ r. r .order ≡ orderOf (takum n x) (takum n y)) (width n ∷ stray n x ∷ stray n y ∷ []) (λ q. (refl, refl)) by (refusals-follow-the-table .compare n x y)
+compare-hands n x y = hands Comparison.Refused (λ r. r .refusal) (λ r. r .order ≡ pos 0) (λ r. (r .refusal ≡ 0) × (r .order ≡ orderOf (takum n x) (takum n y))) (width n ∷ stray n x ∷ stray n y ∷ []) (λ q x. (refl, refl)) by (refusals-follow-the-table .compare n x y)
   where
     by : (a : Comparison) → Compares n x y a → ((q : Refusal) → a ≡ Comparison.Refused q → ⊥) → (comparisonHanded a .refusal ≡ 0) × (comparisonHanded a .order ≡ orderOf (takum n x) (takum n y))
     by (Comparison.Is o) z none = let t = unrefused none z in let u = words-through n x y (t .0) in let e : o ≡ order (signed n x) (signed n y) = cc in (refl, e ∙ order-of-meanings n x y (u .0) (u .1) _ _ refl refl)

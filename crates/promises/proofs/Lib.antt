@@ -1,7 +1,12 @@
 -- The promises, proved from what the other crates make public.
 pub mod Demands
 pub mod Evens
+pub mod Face
+pub mod FaceLaws
+pub mod FaceNumbers
 pub mod FaceOutcomes
+pub mod FaceSlices
+pub mod FaceWords
 pub mod Figures
 pub mod Letter
 pub mod Lines

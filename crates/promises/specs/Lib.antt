@@ -1,5 +1,6 @@
 -- What is promised, as statements that a reader can hold against the letter and paper 01.
 pub mod Demands
+pub mod Face
 pub mod Figures
 pub mod Letter
 pub mod Numbers

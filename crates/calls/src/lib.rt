@@ -1,0 +1,122 @@
+// Every exported call, called as a reader calls it: the contract here is what is promised of the struct that it hands over, and the proof has only the
+// exported function's contract to go by.
+use takum::columns::takum_move_column;
+use takum::columns::takum_read_block;
+use takum::handed::HandedBlock;
+use takum::handed::HandedColumn;
+use takum::handed::HandedComparison;
+use takum::handed::HandedLimit;
+use takum::handed::HandedNumber;
+use takum::handed::HandedReading;
+use takum::handed::HandedWhole;
+use takum::handed::HandedWord;
+use takum::numbers::takum_take_binary64;
+use takum::numbers::takum_take_whole;
+use takum::numbers::takum_write_binary64;
+use takum::numbers::takum_write_whole;
+use takum::widths::takum_largest;
+use takum::widths::takum_limit;
+use takum::widths::takum_nar;
+use takum::widths::takum_smallest;
+use takum::words::takum_compare;
+use takum::words::takum_move;
+use takum::words::takum_negate;
+use takum::words::takum_read;
+use takum::words::takum_write;
+ghost use Rattle.promises.specs.Face.{HandsLargest, HandsSmallest, HandsNaR, HandsLimit, HandsReading, HandsComparison, HandsNegated, HandsWritten, HandsMoved, HandsWholeWritten, HandsWhole, HandsBinary64Written, HandsNumber, HandsColumn, HandsBlock};
+
+pub fn call_largest(n: u32) -> HandedWord
+    ensures { λ r. ⌜ HandsLargest n r ⌝ }
+{
+    takum_largest(n)
+}
+
+pub fn call_smallest(n: u32) -> HandedWord
+    ensures { λ r. ⌜ HandsSmallest n r ⌝ }
+{
+    takum_smallest(n)
+}
+
+pub fn call_nar(n: u32) -> HandedWord
+    ensures { λ r. ⌜ HandsNaR n r ⌝ }
+{
+    takum_nar(n)
+}
+
+pub fn call_limit(n: u32) -> HandedLimit
+    ensures { λ r. ⌜ HandsLimit n r ⌝ }
+{
+    takum_limit(n)
+}
+
+pub fn call_read(n: u32, word: u64) -> HandedReading
+    ensures { λ r. ⌜ HandsReading n word r ⌝ }
+{
+    takum_read(n, word)
+}
+
+pub fn call_compare(n: u32, x: u64, y: u64) -> HandedComparison
+    ensures { λ r. ⌜ HandsComparison n x y r ⌝ }
+{
+    takum_compare(n, x, y)
+}
+
+pub fn call_negate(n: u32, word: u64) -> HandedWord
+    ensures { λ r. ⌜ HandsNegated n word r ⌝ }
+{
+    takum_negate(n, word)
+}
+
+pub fn call_write(n: u32, strict: bool, negative: bool, m: u64, k: i32) -> HandedWord
+    ensures { λ r. ⌜ HandsWritten n strict negative m k r ⌝ }
+{
+    takum_write(n, strict, negative, m, k)
+}
+
+pub fn call_move(from: u32, to: u32, strict: bool, word: u64) -> HandedWord
+    ensures { λ r. ⌜ HandsMoved from to strict word r ⌝ }
+{
+    takum_move(from, to, strict, word)
+}
+
+pub fn call_write_whole(n: u32, strict: bool, x: i64) -> HandedWord
+    ensures { λ r. ⌜ HandsWholeWritten n strict x r ⌝ }
+{
+    takum_write_whole(n, strict, x)
+}
+
+pub fn call_take_whole(n: u32, strict: bool, word: u64) -> HandedWhole
+    ensures { λ r. ⌜ HandsWhole n strict word r ⌝ }
+{
+    takum_take_whole(n, strict, word)
+}
+
+pub fn call_write_binary64(n: u32, strict: bool, x: f64) -> HandedWord
+    ensures { λ r. ⌜ HandsBinary64Written n strict x r ⌝ }
+{
+    takum_write_binary64(n, strict, x)
+}
+
+pub fn call_take_binary64(n: u32, word: u64) -> HandedNumber
+    ensures { λ r. ⌜ HandsNumber n word r ⌝ }
+{
+    takum_take_binary64(n, word)
+}
+
+pub fn call_move_column(
+    from: u32,
+    to: u32,
+    strict: bool,
+    words: &[u64],
+    results: &mut [u64],
+) -> HandedColumn
+    ensures { λ r. ⌜ HandsColumn from to strict (now (words .entry)) (now (results .entry)) (now (results .exit)) r ⌝ }
+{
+    takum_move_column(from, to, strict, words, results)
+}
+
+pub fn call_read_block(block: &[u8], results: &mut [u64]) -> HandedBlock
+    ensures { λ r. ⌜ HandsBlock (now (block .entry)) (now (results .entry)) (now (results .exit)) r ⌝ }
+{
+    takum_read_block(block, results)
+}

@@ -1,0 +1,80 @@
+-- The promises that specs/Face.antt states of refusal numbers, lent memory and positions. Assumes nothing.
+use mathlib.Core.Path.{_≡_}
+use mathlib.Core.Bool.{Bool}
+use mathlib.Core.List.{List, [], _∷_}
+use mathlib.Core.Logic.{_⊎_, inl, inr}
+use Prim.Native.Nat.{ℕ, _<_}
+use native.Mathlib.Omega.{arith}
+use lib.ListN.{length, getD}
+use Rattle.bounds.specs.declared.refusal.Refusal.the-variants.{Width, Stray, NotReal, Inexact, Over, Room, Size, Mark, Check, Count, Fill}
+use Rattle.takum.specs.declared.handed.HandedColumn.{HandedColumn}
+use Rattle.promises.specs.Refusals.{Line, line}
+use Rattle.promises.specs.Face as promise
+use Rattle.promises.specs.Face.{FieldFollows, wordLines, MovedAll, RefusedAtPosition, HandsColumn, HandsBlock}
+
+pub refusal-numbers-are-1-to-11 : promise.RefusalNumbersAre1To11
+unfolding promise.RefusalNumbersAre1To11
+refusal-numbers-are-1-to-11 Width = (omega arith, omega arith)
+refusal-numbers-are-1-to-11 Stray = (omega arith, omega arith)
+refusal-numbers-are-1-to-11 NotReal = (omega arith, omega arith)
+refusal-numbers-are-1-to-11 Inexact = (omega arith, omega arith)
+refusal-numbers-are-1-to-11 Over = (omega arith, omega arith)
+refusal-numbers-are-1-to-11 Room = (omega arith, omega arith)
+refusal-numbers-are-1-to-11 Size = (omega arith, omega arith)
+refusal-numbers-are-1-to-11 Mark = (omega arith, omega arith)
+refusal-numbers-are-1-to-11 Check = (omega arith, omega arith)
+refusal-numbers-are-1-to-11 Count = (omega arith, omega arith)
+refusal-numbers-are-1-to-11 Fill = (omega arith, omega arith)
+
+-- whatever the first line that holds is, Refused is so; where none holds, Then is
+either : (refusal : ℕ) (lines : List Line) (Refused Then : Type 0) → FieldFollows refusal lines Refused Then → Refused ⊎ Then
+unfolding FieldFollows
+either refusal [] Refused Then x = inr x
+either refusal (line number When ∷ lines) Refused Then (inl x) = inl (x .2)
+either refusal (line number When ∷ lines) Refused Then (inr x) = either refusal lines Refused Then (x .1)
+
+-- ---- a column: refused as a whole, moved, or refused at a position
+module _ (n n' : ℕ) (strict : Bool) (words before after : List ℕ) (r : HandedColumn) (h : HandsColumn n n' strict words before after r) where
+  kept : (r .refusal ≡ 0 → ⊥) → after ≡ before
+  unfolding HandsColumn
+  kept some = by (either _ _ _ _ h)
+    where
+      at-position : ((r .moved ≡ 0) × (after ≡ before)) ⊎ ⊥ → after ≡ before
+      at-position (inl y) = y .1
+      at-position (inr y) = absurd y
+
+      by : ((r .position ≡ 0) × (r .moved ≡ 0) × (after ≡ before)) ⊎ (MovedAll n n' strict words before after r ⊎ RefusedAtPosition n n' strict words before after r) → after ≡ before
+      by (inl x) = x .2
+      by (inr (inl x)) = absurd (some (x .refusal))
+      by (inr (inr x)) = at-position (either _ _ _ _ (x .is))
+
+  -- the lines of a word are STRAY and INEXACT
+  of-a-word : RefusedAtPosition n n' strict words before after r → (r .refusal ≡ 2) ⊎ (r .refusal ≡ 4)
+  unfolding FieldFollows wordLines
+  of-a-word x = by (x .is)
+    where
+      by : FieldFollows (r .refusal) (wordLines n n' strict (getD words (r .position) 0)) ((r .moved ≡ 0) × (after ≡ before)) ⊥ → (r .refusal ≡ 2) ⊎ (r .refusal ≡ 4)
+      by (inl y) = inl (y .1)
+      by (inr (f, inl y)) = inr (y .1)
+      by (inr (f, inr y)) = absurd (y .1)
+
+  with-a-word : (r .position ≡ 0 → ⊥) → ((r .refusal ≡ 2) ⊎ (r .refusal ≡ 4)) × (r .position < length words)
+  unfolding HandsColumn
+  with-a-word some = by (either _ _ _ _ h)
+    where
+      by : ((r .position ≡ 0) × (r .moved ≡ 0) × (after ≡ before)) ⊎ (MovedAll n n' strict words before after r ⊎ RefusedAtPosition n n' strict words before after r) → ((r .refusal ≡ 2) ⊎ (r .refusal ≡ 4)) × (r .position < length words)
+      by (inl x) = absurd (some (x .0))
+      by (inr (inl x)) = absurd (some (x .position))
+      by (inr (inr x)) = (of-a-word x, x .inside)
+
+pub a-position-comes-only-with-a-words-refusal : promise.APositionComesOnlyWithAWordsRefusal
+unfolding promise.APositionComesOnlyWithAWordsRefusal
+a-position-comes-only-with-a-words-refusal = with-a-word
+
+pub refused-calls-write-nothing : promise.RefusedCallsWriteNothing
+unfolding promise.RefusedCallsWriteNothing HandsBlock
+refused-calls-write-nothing = (kept, λ b before after r h some. by (either _ _ _ _ h) some)
+  where
+    by : {R A B C D K : Type 0} → (A × B × C × K) ⊎ (R × D) → (R → ⊥) → K
+    by (inl x) some = x .3
+    by (inr x) some = absurd (some (x .0))

@@ -1,9 +1,11 @@
 -- The laws of binary64 in and out, one idea a file.
+pub mod Closest
 pub mod Comparisons
 pub mod Decisions
 pub mod Exactness
 pub mod Fractions
 pub mod Held
+pub mod Leading
 pub mod Negation
 pub mod OneOutcome
 pub mod Order
@@ -11,7 +13,6 @@ pub mod Patterns
 pub mod Raised
 pub mod RoundTrip
 pub mod Scaling
-pub mod Short
 pub mod Signs
 pub mod Specials
 pub mod Taken

@@ -2,11 +2,13 @@
 use mathlib.Core.Path.{_≡_, refl, subst}
 use mathlib.Core.Bool.{not}
 use Prim.Native.Nat.{ℕ, suc, _+_, _*_, _/_, _%_, _^_, _≤_, _<_, compare, Ordering, Ordering·lt, Ordering·eq, Ordering·gt}
+use native.Mathlib.Nat.{le-trans, le-div-iff-mul-le, div-lt-iff-lt-mul}
 use native.Mathlib.Omega.{arith}
 use lib.Arith.{lt-of-le-ne}
 use lib.Dec.{T, isLe, isEq, eqb, leb→le, nleb→lt, eqb→eq, eqb-refl}
 use lib.Ieee.{nearest}
-use lib.Ieee.Nearest.{closest}
+use lib.Ieee.Fits.{nearest-le}
+use lib.Ieee.Nearest.{closest, nearest-ge}
 
 -- q is a / b rounded
 pub data Rounds (a b q : ℕ) : Type 0 where
@@ -34,11 +36,8 @@ cut-rounded m = by (closest m (2 ^ 11)) (rounds m (2 ^ 11))
     by q (half h e) = omega (arith, h, e)
     by q (more h e) = omega (arith, h, e)
 
--- 53 digits are left, or 2^53
-pub closest-range : (m : ℕ) → 2 ^ 63 ≤ m → m < 2 ^ 64 → (2 ^ 52 ≤ closest m (2 ^ 11)) × (closest m (2 ^ 11) ≤ 2 ^ 53)
-closest-range m lo hi = by (closest m (2 ^ 11)) (rounds m (2 ^ 11))
-  where
-    by : (q : ℕ) → Rounds m (2 ^ 11) q → (2 ^ 52 ≤ q) × (q ≤ 2 ^ 53)
-    by q (less h e) = (omega (arith, lo, hi, e), omega (arith, lo, hi, e))
-    by q (half h e) = (omega (arith, lo, hi, e), omega (arith, lo, hi, e))
-    by q (more h e) = (omega (arith, lo, hi, e), omega (arith, lo, hi, e))
+-- of a fraction whose whole part has 53 digits as many are left, or 2^53
+pub closest-range : (a b : ℕ) → 0 < b → 2 ^ 52 * b ≤ a → a < 2 ^ 53 * b → (2 ^ 52 ≤ closest a b) × (closest a b ≤ 2 ^ 53)
+closest-range a b some lo hi =
+    let o = compare (a % b * 2) b in
+    (le-trans (le-div-iff-mul-le some .1 lo) (nearest-ge (a / b) o), le-trans (nearest-le (a / b) o) (div-lt-iff-lt-mul some .1 hi))

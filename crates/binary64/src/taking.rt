@@ -42,8 +42,8 @@ fn to_53_digits(m: u64) -> u64
     ensures { λ q. ⌜ q ≡ closest m (2 ^ 11) ⌝ }
 {
     let kept = m >> 11;
-    let cut = m & 0x7ff;
-    kept + ((cut + 0x3ff + (kept & 1)) >> 11)
+    let cut = m % 0x800;
+    kept + ((cut + 0x3ff + kept % 2) >> 11)
 }
 
 // The number m * 2^(j - 1023) with its sign. The cast, the scaling and the sign are exact: in every rounding mode they give the same number, and

@@ -4,6 +4,7 @@ pub mod Evens
 pub mod FaceOutcomes
 pub mod Figures
 pub mod Lines
+pub mod Nearest
 pub mod Numbers
 pub mod OneOutcome
 pub mod Refusals

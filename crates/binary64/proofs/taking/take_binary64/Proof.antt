@@ -6,6 +6,7 @@ use native.Mathlib.Omega.{arith}
 use borrow.Author.Needs.{needs, sfits-of}
 use lib.Dec.{T, lit≤}
 use lib.IntN.{ℤ, pos, natAbs, _+ℤ_}
+use lib.Pow.{pow-pos}
 use lib.Signed.{nonNeg, mag}
 use lib.Ieee.{Float, binary64, fits}
 use lib.Ieee.Exact.{HasValue}
@@ -137,7 +138,7 @@ to-53-digits-requires c κs = search needs
 number-requires : tie.Need-number-requires
 number-requires c κs =
     let k = c .before in
-    let range = subst (λ (q : ℕ). (2 ^ 52 ≤ q) × (q ≤ 2 ^ 53)) (sym (c .to-53-digits .ensures)) (closest-range (size k .m) (number k .low) (number k .high)) in
+    let range = subst (λ (q : ℕ). (2 ^ 52 ≤ q) × (q ≤ 2 ^ 53)) (sym (c .to-53-digits .ensures)) (closest-range (size k .m) (2 ^ 11) (pow-pos 11) (number k .low) (number k .high)) in
     (omega (arith, range .0), range .1, omega (arith, raised k, up k .3), omega (arith, raised k, up k .4))
 
 returns-4 : tie.Need-returns-4

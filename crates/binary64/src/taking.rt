@@ -32,6 +32,7 @@ pub fn take_binary64(width: Width, word: u64) -> Binary64
         return Binary64::NotReal;
     }
     let size = size_of(string);
+    // The lowest of 53 digits is 2^(h - 52).
     let j = (size.h + 971) as u64;
     Binary64::Number(number(size.negative, to_53_digits(size.m), j))
 }

@@ -1,7 +1,7 @@
 -- The nearest whole number to a fraction, a tie to the even one: by its remainder, and as the code gets it from a significand. Assumes nothing.
 use mathlib.Core.Path.{_≡_, refl, subst}
 use mathlib.Core.Bool.{not}
-use Prim.Native.Nat.{ℕ, suc, _+_, _*_, _/_, _%_, _^_, _≤_, _<_, compare, Ordering, Ordering·lt, Ordering·eq, Ordering·gt}
+use Prim.Native.Nat.{ℕ, suc, _+_, _-_, _*_, _/_, _%_, _^_, _≤_, _<_, compare, Ordering, Ordering·lt, Ordering·eq, Ordering·gt}
 use native.Mathlib.Nat.{le-trans, le-div-iff-mul-le, div-lt-iff-lt-mul}
 use native.Mathlib.Omega.{arith}
 use lib.Arith.{lt-of-le-ne}
@@ -27,14 +27,26 @@ rounds a b = by (compare x b) (leb→le x b) (nleb→lt x b) (eqb→eq x b) (λ 
     by Ordering·eq h k e n = half (e tt) refl
     by Ordering·gt h k e n = more (k tt) refl
 
--- a significand without its lowest eleven digits
-pub cut-rounded : (m : ℕ) → m / 2 ^ 11 + (m % 2 ^ 11 + 1023 + m / 2 ^ 11 % 2) / 2 ^ 11 ≡ closest m (2 ^ 11)
-cut-rounded m = by (closest m (2 ^ 11)) (rounds m (2 ^ 11))
+-- a significand without its lowest eleven digits, by its digits after the leading one
+pub cut-rounded : (m : ℕ) → 2 ^ 63 ≤ m → 2 ^ 52 + (m - 2 ^ 63 + 1023 + (m - 2 ^ 63) / 2 ^ 11 % 2) / 2 ^ 11 ≡ closest m (2 ^ 11)
+cut-rounded m long = by (closest m (2 ^ 11)) (rounds m (2 ^ 11))
   where
-    by : (q : ℕ) → Rounds m (2 ^ 11) q → m / 2 ^ 11 + (m % 2 ^ 11 + 1023 + m / 2 ^ 11 % 2) / 2 ^ 11 ≡ q
-    by q (less h e) = omega (arith, h, e)
-    by q (half h e) = omega (arith, h, e)
-    by q (more h e) = omega (arith, h, e)
+    d : ℕ
+    d = m - 2 ^ 63
+
+    whole : m / 2 ^ 11 ≡ 2 ^ 52 + d / 2 ^ 11
+    whole = omega (arith, long)
+
+    rest : m % 2 ^ 11 ≡ d % 2 ^ 11
+    rest = omega (arith, long)
+
+    last : m / 2 ^ 11 % 2 ≡ d / 2 ^ 11 % 2
+    last = omega (arith, whole)
+
+    by : (q : ℕ) → Rounds m (2 ^ 11) q → 2 ^ 52 + (d + 1023 + d / 2 ^ 11 % 2) / 2 ^ 11 ≡ q
+    by q (less h e) = omega (arith, whole, rest, h, e)
+    by q (half h e) = omega (arith, whole, rest, last, h, e)
+    by q (more h e) = omega (arith, whole, rest, h, e)
 
 -- of a fraction whose whole part has 53 digits as many are left, or 2^53
 pub closest-range : (a b : ℕ) → 0 < b → 2 ^ 52 * b ≤ a → a < 2 ^ 53 * b → (2 ^ 52 ≤ closest a b) × (closest a b ≤ 2 ^ 53)

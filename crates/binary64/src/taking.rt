@@ -40,11 +40,13 @@ pub fn take_binary64(width: Width, word: u64) -> Binary64
 // A significand of 64 digits rounded to its 53 leading ones, ties to even: one more where the eleven that are cut are above half, or are half
 // and the last one kept is 1. Up to width 57 they are zero. It is done in whole numbers, so that no rounding mode of the processor matters.
 fn to_53_digits(m: u64) -> u64
+    requires { ⌜ 2 ^ 63 ≤ m ⌝ }
     ensures { λ q. ⌜ q ≡ closest m (2 ^ 11) ⌝ }
 {
-    let kept = m >> 11;
-    let cut = m % 0x800;
-    kept + ((cut + 0x3ff + kept % 2) >> 11)
+    // The leading digit is left out, so that there is room for the sum.
+    let digits = m - (1 << 63);
+    let last = (digits >> 11) % 2;
+    (1 << 52) + ((digits + 0x3ff + last) >> 11)
 }
 
 // The number m * 2^(j - 1023) with its sign. The cast, the scaling and the sign are exact: in every rounding mode they give the same number, and

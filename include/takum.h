@@ -156,10 +156,12 @@ takum_word_answer takum_write_whole(uint32_t n, bool strict, int64_t x);
  * strict rule, INEXACT where the value isn't whole. */
 takum_whole_answer takum_take_whole(uint32_t n, bool strict, uint64_t word);
 
-/* The word for a double (binary64): NaN and both infinities give NaR, both zeros give zero. INEXACT by the strict rule. */
+/* The word for a double (binary64): NaN and both infinities give NaR, both zeros give zero. INEXACT by the strict rule. A signalling NaN raises the
+ * floating-point exception INVALID, as every comparison with it does. */
 takum_word_answer takum_write_binary64(uint32_t n, bool strict, double x);
 
-/* The double for a word: exactly its value up to width 57; from 58 on the nearest double, ties to even. Zero is positive zero. */
+/* The double for a word: exactly its value up to width 57; from 58 on the nearest double, ties to even, in every rounding mode. Zero is positive
+ * zero. No floating-point exception is raised: nothing is rounded by the processor. */
 takum_number_answer takum_take_binary64(uint32_t n, uint64_t word);
 
 /* Moves a column, each of the words as takum_move does: the first results are the moved words, in order, and the others stay as they were.

@@ -1,20 +1,18 @@
--- Up to width 57 nothing is rounded: the cast, the scaling and the number taken out are exact. Assumes nothing.
+-- Up to width 57 the number taken out is exactly the word's value. Assumes nothing.
 use mathlib.Core.Path.{_≡_, refl, sym, ap, _∙_, subst, subst₂}
 use mathlib.Core.Bool.{Bool, false}
 use Prim.Native.Nat.{ℕ, _+_, _-_, _*_, _^_, _≤_, _<_}
-use native.Mathlib.Nat.{mul-assoc, le-of-lt, lt-of-lt-of-le, ne-of-gt, ne-of-lt}
+use native.Mathlib.Nat.{le-of-lt, lt-of-lt-of-le, ne-of-gt, ne-of-lt}
 use native.Mathlib.Omega.{arith}
 use lib.Dec.{lit<}
 use lib.IntN.{ℤ, pos, natAbs}
 use lib.Pow.{pow-pos, pow-mono}
-use lib.Ieee.{Float, binary64, round, mul}
-use lib.Ieee.Back.{round-whole}
+use lib.Ieee.{Float, binary64, round}
 use lib.Ieee.Exact.{HasValue, round-exact}
 use lib.Ieee.Scale.{round-same}
 use Rattle.bounds.specs.Refusals.{IsWord}
 use Rattle.word.specs.Takum.{real, p, N, takum, fractionBits}
 use Rattle.word.specs.Reads.{signedSize}
-use Rattle.bounds.proofs.Powers.{pow-sum, shl-below}
 use Rattle.word.proofs.Readings.{Holds, holds}
 use Rattle.word.proofs.Values.{real-inj, not-NaR}
 use Rattle.word.proofs.Words.{Lies, at-zero, above, at-NaR, under, lies, takum-zero, takum-NaR}
@@ -22,23 +20,9 @@ use Rattle.write.specs.Writes.{isNegative}
 use Rattle.binary64.specs.declared.taking.Binary64.{Binary64}
 use Rattle.binary64.specs.Takes.{TakesBinary64}
 use Rattle.binary64.proofs.Values.{value-same}
-use Rattle.binary64.proofs.Scaling.{scaled}
+use Rattle.binary64.proofs.Scaling.{product-exact}
 use Rattle.binary64.proofs.Taken.{taken}
 use Rattle.binary64.proofs.Raised.{raise, same-size, number-sign}
-
--- ---- the operations
--- m, of no more than 53 digits, times 2^(j - 1023)
-product-exact : (s : Bool) (m j : ℕ) → m < 2 ^ 53 → j ≤ 1400 → HasValue (round binary64 s (m * 2 ^ j) (2 ^ 1023)) s (m * 2 ^ j) (2 ^ 1023)
-product-exact s m j short hi =
-    round-exact binary64 s (m * 2 ^ j) (2 ^ 1023) m (j + 51) (pow-pos 1023) short (lt-of-lt-of-le (shl-below 53 (j + 51) (j + 104) short (omega arith)) (pow-mono {i = j + 104} {j = 2098} (omega arith)))
-    (mul-assoc m (2 ^ j) (2 ^ 1074) ∙ ap (λ (z : ℕ). m * z) (pow-sum j 1074 (j + 1074) refl ∙ sym (pow-sum (j + 51) 1023 (j + 1074) (omega arith))) ∙ sym (mul-assoc m (2 ^ (j + 51)) (2 ^ 1023)))
-
-pub cast-exact : (m : ℕ) → m < 2 ^ 53 → HasValue (round binary64 false m 1) false m 1
-cast-exact m short = round-whole binary64 false m (le-of-lt short)
-
-pub scaling-exact : (m j : ℕ) (y : Float) → 0 < m → m < 2 ^ 53 → 700 ≤ j → j ≤ 1400 → HasValue y false (2 ^ j) (2 ^ 1023) → HasValue (mul binary64 (round binary64 false m 1) y) false (m * 2 ^ j) (2 ^ 1023)
-scaling-exact m j y some short lo hi is =
-    subst (λ (x : Float). HasValue x false (m * 2 ^ j) (2 ^ 1023)) (sym (scaled m j some (lt-of-lt-of-le short (pow-mono {i = 53} {j = 64} (omega arith))) lo hi y is)) (product-exact false m j short hi)
 
 -- ---- the number that is taken out
 few-bits : (n w : ℕ) → n ≤ 57 → fractionBits n w ≤ 52
@@ -56,7 +40,7 @@ module _ (n w : ℕ) (i : IsWord n w) (narrow : n ≤ 57) where
       let short : x .m < 2 ^ 53 = lt-of-lt-of-le (x .number .high) (pow-mono {i = fractionBits n w + 1} {j = 53} (omega (arith, few))) in
       let same = same-size (x .number) j (up .1 ∙ ap pos (sym back)) in
       subst (λ (y : Float). HasValue y (x .sign) (x .number .v) (2 ^ 307)) (round-same binary64 (x .sign) (x .m * 2 ^ j) (2 ^ 1023) (x .number .v) (2 ^ 307) (pow-pos 1023) (pow-pos 307) same)
-      (value-same (round binary64 (x .sign) (x .m * 2 ^ j) (2 ^ 1023)) (x .sign) (x .m * 2 ^ j) (2 ^ 1023) (x .number .v) (2 ^ 307) (pow-pos 1023) same (product-exact (x .sign) (x .m) j short hi))
+      (value-same (round binary64 (x .sign) (x .m * 2 ^ j) (2 ^ 1023)) (x .sign) (x .m * 2 ^ j) (2 ^ 1023) (x .number .v) (2 ^ 307) (pow-pos 1023) same (product-exact (x .sign) (x .m) j (le-of-lt short) hi))
 
   pub word-exact : (z : ℤ) → takum n w ≡ real z → HasValue (round binary64 (isNegative z) (natAbs z) (2 ^ 307)) (isNegative z) (natAbs z) (2 ^ 307)
   word-exact z q = by (lies n w)

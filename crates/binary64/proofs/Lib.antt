@@ -1,17 +1,22 @@
 -- The laws of binary64 in and out, one idea a file.
+pub mod Closest
 pub mod Comparisons
 pub mod Decisions
 pub mod Exactness
 pub mod Fractions
+pub mod Gaps
 pub mod Held
+pub mod Leading
+pub mod Nearest
 pub mod Negation
 pub mod OneOutcome
 pub mod Order
 pub mod Patterns
+pub mod Places
 pub mod Raised
 pub mod RoundTrip
+pub mod Rows
 pub mod Scaling
-pub mod Short
 pub mod Signs
 pub mod Specials
 pub mod Taken

@@ -20,10 +20,10 @@ pub raise : (h : ℤ) → mag h ≤ 255 → (g : ℕ) × (h +ℤ pos 1023 ≡ po
 raise (pos i) small = (i + 1023, refl, omega arith, omega (arith, small))
 raise (negsuc i) small = (1023 - suc i, rw (le-ltb 1023 (suc i) (omega (arith, small))), omega (arith, small), omega arith)
 
--- and by 960, which is 63 less
-pub raise-less : (h : ℤ) → mag h ≤ 255 → (g : ℕ) × (h +ℤ pos 960 ≡ pos g) × (h +ℤ pos 1023 ≡ pos (g + 63)) × (704 ≤ g) × (g ≤ 1215)
-raise-less (pos i) small = (i + 960, refl, ap pos (omega arith), omega arith, omega (arith, small))
-raise-less (negsuc i) small = (960 - suc i, rw (le-ltb 960 (suc i) (omega (arith, small))), rw (le-ltb 1023 (suc i) (omega (arith, small))) (ap pos (omega (arith, small))), omega (arith, small), omega arith)
+-- and by 971, as the code does: 11 more than the exponent of the lowest of 64 digits
+pub raise-less : (h : ℤ) → mag h ≤ 255 → (g : ℕ) × (h +ℤ pos 971 ≡ pos (g + 11)) × (h +ℤ pos 1023 ≡ pos (g + 63)) × (704 ≤ g) × (g ≤ 1215)
+raise-less (pos i) small = (i + 960, ap pos (omega arith), ap pos (omega arith), omega arith, omega (arith, small))
+raise-less (negsuc i) small = (960 - suc i, rw (le-ltb 971 (suc i) (omega (arith, small))) (ap pos (omega (arith, small))), rw (le-ltb 1023 (suc i) (omega (arith, small))) (ap pos (omega (arith, small))), omega (arith, small), omega arith)
 
 module _ {t : Takum} {f : ℕ} {s : Bool} {h : ℤ} {m p : ℕ} (x : IsNumber t f s h m p) where
   abbrev e : ℤ

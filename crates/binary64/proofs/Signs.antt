@@ -1,9 +1,10 @@
 -- A sign is changed without a rounding: the negative of a rounded size is the rounded size with its sign. Assumes nothing.
 use mathlib.Core.Path.{_≡_, refl, sym, ap, _∙_}
-use mathlib.Core.Bool.{Bool, true, false, cond}
+use mathlib.Core.Bool.{Bool, true, false, not, cond}
 use Prim.Native.Nat.{ℕ, zero, suc, _*_, _^_}
 use lib.Dec.{ltb}
 use lib.Ieee.{Float, nan, inf, fin, Format, prec, low, odd, units, round, neg}
+use lib.Ieee.Exact.{HasValue}
 use lib.Ieee.Fits.{round-is}
 use lib.Ieee.Scale.{overflow}
 
@@ -30,3 +31,9 @@ neg-neg (inf true) = refl
 neg-neg (inf false) = refl
 neg-neg (fin true m e) = refl
 neg-neg (fin false m e) = refl
+
+pub value-negated : (x : Float) (a c : ℕ) → HasValue x false a c → HasValue (neg x) true a c
+unfolding neg
+value-negated nan a c h = h
+value-negated (inf s) a c h = h
+value-negated (fin s m e) a c h = (ap not (h .0), h .1)

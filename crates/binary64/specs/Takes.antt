@@ -8,8 +8,8 @@ use Rattle.word.specs.Takum.{Takum, real, NaR, takum}
 use Rattle.write.specs.Writes.{isNegative}
 use Rattle.binary64.specs.declared.taking.Binary64.{Binary64}
 
--- The nearest binary64, ties to even, to the value z * 2^-307; zero is positive zero. Where a binary64 has the value, that is the nearest
--- (up to width 57 always: `taken-exact` in proofs/Exactness.antt).
+-- The nearest binary64, ties to even, to the value z * 2^-307; zero is positive zero. It has the property `NearestBinary64` (Nearest.antt), and
+-- only it has: proofs/Nearest.antt. Up to width 57 it has the value itself (`taken-exact` in proofs/Exactness.antt).
 unfoldable pub IsTaken : Takum → Binary64 → Type 0
 IsTaken (real z) a = a ≡ Binary64.Number (round binary64 (isNegative z) (natAbs z) (2 ^ 307))
 IsTaken NaR a = a ≡ Binary64.NotReal

@@ -6,8 +6,8 @@ use word::size::size_of;
 ghost use mathlib.Core.Path.{_≡_};
 ghost use mathlib.Core.Bool.{false};
 ghost use Prim.Native.Nat.{_*_, _^_, _≤_, _<_};
-ghost use lib.Ieee.{binary64, round};
 ghost use lib.Ieee.Exact.{HasValue};
+ghost use lib.Ieee.Nearest.{closest};
 ghost use Rattle.binary64.specs.Takes.{TakesBinary64};
 
 pub enum Binary64 {
@@ -32,34 +32,34 @@ pub fn take_binary64(width: Width, word: u64) -> Binary64
         return Binary64::NotReal;
     }
     let size = size_of(string);
-    let j = (size.h + 960) as u64;
-    // Up to width 57 a significand has at most 53 digits, and the lowest eleven bits here are zero.
-    if width.bits < 58 {
-        return Binary64::Number(number(size.negative, size.m >> 11, j + 11));
-    }
-    Binary64::Number(number(size.negative, size.m, j))
+    // The lowest of 53 digits is 2^(h - 52).
+    let j = (size.h + 971) as u64;
+    Binary64::Number(number(size.negative, to_53_digits(size.m), j))
 }
 
-// The number m * 2^(j - 1023) with its sign. Scaling and the sign change nothing more: they are exact.
-fn number(negative: bool, m: u64, j: u64) -> f64
-    requires { ⌜ (0 < m) × (700 ≤ j) × (j ≤ 1400) ⌝ }
-    ensures { λ r. ⌜ r ≡ round binary64 negative (m * 2 ^ j) (2 ^ 1023) ⌝ }
+// A significand of 64 digits rounded to its 53 leading ones, ties to even: one more where the eleven that are cut are above half, or are half
+// and the last one kept is 1. Up to width 57 they are zero. It is done in whole numbers, so that no rounding mode of the processor matters.
+fn to_53_digits(m: u64) -> u64
+    requires { ⌜ 2 ^ 63 ≤ m ⌝ }
+    ensures { λ q. ⌜ q ≡ closest m (2 ^ 11) ⌝ }
 {
-    let size = nearest(m) * power_of_two(j);
+    // The leading digit is left out, so that there is room for the sum.
+    let digits = m - (1 << 63);
+    let last = (digits >> 11) % 2;
+    (1 << 52) + ((digits + 0x3ff + last) >> 11)
+}
+
+// The number m * 2^(j - 1023) with its sign. The cast, the scaling and the sign are exact: in every rounding mode they give the same number, and
+// they raise no floating-point exception.
+fn number(negative: bool, m: u64, j: u64) -> f64
+    requires { ⌜ (0 < m) × (m ≤ 2 ^ 53) × (0 < j) × (j ≤ 1400) ⌝ }
+    ensures { λ r. ⌜ HasValue r negative (m * 2 ^ j) (2 ^ 1023) ⌝ }
+{
+    let size = m as f64 * power_of_two(j);
     if negative {
         return -size;
     }
     size
-}
-
-// The whole number m: exactly below 2^53, as the significands up to width 57 are, and with one rounding from there on.
-fn nearest(m: u64) -> f64
-    ensures { λ r. ⌜ r ≡ round binary64 false m 1 ⌝ }
-{
-    if m < 1 << 53 {
-        return m as f64;
-    }
-    std::num::nearest_u64_to_f64(m)
 }
 
 // 2^(j - 1023): the exponent j alone, with no digit beside the leading one.

@@ -19,7 +19,7 @@ pub fn write_binary64(width: Width, rule: Rule, x: f64) -> Answer
 fn bits_of(x: f64) -> u64
     ensures { λ r. ⌜ r ≡ toBits binary64 x ⌝ }
 {
-    // Only a NaN differs from itself.
+    // Only a NaN differs from itself. A signalling one raises INVALID here; the bits of what may be a NaN can't be had without a comparison.
     if x != x {
         return 0x7ff8_0000_0000_0000;
     }

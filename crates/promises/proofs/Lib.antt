@@ -1,22 +1,51 @@
--- The promises, proved from what the other crates make public.
-pub mod Demands
-pub mod Evens
-pub mod Face
-pub mod FaceLaws
-pub mod FaceNumbers
-pub mod FaceOutcomes
-pub mod FaceSlices
-pub mod FaceWords
-pub mod Figures
-pub mod Letter
+-- The promises, proved from what the other crates make public, in reading order.
+
+-- ---- demand 1
+-- how an answer follows the lines of the table: the tests of a contract, taken apart in their order
 pub mod Lines
-pub mod Narrow
-pub mod Numbers
-pub mod OneOutcome
-pub mod Refusals
-pub mod SliceRefusals
-pub mod Slices
-pub mod Tests
+-- the refusals of the calls on words and numbers
 pub mod WordRefusals
+-- the refusals of a column and of a block
+pub mod SliceRefusals
+-- so every call's refusals follow the table
+pub mod Refusals
+-- ---- every contract allows one outcome
+-- two outcomes that a public contract allows are equal, for each call
+pub mod OneOutcome
+-- ---- demands 2 and 3
+-- reading, order and negation, and what belongs to a width
+pub mod Demands
+-- what paper 01 says of every word
 pub mod Words
+-- writing and moves
 pub mod Writing
+-- words that are tested by computation
+pub mod Tests
+-- at width 16 the words from 0x5A00 to 0x5B00 are the even whole numbers from 512 to 1,024, by one computed test
+pub mod Evens
+-- at widths 2 to 4 no word has a value between 1 and 8, so 3 is rounded to 1
+pub mod Narrow
+-- whole numbers and binary64
+pub mod Numbers
+-- the nearest binary64
+pub mod Nearest
+-- every place of a column and of a block, and lent memory after a refusal
+pub mod Slices
+-- the P figures, by one test that is computed over the whole table
+pub mod Figures
+-- ---- the letter
+-- the three demands, each as one theorem
+pub mod Letter
+-- ---- the face for C and Rust
+-- what the face hands over is one thing, for each of its functions
+pub mod FaceOutcomes
+-- a struct follows the lines that the answer follows
+pub mod FaceLaws
+-- what the exported calls on widths and words hand over
+pub mod FaceWords
+-- those that write, move and take numbers
+pub mod FaceNumbers
+-- those on lent slices, and what they leave there
+pub mod FaceSlices
+-- so refusal numbers, lent memory and positions are as promised
+pub mod Face

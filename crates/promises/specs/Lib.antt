@@ -1,10 +1,22 @@
--- What is promised, as statements that a reader can hold against the letter and paper 01.
-pub mod Demands
-pub mod Face
-pub mod Figures
+-- What is promised, as statements that a reader can hold against the letter and paper 01, in reading order.
+
+-- the letter's three demands, each as one statement of those below
 pub mod Letter
-pub mod Numbers
+-- demand 1: the table of refusals
 pub mod Refusals
-pub mod Slices
+-- reading, order and negation, and what belongs to a width
+pub mod Demands
+-- what paper 01 says of every word
 pub mod Words
+-- writing and moves
 pub mod Writing
+-- whole numbers and binary64
+pub mod Numbers
+-- the nearest binary64
+pub mod Nearest
+-- columns and blocks
+pub mod Slices
+-- the P figures
+pub mod Figures
+-- the exported calls, by the fields of their structs
+pub mod Face

@@ -1,34 +1,45 @@
--- `number` meets its contract: the scaling is exact, and so is the sign. Assumes nothing.
-use mathlib.Core.Path.{_≡_, sym, ap, _∙_}
+-- `number` meets its contract: the cast and the scaling are exact, and so is the sign. Assumes nothing.
+use mathlib.Core.Path.{sym, subst}
 use mathlib.Core.Bool.{Bool, false}
-use Prim.Native.Nat.{_*_, _^_}
+use Prim.Native.Nat.{ℕ, _*_, _^_}
 use borrow.Author.Needs.{needs}
-use lib.Ieee.{Float, binary64, mul, round, neg}
-use Rattle.binary64.proofs.Scaling.{scaled}
-use Rattle.binary64.proofs.Signs.{round-negated}
+use lib.Dec.{le→leb}
+use lib.IntN.{pos}
+use lib.Ieee.{Float, binary64, inFloat, ofInt, mul, neg}
+use lib.Ieee.Exact.{HasValue}
+use Rattle.binary64.proofs.Scaling.{scaling-exact}
+use Rattle.binary64.proofs.Signs.{value-negated}
 use Rattle.binary64.proofs.taking.number.Statement.{statement}
 use Rattle.binary64.proofs.taking.number.Tie as tie
 
-nearest-requires : tie.Need-nearest-requires
-nearest-requires c κs = search needs
+-- the number before its sign, and what it is to be over 2^1023
+module _ (c : tie.After-power-of-two) where
+  abbrev product : Float
+  product = mul binary64 (ofInt binary64 (pos (c .before .before .args .m))) (c .power-of-two .result)
+
+  abbrev a : ℕ
+  a = c .before .before .args .m * 2 ^ c .before .before .args .j
+
+  size : HasValue product false a (2 ^ 1023)
+  unfolding ofInt
+  size =
+      let k = c .before .before .pre in
+      scaling-exact _ _ (c .power-of-two .result) (k .0) (k .1) (k .3) (c .power-of-two .ensures)
+
+int-to-float-size : tie.Need-int-to-float-size
+unfolding inFloat
+int-to-float-size c = le→leb _ _ (c .before .pre .1)
 
 power-of-two-requires : tie.Need-power-of-two-requires
 power-of-two-requires c κs = search needs
 
--- the number with the sign s, as the contract has it
-abbrev rounded : tie.After-power-of-two → Bool → Float
-rounded c s = round binary64 s (c .before .before .args .m * 2 ^ c .before .before .args .j) (2 ^ 1023)
-
-size : (c : tie.After-power-of-two) → mul binary64 (c .before .nearest .result) (c .power-of-two .result) ≡ rounded c false
-size c =
-    let k = c .before .before .pre in
-    ap (λ (x : Float). mul binary64 x (c .power-of-two .result)) (c .before .nearest .ensures) ∙ scaled _ _ (k .0) (c .before .before .fits .m .fits) (k .1) (k .2) (c .power-of-two .result) (c .power-of-two .ensures)
-
 returns : tie.Need-returns
-returns c = ap neg (size (c .before)) ∙ round-negated binary64 _ _ ∙ ap (rounded (c .before)) (sym (c .if1 .taken))
+returns c = let k = c .before in
+    subst (λ (s : Bool). HasValue (neg (product k)) s (a k) (2 ^ 1023)) (sym (c .if1 .taken)) (value-negated (product k) (a k) (2 ^ 1023) (size k))
 
 returns-2 : tie.Need-returns-2
-returns-2 c = size (c .before) ∙ ap (rounded (c .before)) (sym (c .if1 .left))
+returns-2 c = let k = c .before in
+    subst (λ (s : Bool). HasValue (product k) s (a k) (2 ^ 1023)) (sym (c .if1 .left)) (size k)
 
 pub number-spec : {M : Type 1} → statement M
-number-spec = tie.close (tie.spec nearest-requires power-of-two-requires returns returns-2)
+number-spec = tie.close (tie.spec int-to-float-size power-of-two-requires returns returns-2)

@@ -1,13 +1,16 @@
 -- `take_binary64` meets its contract: the refusals, zero and NaR, and the size of any other word with its exponent raised. Assumes nothing.
-use mathlib.Core.Path.{_≡_, refl, sym, ap, _∙_, subst}
-use Prim.Native.Nat.{ℕ, _+_, _*_, _/_, _^_, _≤_, _<_}
-use native.Mathlib.Nat.{le-trans, pos-of-ne-zero, mul-assoc}
+use mathlib.Core.Path.{_≡_, refl, sym, ap, ap₂, _∙_, subst}
+use Prim.Native.Nat.{ℕ, _+_, _*_, _^_, _≤_}
+use native.Mathlib.Nat.{le-trans, pos-of-ne-zero}
 use native.Mathlib.Omega.{arith}
 use borrow.Author.Needs.{needs, sfits-of}
 use lib.Dec.{T, lit≤}
 use lib.IntN.{ℤ, pos, natAbs, _+ℤ_}
+use lib.Pow.{pow-pos}
 use lib.Signed.{nonNeg, mag}
-use lib.Ieee.{Float, binary64, round}
+use lib.Ieee.{Float, binary64, fits}
+use lib.Ieee.Exact.{HasValue}
+use lib.Ieee.Nearest.{closest}
 use mir.Facts.{toZ-ofZ}
 use mir.Syntax.{w32}
 use mir.Val.{SFits, toZ, ofZ}
@@ -16,16 +19,15 @@ use Rattle.word.specs.declared.size.Size.{Size}
 use Rattle.bounds.specs.Refusals.{wordTest, IsWord, through, refused}
 use Rattle.word.specs.Takum.{Takum, takum}
 use Rattle.word.specs.Reads.{IsNumber}
-use Rattle.word.specs.Sizes.{Sizes}
 use Rattle.word.proofs.Numbers.{characteristic-of-string}
-use Rattle.bounds.proofs.Powers.{pow-sum}
 use Rattle.bounds.proofs.Verdicts.{word-through}
 use Rattle.word.proofs.Words.{takum-zero, takum-NaR}
-use Rattle.write.proofs.Sized.{shifted-is, NaR-at-top, word-sized}
+use Rattle.write.proofs.Sized.{NaR-at-top, word-sized}
 use Rattle.binary64.specs.declared.taking.Binary64.{Binary64}
 use Rattle.binary64.specs.Takes.{IsTaken, TakesBinary64}
+use Rattle.binary64.proofs.Closest.{closest-range}
+use Rattle.binary64.proofs.Leading.{rounded-once}
 use Rattle.binary64.proofs.Raised.{raise-less}
-use Rattle.binary64.proofs.Short.{lowest-zero}
 use Rattle.binary64.proofs.Taken.{zero-taken, number-taken}
 use Rattle.binary64.proofs.taking.take_binary64.Statement.{statement}
 use Rattle.binary64.proofs.taking.take_binary64.Tie as tie
@@ -64,33 +66,29 @@ module _ (c : tie.After-struct-told) where
       let x = word-sized (n g) (word g) (is-word g) (pos-of-ne-zero (k .before .before .before .if1 .left)) (k .before .if2 .left) size (k .size-of .ensures) in
       record { v = x .0; means = x .1; size = x .3; count = refl; low = x .2; high = c .struct-told .given .1 .1 .0 .1 }
 
-  up : (j : ℕ) × (size .h +ℤ pos 960 ≡ pos j) × (size .h +ℤ pos 1023 ≡ pos (j + 63)) × (704 ≤ j) × (j ≤ 1215)
+  up : (j : ℕ) × (size .h +ℤ pos 971 ≡ pos (j + 11)) × (size .h +ℤ pos 1023 ≡ pos (j + 63)) × (704 ≤ j) × (j ≤ 1215)
   up = raise-less (size .h) (subst (λ (z : ℤ). mag z ≤ 255) (sym (k .size-of .ensures .characteristic)) (le-trans (characteristic-of-string 64 _) (lit≤ tt)))
 
   h-fits : SFits w32 (size .h)
   h-fits = sfits-of (c .struct-told .given .1 .0 .1)
 
-  sum : toZ w32 (ofZ w32 (size .h)) +ℤ pos 960 ≡ pos (up .0)
-  sum = ap (λ (z : ℤ). z +ℤ pos 960) (toZ-ofZ h-fits) ∙ up .1
+  sum : toZ w32 (ofZ w32 (size .h)) +ℤ pos 971 ≡ pos (up .0 + 11)
+  sum = ap (λ (z : ℤ). z +ℤ pos 971) (toZ-ofZ h-fits) ∙ up .1
 
-  sum-fits : SFits w32 (pos (up .0))
+  sum-fits : SFits w32 (pos (up .0 + 11))
   sum-fits = record { sfits = omega (arith, up .4) }
 
-  held : toZ w32 (ofZ w32 (toZ w32 (ofZ w32 (size .h)) +ℤ pos 960)) ≡ pos (up .0)
+  held : toZ w32 (ofZ w32 (toZ w32 (ofZ w32 (size .h)) +ℤ pos 971)) ≡ pos (up .0 + 11)
   held = ap (λ (z : ℤ). toZ w32 (ofZ w32 z)) sum ∙ toZ-ofZ sum-fits
 
-  raised : natAbs (toZ w32 (ofZ w32 (toZ w32 (ofZ w32 (size .h)) +ℤ pos 960))) ≡ up .0
+  raised : natAbs (toZ w32 (ofZ w32 (toZ w32 (ofZ w32 (size .h)) +ℤ pos 971))) ≡ up .0 + 11
   raised = ap natAbs held
 
-  taken : (x : Float) → x ≡ round binary64 (size .negative) (size .m * 2 ^ up .0) (2 ^ 1023) → TakesBinary64 (n g) (word g) (Binary64.Number x)
+  taken : (x : Float) → T (fits binary64 x) → HasValue x (size .negative) (closest (size .m) (2 ^ 11) * 2 ^ (up .0 + 11)) (2 ^ 1023) → TakesBinary64 (n g) (word g) (Binary64.Number x)
   unfolding TakesBinary64
-  taken x q = through (let-through g) (subst (λ (x : Float). IsTaken (takum (n g) (word g)) (Binary64.Number x)) (sym q) (number-taken number (up .0) (up .2)))
-
-  -- without its lowest eleven bits
-  short : n g < 58 → size .m / 2 ^ 11 * 2 ^ (up .0 + 11) ≡ size .m * 2 ^ up .0
-  short h =
-      ap (λ (y : ℕ). size .m / 2 ^ 11 * y) (sym (pow-sum 11 (up .0) (up .0 + 11) (omega arith))) ∙ sym (mul-assoc (size .m / 2 ^ 11) (2 ^ 11) (2 ^ up .0))
-      ∙ ap (λ (m : ℕ). m * 2 ^ up .0) (lowest-zero (n g) (word g) (is-word g) (omega (arith, h)) size (subst (λ (t : ℕ). Sizes t size) (shifted-is (n g) (word g) (is-word g)) (k .size-of .ensures)))
+  taken x f h =
+      through (let-through g)
+      (subst (λ (x : Float). IsTaken (takum (n g) (word g)) (Binary64.Number x)) (sym (rounded-once (size .negative) (size .m) (up .0) (number .low) (number .high) (omega (arith, up .4)) x f h)) (number-taken number (up .0) (up .2)))
 
 test-word-requires : tie.Need-test-word-requires
 test-word-requires c κs = search needs
@@ -134,24 +132,19 @@ add-j c = subst (λ (z : ℤ). SFits w32 z) (sym (sum c)) (sum-fits c)
 cast-j : tie.Need-cast-j
 cast-j c = (subst (λ (z : ℤ). T (nonNeg z)) (sym (held c)) tt, record { fits = omega (arith, raised c, up c .4) })
 
-add-number : tie.Need-add-number
-add-number c = let k = c .before .before .before in record { fits = omega (arith, raised k, up k .4) }
+to-53-digits-requires : tie.Need-to-53-digits-requires
+to-53-digits-requires c κs = search needs
 
 number-requires : tie.Need-number-requires
-number-requires c κs = let k = c .before .before .before in
-    (omega (arith, number k .low), omega (arith, raised k, up k .3), omega (arith, raised k, up k .4))
+number-requires c κs =
+    let k = c .before in
+    let range = subst (λ (q : ℕ). (2 ^ 52 ≤ q) × (q ≤ 2 ^ 53)) (sym (c .to-53-digits .ensures)) (closest-range (size k .m) (2 ^ 11) (pow-pos 11) (number k .low) (number k .high)) in
+    (omega (arith, range .0), range .1, omega (arith, raised k, up k .3), omega (arith, raised k, up k .4))
 
 returns-4 : tie.Need-returns-4
-returns-4 c = let k = c .before .before .before .before in
-    taken k (c .number .result) (c .number .ensures ∙ ap (λ (j : ℕ). round binary64 (size k .negative) (size k .m / 2 ^ 11 * 2 ^ (j + 11)) (2 ^ 1023)) (raised k) ∙ ap (λ (a : ℕ). round binary64 (size k .negative) a (2 ^ 1023)) (short k (c .before .before .if3 .taken)))
-
-number-requires-2 : tie.Need-number-requires-2
-number-requires-2 c κs = let k = c .before .before in
-    (omega (arith, number k .low), omega (arith, raised k, up k .3), omega (arith, raised k, up k .4))
-
-returns-5 : tie.Need-returns-5
-returns-5 c = let k = c .before .before .before in
-    taken k (c .number2 .result) (c .number2 .ensures ∙ ap (λ (j : ℕ). round binary64 (size k .negative) (size k .m * 2 ^ j) (2 ^ 1023)) (raised k))
+returns-4 c = let k = c .before .before in
+    taken k (c .number .result) (subst T (sym (c .number .ok)) tt)
+    (subst (λ (a : ℕ). HasValue (c .number .result) (size k .negative) a (2 ^ 1023)) (ap₂ (λ (q j : ℕ). q * 2 ^ j) (c .before .to-53-digits .ensures) (raised k)) (c .number .ensures))
 
 pub take-binary64-spec : {M : Type 1} → statement M
 take-binary64-spec =
@@ -169,8 +162,6 @@ take-binary64-spec =
     size-of-requires
     add-j
     cast-j
-    add-number
+    to-53-digits-requires
     number-requires
-    returns-4
-    number-requires-2
-    returns-5)
+    returns-4)

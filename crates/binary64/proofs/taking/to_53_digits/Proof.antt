@@ -1,0 +1,23 @@
+-- `to_53_digits` meets its contract: what it adds to the digits kept is 1 exactly where the digits cut ask for it. Assumes nothing.
+use native.Mathlib.Omega.{arith}
+use Rattle.binary64.proofs.Closest.{cut-rounded}
+use Rattle.binary64.proofs.taking.to_53_digits.Statement.{statement}
+use Rattle.binary64.proofs.taking.to_53_digits.Tie as tie
+
+sub-digits : tie.Need-sub-digits
+sub-digits c = c .pre
+
+add-result : tie.Need-add-result
+add-result c = record { fits = omega (arith, c .fits .m .fits) }
+
+add-result-2 : tie.Need-add-result-2
+add-result-2 c = record { fits = omega (arith, c .fits .m .fits) }
+
+add-result-3 : tie.Need-add-result-3
+add-result-3 c = record { fits = omega (arith, c .fits .m .fits) }
+
+returns : tie.Need-returns
+returns c = cut-rounded (c .args .m) (c .pre)
+
+pub to-53-digits-spec : {M : Type 1} → statement M
+to-53-digits-spec = tie.close (tie.spec sub-digits add-result add-result-2 add-result-3 returns)

@@ -7,9 +7,10 @@ ghost use mathlib.Core.Bool.{false};
 ghost use Prim.Native.Nat.{_+_, _≤_, _<_, _^_};
 ghost use lib.ListN.{length};
 
-// A piece has 16 blocks, and the text of each has at most 496 lines of up to 96 bytes.
+// The bytes of 16 blocks.
 const PIECE: usize = 16 * 512;
 
+// Room for their text: each has at most 496 lines of up to 96 bytes.
 const TEXT: usize = 16 * 496 * 96;
 
 // Whether the listing ends here, and the place of the block that comes next.

@@ -28,7 +28,7 @@ rounds a b = by (compare x b) (leb→le x b) (nleb→lt x b) (eqb→eq x b) (λ 
     by Ordering·gt h k e n = more (k tt) refl
 
 -- a significand without its lowest eleven digits, by its digits after the leading one
-pub cut-rounded : (m : ℕ) → 2 ^ 63 ≤ m → 2 ^ 52 + (m - 2 ^ 63 + 1023 + (m - 2 ^ 63) / 2 ^ 11 % 2) / 2 ^ 11 ≡ closest m (2 ^ 11)
+pub cut-rounded : (m : ℕ) → 2 ^ 63 ≤ m → 2 ^ 52 + (m - 2 ^ 63 + (1023 + (m - 2 ^ 63) / 2 ^ 11 % 2)) / 2 ^ 11 ≡ closest m (2 ^ 11)
 cut-rounded m long = by (closest m (2 ^ 11)) (rounds m (2 ^ 11))
   where
     d : ℕ
@@ -43,7 +43,7 @@ cut-rounded m long = by (closest m (2 ^ 11)) (rounds m (2 ^ 11))
     last : m / 2 ^ 11 % 2 ≡ d / 2 ^ 11 % 2
     last = omega (arith, whole)
 
-    by : (q : ℕ) → Rounds m (2 ^ 11) q → 2 ^ 52 + (d + 1023 + d / 2 ^ 11 % 2) / 2 ^ 11 ≡ q
+    by : (q : ℕ) → Rounds m (2 ^ 11) q → 2 ^ 52 + (d + (1023 + d / 2 ^ 11 % 2)) / 2 ^ 11 ≡ q
     by q (less h e) = omega (arith, whole, rest, h, e)
     by q (half h e) = omega (arith, whole, rest, last, h, e)
     by q (more h e) = omega (arith, whole, rest, h, e)

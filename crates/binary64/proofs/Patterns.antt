@@ -1,5 +1,5 @@
 -- What a binary64 bit pattern stands for, by the fields that the code cuts out of it: the sign, the exponent's field and the digits. Assumes nothing.
-use mathlib.Core.Path.{_≡_, refl, sym, ap, ap₂, _∙_, subst, subst₂}
+use mathlib.Core.Path.{_≡_, sym, ap, _∙_, subst, subst₂}
 use mathlib.Core.Bool.{Bool, true, false, not, cond}
 use Prim.Native.Nat.{ℕ, zero, suc, _+_, _-_, _*_, _/_, _%_, _^_, _≤_, _<_}
 use native.Mathlib.Nat.{add-comm, add-zero}
@@ -10,9 +10,6 @@ use lib.Bits.{bitAnd, and-mask}
 use lib.Dec.{leb, eqb, eqb·suc-zero}
 use lib.Ieee.{Float, nan, inf, binary64, odd, ofFields, ofBits}
 use lib.Ieee.Exact.{HasValue, odd-sign}
-use lib.Pow.{pow-pos}
-use Rattle.bounds.proofs.Powers.{pow-sum}
-use Rattle.binary64.proofs.Values.{value-same}
 
 abbrev pub signBit : ℕ → Bool
 signBit b = not (eqb (b / 2 ^ 63) 0)
@@ -80,31 +77,3 @@ pattern-value b h = subst (λ (x : Float). HasValue x (signBit b) ((digits b + l
 
 pub pattern-unbounded : (b : ℕ) → field b ≡ 2047 → Unbounded (ofBits binary64 b)
 pattern-unbounded b h = subst Unbounded (sym (fields-are b)) (last-field (signBit b) (field b) (digits b) h)
-
--- ---- a power of two: the field j with no digits
-module _ (j : ℕ) (some : 0 < j) (small : j < 2047) where
-  abbrev b : ℕ
-  b = j * 2 ^ 52 % 2 ^ 64
-
-  field-is : field b ≡ j
-  field-is = and-mask (b / 2 ^ 52) 11 ∙ omega arith
-
-  digits-are : digits b ≡ 0
-  digits-are = and-mask b 52 ∙ omega arith
-
-  plus : signBit b ≡ false
-  plus = ap not (eq-eqb (b / 2 ^ 63) 0 (omega arith))
-
-  one : lead (field b) ≡ 1
-  one = ap (λ (x : ℕ). lead x) field-is ∙ ap (λ (t : Bool). cond t 0 1) (ne-eqb j 0 (λ q. omega (arith, some, q)))
-
-  size : (digits b + lead (field b) * 2 ^ 52) * 2 ^ (field b - lead (field b)) ≡ 2 ^ 52 * 2 ^ (j - 1)
-  size = ap₂ (λ (x y : ℕ). x * 2 ^ y) (ap₂ (λ (x y : ℕ). x + y * 2 ^ 52) digits-are one) (ap₂ (λ (x y : ℕ). x - y) field-is one)
-
-  same : 2 ^ 52 * 2 ^ (j - 1) * 2 ^ 1023 ≡ 2 ^ j * 2 ^ 1074
-  same = ap (λ (x : ℕ). x * 2 ^ 1023) (pow-sum 52 (j - 1) (j + 51) (omega arith)) ∙ pow-sum (j + 51) 1023 (j + 1074) (omega arith) ∙ sym (pow-sum j 1074 (j + 1074) refl)
-
-  pub power-pattern : HasValue (ofBits binary64 (j * 2 ^ 52 % 2 ^ 64)) false (2 ^ j) (2 ^ 1023)
-  power-pattern =
-      value-same (ofBits binary64 b) false (2 ^ 52 * 2 ^ (j - 1)) (2 ^ 1074) (2 ^ j) (2 ^ 1023) (pow-pos 1074) same
-      (subst₂ (λ (s : Bool) (a : ℕ). HasValue (ofBits binary64 b) s a (2 ^ 1074)) plus size (pattern-value b (λ q. omega (arith, field-is, q))))

@@ -8,7 +8,7 @@ use native.Mathlib.Decide.{decLt, decLe}
 use native.Mathlib.Omega.{arith}
 use borrow.Author.Tests.{eq-eqb, ne-eqb}
 use lib.Bits.{and-mask}
-use lib.Dec.{T, eqb·suc-zero}
+use lib.Dec.{T, lit≤, eqb·suc-zero}
 use lib.IntN.{ℤ}
 use lib.Pow.{pow-pos, pow-mono}
 use lib.Ieee.{Float, nan, inf, fin, binary64, up, down, ofBits}
@@ -17,6 +17,7 @@ use lib.Ieee.Scale.{finite}
 use Rattle.bounds.proofs.Powers.{pow-sum}
 use Rattle.binary64.specs.Nearest.{IsFinite}
 use Rattle.binary64.proofs.Patterns.{signBit, field, digits, lead, Unbounded, is-nan, is-inf, pattern-value, pattern-unbounded}
+use Rattle.binary64.proofs.Values.{value-same}
 
 -- the size of the field x with the digits t, and of the pattern v without its sign
 unfoldable pub sizeOf : ℕ → ℕ → ℕ
@@ -174,3 +175,16 @@ stands s v h = by (ofBits binary64 (signed s v)) refl (at-place s v h)
     by nan q k = absurd k
     by (inf t) q k = absurd k
     by (fin t m e) q k = record { m = m; e = e; is = record { pattern = long s; number = q ∙ ap (λ (t : Bool). fin t m e) (k .0) }; size = k .1 }
+
+-- ---- a power of two: the field j with no digits
+pub power-pattern : (s : Bool) (j : ℕ) → 0 < j → j < 2047 → HasValue (ofBits binary64 (signed s (j * 2 ^ 52))) s (2 ^ j) (2 ^ 1023)
+unfolding last
+power-pattern s j some small = value-same (ofBits binary64 (signed s (j * 2 ^ 52))) s (row (j * 2 ^ 52)) (2 ^ 1074) (2 ^ j) (2 ^ 1023) (pow-pos 1074) same (at-place s (j * 2 ^ 52) (omega (arith, small)))
+  where
+    place : j * 2 ^ 52 ≡ (j - 1) * 2 ^ 52 + 2 ^ 52
+    place = omega (arith, some)
+
+    same : row (j * 2 ^ 52) * 2 ^ 1023 ≡ 2 ^ j * 2 ^ 1074
+    same =
+        ap (λ (a : ℕ). a * 2 ^ 1023) (ap row place ∙ row-at (j - 1) (2 ^ 52) (lit≤ tt) (lit≤ tt) ∙ pow-sum 52 (j - 1) (j + 51) (omega (arith, some)))
+        ∙ pow-sum (j + 51) 1023 (j + 1074) (omega arith) ∙ sym (pow-sum j 1074 (j + 1074) refl)

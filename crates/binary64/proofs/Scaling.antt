@@ -1,16 +1,17 @@
 -- A whole number of no more than 53 digits, or 2^53, is cast and scaled by a power of two without loss. Assumes nothing.
-use mathlib.Core.Path.{_≡_, refl, sym, ap, _∙_, subst}
-use mathlib.Core.Bool.{Bool, false}
+use mathlib.Core.Path.{_≡_, refl, sym, ap, ap₂, _∙_, subst}
+use mathlib.Core.Bool.{Bool, true, false}
 use mathlib.Core.Logic.{_⊎_, inl, inr}
 use Prim.Native.Nat.{ℕ, _+_, _*_, _^_, _≤_, _<_}
-use native.Mathlib.Nat.{one-mul, mul-assoc, eq-or-lt-of-le, lt-of-lt-of-le, zero-lt-suc}
+use native.Mathlib.Nat.{one-mul, mul-pos, mul-mul-mul-comm, mul-assoc, eq-or-lt-of-le, lt-of-lt-of-le, zero-lt-suc}
 use native.Mathlib.Omega.{arith}
 use lib.Dec.{lit<}
 use lib.Pow.{pow-pos, pow-mono}
-use lib.Ieee.{Float, binary64, round, mul}
+use lib.Ieee.{Float, nan, inf, fin, binary64, unlike, up, down, round, mul}
 use lib.Ieee.Back.{round-whole}
 use lib.Ieee.Exact.{HasValue, round-exact}
-use lib.Ieee.Positive.{positive-of-value, mul-at}
+use lib.Ieee.Fits.{down-pos}
+use lib.Ieee.Scale.{round-same}
 use Rattle.bounds.proofs.Powers.{pow-sum, shl-below}
 
 -- m times 2^(j - 1023)
@@ -32,11 +33,24 @@ product-exact s m j short hi = by (eq-or-lt-of-le short)
 pub cast-exact : (m : ℕ) → m ≤ 2 ^ 53 → HasValue (round binary64 false m 1) false m 1
 cast-exact m short = round-whole binary64 false m short
 
-pub scaling-exact : (m j : ℕ) (y : Float) → 0 < m → m ≤ 2 ^ 53 → j ≤ 1400 → HasValue y false (2 ^ j) (2 ^ 1023) → HasValue (mul binary64 (round binary64 false m 1) y) false (m * 2 ^ j) (2 ^ 1023)
-scaling-exact m j y some short hi is =
-    let cast = cast-exact m short in
-    subst (λ (x : Float). HasValue x false (m * 2 ^ j) (2 ^ 1023))
-    (sym
-    (mul-at binary64 (round binary64 false m 1) y m 1 (2 ^ j) (2 ^ 1023) (positive-of-value (round binary64 false m 1) m 1 cast some) (positive-of-value y (2 ^ j) (2 ^ 1023) is (pow-pos j)) (zero-lt-suc 0) (pow-pos 1023) cast is
-    ∙ ap (λ (c : ℕ). round binary64 false (m * 2 ^ j) c) (one-mul (2 ^ 1023))))
-    (product-exact false m j short hi)
+-- the product of a number that is not negative and one with the sign s, by the fractions that they equal
+product : (x y : Float) (s : Bool) (a c b d : ℕ) → 0 < c → 0 < d → HasValue x false a c → HasValue y s b d → mul binary64 x y ≡ round binary64 s (a * b) (c * d)
+unfolding mul
+product nan y s a c b d C D h k = absurd h
+product (inf t) y s a c b d C D h k = absurd h
+product (fin t m e) nan s a c b d C D h k = absurd k
+product (fin t m e) (inf u) s a c b d C D h k = absurd k
+product (fin t m e) (fin u n i) s a c b d C D h k =
+    ap (λ (z : Bool). round binary64 z (m * up e * (n * up i)) (down e * down i)) (ap₂ unlike (h .0) (k .0) ∙ its-own s)
+    ∙ round-same binary64 s (m * up e * (n * up i)) (down e * down i) (a * b) (c * d) (mul-pos (down-pos e) (down-pos i)) (mul-pos C D)
+    (mul-mul-mul-comm (m * up e) (n * up i) c d ∙ ap₂ (λ (x y : ℕ). x * y) (h .1) (k .1) ∙ mul-mul-mul-comm a (down e) b (down i))
+  where
+    its-own : (s : Bool) → unlike false s ≡ s
+    its-own true = refl
+    its-own false = refl
+
+pub scaling-exact : (s : Bool) (m j : ℕ) (y : Float) → m ≤ 2 ^ 53 → j ≤ 1400 → HasValue y s (2 ^ j) (2 ^ 1023) → HasValue (mul binary64 (round binary64 false m 1) y) s (m * 2 ^ j) (2 ^ 1023)
+scaling-exact s m j y short hi is =
+    subst (λ (x : Float). HasValue x s (m * 2 ^ j) (2 ^ 1023))
+    (sym (product (round binary64 false m 1) y s m 1 (2 ^ j) (2 ^ 1023) (zero-lt-suc 0) (pow-pos 1023) (cast-exact m short) is ∙ ap (λ (c : ℕ). round binary64 s (m * 2 ^ j) c) (one-mul (2 ^ 1023))))
+    (product-exact s m j short hi)

@@ -1,4 +1,4 @@
--- A number that has the value of a fraction has that of every equal fraction; what equals itself or has a value is no NaN. Assumes nothing.
+-- A number that has the value of a fraction has that of every equal fraction; what equals itself is no NaN. Assumes nothing.
 use mathlib.Core.Path.{_≡_, sym, ap, _∙_}
 use mathlib.Core.Bool.{Bool, false, not, true≢false}
 use Prim.Native.Nat.{ℕ, _*_, _<_}
@@ -17,15 +17,8 @@ value-same (fin t m e) s a c a' c' some q h = (
       (mul-right-comm (m * up e) c' c ∙ ap (λ (z : ℕ). z * c') (h .1) ∙ mul-right-comm a (down e) c' ∙ ap (λ (z : ℕ). z * down e) q ∙ mul-right-comm a' c (down e)),
 )
 
--- what equals itself, and what has a value, is no NaN
 pub equals-itself : (x : Float) → ne x x ≡ false → T (not (isNan x))
 unfolding isNan
 equals-itself nan h = absurd (true≢false (sym nan-differs ∙ h))
 equals-itself (inf t) h = tt
 equals-itself (fin t m e) h = tt
-
-pub value-no-nan : (x : Float) (s : Bool) (a c : ℕ) → HasValue x s a c → T (not (isNan x))
-unfolding isNan
-value-no-nan nan s a c h = h
-value-no-nan (inf t) s a c h = tt
-value-no-nan (fin t m e) s a c h = tt

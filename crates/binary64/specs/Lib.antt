@@ -1,4 +1,4 @@
--- What the contracts of this crate cite.
+-- What the contracts of this crate cite, and what "nearest" means of a number out.
 pub mod Nearest
 pub mod Takes
 pub mod Writes

@@ -4,8 +4,8 @@ use bounds::refusal::Verdict;
 use bounds::width::Width;
 use word::size::size_of;
 ghost use mathlib.Core.Path.{_≡_};
-ghost use mathlib.Core.Bool.{false};
 ghost use Prim.Native.Nat.{_*_, _^_, _≤_, _<_};
+ghost use lib.Dec.{eqb};
 ghost use lib.Ieee.Exact.{HasValue};
 ghost use lib.Ieee.Nearest.{closest};
 ghost use Rattle.binary64.specs.Takes.{TakesBinary64};
@@ -34,7 +34,7 @@ pub fn take_binary64(width: Width, word: u64) -> Binary64
     let size = size_of(string);
     // The lowest of 53 digits is 2^(h - 52).
     let j = (size.h + 971) as u64;
-    Binary64::Number(number(size.negative, to_53_digits(size.m), j))
+    Binary64::Number(number(string >> 63, to_53_digits(size.m), j))
 }
 
 // A significand of 64 digits rounded to its 53 leading ones, ties to even: one more where the eleven that are cut are above half, or are half
@@ -45,27 +45,23 @@ fn to_53_digits(m: u64) -> u64
 {
     // The leading digit is left out, so that there is room for the sum.
     let digits = m - (1 << 63);
-    let last = (digits >> 11) % 2;
-    (1 << 52) + ((digits + 0x3ff + last) >> 11)
+    let up = 0x3ff + (digits >> 11) % 2;
+    (1 << 52) + ((digits + up) >> 11)
 }
 
-// The number m * 2^(j - 1023) with its sign. The cast, the scaling and the sign are exact: in every rounding mode they give the same number, and
-// they raise no floating-point exception.
-fn number(negative: bool, m: u64, j: u64) -> f64
-    requires { ⌜ (0 < m) × (m ≤ 2 ^ 53) × (0 < j) × (j ≤ 1400) ⌝ }
-    ensures { λ r. ⌜ HasValue r negative (m * 2 ^ j) (2 ^ 1023) ⌝ }
+// The number m * 2^(j - 1023), negative where the sign is 1. The cast and the scaling are exact: in every rounding mode they give the same number,
+// and they raise no floating-point exception.
+fn number(sign: u64, m: u64, j: u64) -> f64
+    requires { ⌜ (sign ≤ 1) × (m ≤ 2 ^ 53) × (0 < j) × (j ≤ 1400) ⌝ }
+    ensures { λ r. ⌜ HasValue r (eqb sign 1) (m * 2 ^ j) (2 ^ 1023) ⌝ }
 {
-    let size = m as f64 * power_of_two(j);
-    if negative {
-        return -size;
-    }
-    size
+    m as f64 * power_of_two(sign, j)
 }
 
-// 2^(j - 1023): the exponent j alone, with no digit beside the leading one.
-fn power_of_two(j: u64) -> f64
-    requires { ⌜ (0 < j) × (j < 2047) ⌝ }
-    ensures { λ r. ⌜ HasValue r false (2 ^ j) (2 ^ 1023) ⌝ }
+// 2^(j - 1023) with its sign: the exponent j alone, with no digit beside the leading one.
+fn power_of_two(sign: u64, j: u64) -> f64
+    requires { ⌜ (sign ≤ 1) × (0 < j) × (j < 2047) ⌝ }
+    ensures { λ r. ⌜ HasValue r (eqb sign 1) (2 ^ j) (2 ^ 1023) ⌝ }
 {
-    f64::from_bits(j << 52)
+    f64::from_bits((sign << 63) + (j << 52))
 }

@@ -1,10 +1,11 @@
 -- `take_binary64` meets its contract: the refusals, zero and NaR, and the size of any other word with its exponent raised. Assumes nothing.
-use mathlib.Core.Path.{_≡_, refl, sym, ap, ap₂, _∙_, subst}
-use Prim.Native.Nat.{ℕ, _+_, _*_, _^_, _≤_}
-use native.Mathlib.Nat.{le-trans, pos-of-ne-zero}
+use mathlib.Core.Path.{_≡_, refl, sym, ap, ap₂, _∙_, subst, subst₂}
+use mathlib.Core.Bool.{Bool}
+use Prim.Native.Nat.{ℕ, _+_, _-_, _*_, _/_, _%_, _^_, _≤_}
+use native.Mathlib.Nat.{le-trans, pos-of-ne-zero, mod-lt}
 use native.Mathlib.Omega.{arith}
 use borrow.Author.Needs.{needs, sfits-of}
-use lib.Dec.{T, lit≤}
+use lib.Dec.{T, eqb, lit≤}
 use lib.IntN.{ℤ, pos, natAbs, _+ℤ_}
 use lib.Pow.{pow-pos}
 use lib.Signed.{nonNeg, mag}
@@ -28,6 +29,7 @@ use Rattle.binary64.specs.Takes.{IsTaken, TakesBinary64}
 use Rattle.binary64.proofs.Closest.{closest-range}
 use Rattle.binary64.proofs.Leading.{rounded-once}
 use Rattle.binary64.proofs.Raised.{raise-less}
+use Rattle.binary64.proofs.Signs.{sign-digit}
 use Rattle.binary64.proofs.Taken.{zero-taken, number-taken}
 use Rattle.binary64.proofs.taking.take_binary64.Statement.{statement}
 use Rattle.binary64.proofs.taking.take_binary64.Tie as tie
@@ -84,6 +86,10 @@ module _ (c : tie.After-struct-told) where
   raised : natAbs (toZ w32 (ofZ w32 (toZ w32 (ofZ w32 (size .h)) +ℤ pos 971))) ≡ up .0 + 11
   raised = ap natAbs held
 
+  -- the sign as the machine cuts it off the string
+  negative : eqb (word g * 2 ^ (64 - n g) % 2 ^ 64 / 2 ^ 63) 1 ≡ size .negative
+  negative = sign-digit (word g * 2 ^ (64 - n g) % 2 ^ 64) (mod-lt (word g * 2 ^ (64 - n g)) (pow-pos 64)) (k .before .if2 .left) ∙ sym (k .size-of .ensures .sign)
+
   taken : (x : Float) → T (fits binary64 x) → HasValue x (size .negative) (closest (size .m) (2 ^ 11) * 2 ^ (up .0 + 11)) (2 ^ 1023) → TakesBinary64 (n g) (word g) (Binary64.Number x)
   unfolding TakesBinary64
   taken x f h =
@@ -139,12 +145,12 @@ number-requires : tie.Need-number-requires
 number-requires c κs =
     let k = c .before in
     let range = subst (λ (q : ℕ). (2 ^ 52 ≤ q) × (q ≤ 2 ^ 53)) (sym (c .to-53-digits .ensures)) (closest-range (size k .m) (2 ^ 11) (pow-pos 11) (number k .low) (number k .high)) in
-    (omega (arith, range .0), range .1, omega (arith, raised k, up k .3), omega (arith, raised k, up k .4))
+    (omega arith, range .1, omega (arith, raised k, up k .3), omega (arith, raised k, up k .4))
 
 returns-4 : tie.Need-returns-4
 returns-4 c = let k = c .before .before in
     taken k (c .number .result) (subst T (sym (c .number .ok)) tt)
-    (subst (λ (a : ℕ). HasValue (c .number .result) (size k .negative) a (2 ^ 1023)) (ap₂ (λ (q j : ℕ). q * 2 ^ j) (c .before .to-53-digits .ensures) (raised k)) (c .number .ensures))
+    (subst₂ (λ (s : Bool) (a : ℕ). HasValue (c .number .result) s a (2 ^ 1023)) (negative k) (ap₂ (λ (q j : ℕ). q * 2 ^ j) (c .before .to-53-digits .ensures) (raised k)) (c .number .ensures))
 
 pub take-binary64-spec : {M : Type 1} → statement M
 take-binary64-spec =

@@ -1,5 +1,4 @@
 // Two promises as functions over the public calls: a word negated twice, and a chain of strict moves that comes home.
-
 use bounds::answer::Answer;
 use bounds::width::Width;
 use word::order::negate;

@@ -49,3 +49,5 @@ pub mod FaceNumbers
 pub mod FaceSlices
 -- so refusal numbers, lent memory and positions are as promised
 pub mod Face
+-- each such contract allows one outcome
+pub mod CalledOutcomes

@@ -23,6 +23,7 @@ use Rattle.whole.proofs.InAndOut.{strictly-taken}
 use Rattle.whole.proofs.TakenOut.{taken-out}
 use Rattle.whole.proofs.WholeValues.{valueOf}
 use Rattle.binary64.specs.declared.taking.Binary64.{Binary64}
+use Rattle.binary64.specs.Nearest.{NearestBinary64}
 use Rattle.binary64.specs.Takes as taken
 use Rattle.binary64.specs.Writes.{IsWrittenBinary64, WritesBinary64}
 use Rattle.takum.specs.declared.handed.HandedWord.{HandedWord}
@@ -30,6 +31,7 @@ use Rattle.takum.specs.declared.handed.HandedWhole.{HandedWhole}
 use Rattle.takum.specs.declared.handed.HandedNumber.{HandedNumber}
 use Rattle.takum.specs.Handed.{HandsOver, ruleOf, takingOf, wordHanded, wholeHanded, numberHanded}
 use Rattle.promises.specs.Demands.{TheNaRWord}
+use Rattle.promises.specs.Nearest.{TheNumberOutIsTheNearest}
 use Rattle.promises.specs.Numbers.{IsWhole, AWordThatIsNotNaRGoesOutAsANumber}
 use Rattle.promises.specs.Refusals.{Line, FollowsUpTo, Follows, width, stray, nar, over, moveLines}
 use Rattle.promises.specs.Face.{inexact, IsGiven, IsNaR, HandsNaR, HandsValue, HandsWritten, HandsWholeWritten, HandsBinary64Written, HandsWhole, HandsNumber, wordLines, IsMovedTo, HandsMoved}
@@ -37,6 +39,7 @@ use Rattle.promises.proofs.Demands.{the-NaR-word}
 use Rattle.promises.proofs.FaceLaws.{hands, word-hands, unrefused, last-retold, flag-retold, takes-strictly}
 use Rattle.promises.proofs.FaceWords.{NaR-hands}
 use Rattle.promises.proofs.Lines.{width-tells, follow}
+use Rattle.promises.proofs.Nearest.{the-number-out-is-the-nearest}
 use Rattle.promises.proofs.Numbers.{a-word-that-is-not-NaR-goes-out-as-a-number}
 use Rattle.promises.proofs.Refusals.{refusals-follow-the-table}
 use Rattle.promises.proofs.WordRefusals.{word-none, inexact-line}
@@ -132,13 +135,13 @@ no-number n w i x = by (takum n w) refl
         absurd (omega arith)
 
 pub take-binary64-hands : (n w : ℕ) (r : HandedNumber) → HandsOver numberHanded (taken.TakesBinary64 n w) r → HandsNumber n w r
-unfolding HandsNumber taken.TakesBinary64
+unfolding HandsNumber taken.TakesBinary64 TheNumberOutIsTheNearest
 take-binary64-hands n w = hands Binary64.Refused (λ r. r .refusal) (λ r. (r .real ≡ false) × (r .number ≡ ofBits binary64 0)) (λ r. (r .refusal ≡ 0) × Taken r) (width n ∷ stray n w ∷ []) (λ q x. (refl, (refl, refl))) by (refusals-follow-the-table .take-binary64 n w)
   where
     Taken : HandedNumber → Type 0
-    Taken r = ((r .real ≡ true) × taken.IsTaken (takum n w) (Binary64.Number (r .number))) ⊎ ((r .real ≡ false) × (r .number ≡ ofBits binary64 0) × (takum n w ≡ NaR))
+    Taken r = ((r .real ≡ true) × (z : ℤ) × (takum n w ≡ real z) × NearestBinary64 z (r .number)) ⊎ ((r .real ≡ false) × (r .number ≡ ofBits binary64 0) × (takum n w ≡ NaR))
 
     by : (a : Binary64) → taken.TakesBinary64 n w a → ((q : Refusal) → a ≡ Binary64.Refused q → ⊥) → (numberHanded a .refusal ≡ 0) × Taken (numberHanded a)
-    by (Binary64.Number x) t none = (refl, inl (refl, unrefused none t .1))
+    by (Binary64.Number x) t none = let (z, means, near) = the-number-out-is-the-nearest n w x t in (refl, inl (refl, z, means, near))
     by Binary64.NotReal t none = (refl, inr (refl, refl, no-number n w (word-through n w (unrefused none t .0)) t))
     by (Binary64.Refused q) t none = absurd (none q refl)

@@ -49,3 +49,5 @@ pub mod FaceNumbers
 pub mod FaceSlices
 -- so refusal numbers, lent memory and positions are as promised
 pub mod Face
+-- two outcomes that the contract of an exported call allows are equal
+pub mod CalledOutcomes

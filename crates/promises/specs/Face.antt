@@ -15,8 +15,7 @@ use Rattle.word.specs.Reads.{num, den, IsNumber}
 use Rattle.word.specs.Orders.{order, opposite}
 use Rattle.write.specs.Writes.{HasValue, IsRounded, IsExact, isNegative}
 use Rattle.whole.specs.Wholes.{IsWholePart}
-use Rattle.binary64.specs.declared.taking.Binary64.{Binary64}
-use Rattle.binary64.specs.Takes.{IsTaken}
+use Rattle.binary64.specs.Nearest.{NearestBinary64}
 use Rattle.sheet.specs.Layout as block
 use Rattle.takum.specs.declared.handed.HandedWord.{HandedWord}
 use Rattle.takum.specs.declared.handed.HandedReading.{HandedReading}
@@ -142,10 +141,10 @@ unfoldable pub HandsWhole : ℕ → Bool → ℕ → HandedWhole → Type 0
 HandsWhole n strict w r = Hands (r .refusal) (width n ∷ stray n w ∷ nar n w ∷ over n w ∷ inexact strict (λ x. IsWhole n x w) ∷ []) (r .whole ≡ pos 0)
     (((z : ℤ) × (takum n w ≡ real z) × IsWholePart z (r .whole)) × (strict ≡ true → IsWhole n (r .whole) w))
 
--- `real` is false exactly where the word is NaR, and then the number is 0
+-- the nearest binary64 to the word's value, ties to even; `real` is false exactly where the word is NaR, and then the number is 0
 unfoldable pub HandsNumber : ℕ → ℕ → HandedNumber → Type 0
 HandsNumber n w r = Hands (r .refusal) (width n ∷ stray n w ∷ []) ((r .real ≡ false) × (r .number ≡ ofBits binary64 0))
-    (((r .real ≡ true) × IsTaken (takum n w) (Binary64.Number (r .number))) ⊎ ((r .real ≡ false) × (r .number ≡ ofBits binary64 0) × (takum n w ≡ NaR)))
+    (((r .real ≡ true) × (z : ℤ) × (takum n w ≡ real z) × NearestBinary64 z (r .number)) ⊎ ((r .real ≡ false) × (r .number ≡ ofBits binary64 0) × (takum n w ≡ NaR)))
 
 -- ---- takum_move and takum_move_column
 -- the lines of a word in a move, after those of the widths

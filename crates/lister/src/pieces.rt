@@ -14,13 +14,15 @@ const PIECE: usize = 16 * 512;
 const TEXT: usize = 16 * 496 * 96;
 
 // Whether the listing ends here, and the place of the block that comes next.
-struct Next {
-    ends: bool,
-    place: u64,
+pub(crate) struct Next {
+    pub(crate) ends: bool,
+    pub(crate) place: u64,
 }
 
 // Lists all blocks of the input. A proved loop has to end, and nothing says that an input does: it ends after 2^60 blocks, which no run has.
-pub(crate) fn list_all() {
+pub(crate) fn list_all() -> Next
+    ensures { λ r. ⌜ (r .ends ≡ false → 2 ^ 60 ≤ r .place) ⌝ }
+{
     let mut piece = [0u8; PIECE];
     let mut text = [0u8; TEXT];
     let mut words = [0u64; 496];
@@ -28,10 +30,11 @@ pub(crate) fn list_all() {
     while place < 1 << 60 {
         let next = list_piece(&mut piece, &mut text, &mut words, place);
         if next.ends {
-            return;
+            return next;
         }
         place = next.place;
     }
+    Next { ends: false, place }
 }
 
 // Lists the next piece of the input, its first block having this place. Behind a full one there may be more.

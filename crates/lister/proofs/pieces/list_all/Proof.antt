@@ -1,5 +1,6 @@
--- `list_all` is safe and ends. The measure is the number of places that are left. Assumes nothing.
+-- `list_all` is safe and ends: where the input or the output does, or after 2^60 blocks. The measure is the number of places left. Assumes nothing.
 use mathlib.Core.Path.{_≡_, refl, sym, _∙_}
+use mathlib.Core.Bool.{true≢false}
 use Prim.Native.Nat.{ℕ, _-_, _%_, _^_, _≤_, zero-le}
 use native.Mathlib.Omega.{arith}
 use lib.ListN.{length, length-replicate}
@@ -29,7 +30,7 @@ list-piece-requires c κs = let i = c .before .before .before .before .loop .inv
     (i .2, i .3, i .4, omega (arith, c .before .before .before .loop-test .taken))
 
 returns : tie.Need-returns Inv-loop μ-loop
-returns c = tt
+returns c = λ (stays : _). absurd (true≢false (sym (c .if1 .taken) ∙ stays))
 
 loop-less : tie.Need-loop-less Inv-loop μ-loop
 loop-less c =
@@ -45,7 +46,7 @@ loop-again c =
     (omega (arith, p, i .1, less), omega (arith, p, i .1), l .kept .0 ∙ i .2, l .kept .1 .0 ∙ i .3, l .kept .1 .1 .0 ∙ i .4)
 
 returns-2 : tie.Need-returns-2 Inv-loop μ-loop
-returns-2 c = tt
+returns-2 c = λ _. omega (arith, c .loop-test .left)
 
 pub list-all-spec : {M : Type 1} → statement M
 list-all-spec =

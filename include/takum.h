@@ -6,7 +6,8 @@
  *
  * To build: `rt staticlib takum` makes target/staticlib/libtakum.a (x86-64), which is linked like any archive: cc program.c -Iinclude
  * target/staticlib/libtakum.a. It stands on nothing else, not even the C library, holds no state and may be called from any thread. No answer
- * depends on the floating-point rounding mode; no call changes it, and none raises a floating-point exception flag unless it says so below.
+ * depends on the floating-point rounding mode; no call changes it, and none raises an exception of IEEE 754 unless it says so below. (x86-64's own
+ * flag "denormal operand" is none of these; a subnormal double may set it.)
  *
  * A word of width n (in bits, 2 to 64) is carried in the low n bits of a uint64_t; the bits above must be zero. Zero is all bits zero, NaR
  * ("not a real") is the highest of the n bits alone. As n-bit two's complement numbers, words are in the order of their values.

@@ -31,7 +31,7 @@ use Rattle.takum.specs.Handed.{HandsOver, wordHanded, readingHanded, comparison
 use Rattle.promises.specs.Demands.{TheEndWords, TheNaRWord}
 use Rattle.promises.specs.Numbers.{IsWhole}
 use Rattle.promises.specs.Refusals.{width, stray}
-use Rattle.promises.specs.Face.{HandsWord, IsNaR, IsLargest, IsSmallest, CountsUpTo, HandsLargest, HandsSmallest, HandsNaR, HandsLimit, NoNumber, IsToldBy, HandsReading, orderOf, HandsComparison, HandsNegated}
+use Rattle.promises.specs.Face.{HandsWord, IsNaR, IsLargest, IsSmallest, CountsUpTo, HandsLargest, HandsSmallest, HandsNaR, HandsLimit, NoNumber, IsToldBy, HandsReading, orderOfMeanings, HandsComparison, HandsNegated}
 use Rattle.promises.proofs.Demands.{the-end-words, the-NaR-word}
 use Rattle.promises.proofs.FaceLaws.{hands, word-hands, unrefused}
 use Rattle.promises.proofs.Refusals.{refusals-follow-the-table}
@@ -84,8 +84,8 @@ read-hands n w = hands Reading.Refused (λ r. r .refusal) (λ r. (r .kind ≡ 0)
     by (Reading.Number s h m p) x = (refl, inr (inr (refl, x)))
     by (Reading.Refused q) x = absurd x
 
-order-of-meanings : (n x y : ℕ) → IsWord n x → IsWord n y → (t u : Takum) → takum n x ≡ t → takum n y ≡ u → order (signed n x) (signed n y) ≡ orderOf t u
-unfolding orderOf
+order-of-meanings : (n x y : ℕ) → IsWord n x → IsWord n y → (t u : Takum) → takum n x ≡ t → takum n y ≡ u → order (signed n x) (signed n y) ≡ orderOfMeanings t u
+unfolding orderOfMeanings
 order-of-meanings n x y ix iy (real a) (real b) h k = order-of-values n x y ix iy a b h k
 order-of-meanings n x y ix iy NaR (real b) h k = NaR-below n x y ix iy b h k
 order-of-meanings n x y ix iy (real a) NaR h k = above-NaR n x y ix iy a h k
@@ -93,9 +93,9 @@ order-of-meanings n x y ix iy NaR NaR h k = ap (λ (v : ℕ). order (signed n x)
 
 pub compare-hands : (n x y : ℕ) (r : HandedComparison) → HandsOver comparisonHanded (Compares n x y) r → HandsComparison n x y r
 unfolding HandsComparison Compares
-compare-hands n x y = hands Comparison.Refused (λ r. r .refusal) (λ r. r .order ≡ pos 0) (λ r. (r .refusal ≡ 0) × (r .order ≡ orderOf (takum n x) (takum n y))) (width n ∷ stray n x ∷ stray n y ∷ []) (λ q x. (refl, refl)) by (refusals-follow-the-table .compare n x y)
+compare-hands n x y = hands Comparison.Refused (λ r. r .refusal) (λ r. r .order ≡ pos 0) (λ r. (r .refusal ≡ 0) × (r .order ≡ orderOfMeanings (takum n x) (takum n y))) (width n ∷ stray n x ∷ stray n y ∷ []) (λ q x. (refl, refl)) by (refusals-follow-the-table .compare n x y)
   where
-    by : (a : Comparison) → Compares n x y a → ((q : Refusal) → a ≡ Comparison.Refused q → ⊥) → (comparisonHanded a .refusal ≡ 0) × (comparisonHanded a .order ≡ orderOf (takum n x) (takum n y))
+    by : (a : Comparison) → Compares n x y a → ((q : Refusal) → a ≡ Comparison.Refused q → ⊥) → (comparisonHanded a .refusal ≡ 0) × (comparisonHanded a .order ≡ orderOfMeanings (takum n x) (takum n y))
     by (Comparison.Is o) z none = let t = unrefused none z in let u = words-through n x y (t .0) in let e : o ≡ order (signed n x) (signed n y) = cc in (refl, e ∙ order-of-meanings n x y (u .0) (u .1) _ _ refl refl)
     by (Comparison.Refused q) z none = absurd (none q refl)
 

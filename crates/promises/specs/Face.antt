@@ -105,14 +105,14 @@ HandsReading n w r = Hands (r .refusal) (width n ∷ stray n w ∷ []) ((r .kind
 
 -- ---- takum_compare and takum_negate
 -- -1, 0 or 1 as the first value is below, equal to or above the second; NaR is below everything and equals itself
-unfoldable pub orderOf : Takum → Takum → ℤ
-orderOf (real u) (real v) = order u v
-orderOf NaR (real v) = negsuc 0
-orderOf (real u) NaR = pos 1
-orderOf NaR NaR = pos 0
+unfoldable pub orderOfMeanings : Takum → Takum → ℤ
+orderOfMeanings (real u) (real v) = order u v
+orderOfMeanings NaR (real v) = negsuc 0
+orderOfMeanings (real u) NaR = pos 1
+orderOfMeanings NaR NaR = pos 0
 
 unfoldable pub HandsComparison : ℕ → ℕ → ℕ → HandedComparison → Type 0
-HandsComparison n x y r = Hands (r .refusal) (width n ∷ stray n x ∷ stray n y ∷ []) (r .order ≡ pos 0) (r .order ≡ orderOf (takum n x) (takum n y))
+HandsComparison n x y r = Hands (r .refusal) (width n ∷ stray n x ∷ stray n y ∷ []) (r .order ≡ pos 0) (r .order ≡ orderOfMeanings (takum n x) (takum n y))
 
 unfoldable pub HandsNegated : ℕ → ℕ → HandedWord → Type 0
 HandsNegated n w r = HandsWord (width n ∷ stray n w ∷ []) (λ v. IsWord n v × (takum n v ≡ opposite (takum n w))) r

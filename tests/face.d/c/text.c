@@ -153,16 +153,20 @@ void put(answer *to, const char *text) {
 
 enum { MOST_DIGITS = 20 };
 
-void put_number(answer *to, const char *before, uint64_t number) {
+static void put_digits(answer *to, uint64_t number, unsigned base) {
     char digits[MOST_DIGITS + 1];
     char *place = digits + MOST_DIGITS;
     *place = '\0';
     do {
-        *--place = "0123456789"[number % 10];
-        number /= 10;
+        *--place = "0123456789abcdef"[number % base];
+        number /= base;
     } while (number != 0);
-    put(to, before);
     put(to, place);
+}
+
+void put_number(answer *to, const char *before, uint64_t number) {
+    put(to, before);
+    put_digits(to, number, 10);
 }
 
 void put_signed(answer *to, const char *before, int64_t number) {
@@ -171,16 +175,9 @@ void put_signed(answer *to, const char *before, int64_t number) {
 }
 
 void put_hex(answer *to, const char *before, uint64_t number) {
-    char digits[MOST_DIGITS + 1];
-    char *place = digits + MOST_DIGITS;
-    *place = '\0';
-    do {
-        *--place = "0123456789abcdef"[number % 16];
-        number /= 16;
-    } while (number != 0);
     put(to, before);
     put(to, "0x");
-    put(to, place);
+    put_digits(to, number, 16);
 }
 
 void put_words(answer *to, const char *before, const uint64_t *words, size_t count) {

@@ -7,8 +7,8 @@ use Rattle.bounds.specs.Refusals.{through, refused}
 use Rattle.word.specs.Takum.{Takum, real, NaR, takum}
 use Rattle.bounds.specs.declared.answer.Answer.{Answer}
 use Rattle.bounds.proofs.Verdicts.{width-through, answered, refused-as, decided-one}
-use Rattle.write.specs.declared.value.Rule.{Rule}
-use Rattle.write.proofs.Rounding.{written-one}
+use Rattle.round.specs.declared.value.Rule.{Rule}
+use Rattle.round.proofs.Rounding.{written-one}
 use Rattle.binary64.specs.declared.taking.Binary64.{Binary64}
 use Rattle.binary64.specs.Takes.{IsTaken, TakesBinary64}
 use Rattle.binary64.specs.Writes.{IsWrittenBinary64, WritesBinary64}

@@ -12,9 +12,9 @@ use Rattle.bounds.specs.Widths.{narWord}
 use Rattle.bounds.specs.declared.answer.Answer.{Answer}
 use Rattle.bounds.proofs.Verdicts.{width-fits, word-passes, answered}
 use Rattle.word.proofs.Words.{takum-NaR}
-use Rattle.write.specs.declared.value.Rule.{Rule}
-use Rattle.write.proofs.Rounding.{written-one}
-use Rattle.write.proofs.Rules.{zero-written}
+use Rattle.round.specs.declared.value.Rule.{Rule}
+use Rattle.round.proofs.Rounding.{written-one}
+use Rattle.round.proofs.Rules.{zero-written}
 use Rattle.binary64.specs.declared.taking.Binary64.{Binary64}
 use Rattle.binary64.specs.Takes.{IsTaken, TakesBinary64}
 use Rattle.binary64.specs.Writes.{IsWrittenBinary64, WritesBinary64}

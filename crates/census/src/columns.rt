@@ -10,7 +10,7 @@ use crate::row::take_row;
 use bounds::width::Width;
 use column::moving::Column;
 use column::moving::move_column;
-use write::value::Rule;
+use round::value::Rule;
 ghost use Prim.Native.Nat.{_≤_};
 ghost use lib.ListN.{length};
 

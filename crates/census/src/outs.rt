@@ -14,7 +14,7 @@ use crate::subjects::WIDEST_WHOLE;
 use crate::ways::take_out;
 use crate::ways::word_or;
 use bounds::width::Width;
-use write::value::Rule;
+use round::value::Rule;
 use write::value::Value;
 use write::writing::write;
 ghost use Prim.Native.Nat.{_≤_};

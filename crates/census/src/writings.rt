@@ -3,7 +3,7 @@ use crate::digest::take_answer;
 use crate::sizes::Size;
 use crate::sizes::exponent;
 use bounds::width::Width;
-use write::value::Rule;
+use round::value::Rule;
 use write::value::Value;
 use write::writing::write;
 ghost use Prim.Native.Nat.{_≤_};

@@ -9,7 +9,7 @@ use Rattle.bounds.specs.declared.refusal.Refusal.{Refusal}
 use Rattle.bounds.specs.declared.refusal.Verdict.{Verdict}
 use Rattle.bounds.specs.Refusals.{widthTest, _then_, through, refused, roomTest}
 use Rattle.bounds.proofs.Verdicts.{stray-fits, then-through, answered}
-use Rattle.write.specs.declared.value.Rule.{Rule}
+use Rattle.round.specs.declared.value.Rule.{Rule}
 use Rattle.write.specs.Writes.{Moves}
 use Rattle.write.proofs.OneOutcome.{moves-one}
 use Rattle.column.specs.declared.moving.Column.{Column}

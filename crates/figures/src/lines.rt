@@ -8,10 +8,10 @@ use bounds::refusal::Refusal;
 use bounds::width::Limit;
 use bounds::width::Made;
 use bounds::width::Width;
+use round::value::Rule;
 use word::reading::Reading;
 use word::reading::read;
 use write::moving::move_word;
-use write::value::Rule;
 use write::value::Value;
 use write::writing::write;
 

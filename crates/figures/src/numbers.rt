@@ -9,11 +9,11 @@ use binary64::taking::Binary64;
 use binary64::taking::take_binary64;
 use binary64::writing::write_binary64;
 use bounds::width::Width;
+use round::value::Rule;
 use whole::taking::Taking;
 use whole::taking::Whole;
 use whole::taking::take_whole;
 use whole::writing::write_whole;
-use write::value::Rule;
 
 pub(crate) fn print_whole_in(n: u32, rule: Rule, x: i64) {
     print_width(n);

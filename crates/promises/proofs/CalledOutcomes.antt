@@ -21,9 +21,10 @@ use Rattle.word.specs.Reads.{num, den, signedSize, IsReading}
 use Rattle.word.specs.Orders.{opposite}
 use Rattle.word.proofs.Binades.{reading-one}
 use Rattle.word.proofs.Values.{real-inj, not-NaR, words-differ}
-use Rattle.write.specs.Writes.{HasValue, IsExact, isNegative}
-use Rattle.write.proofs.Exponents.{unit-some}
-use Rattle.write.proofs.Rounding.{rounded-one, exact-rounded}
+use Rattle.round.specs.Nearest.{HasValue, IsExact}
+use Rattle.write.specs.Writes.{isNegative}
+use Rattle.word.proofs.Units.{unit-some}
+use Rattle.round.proofs.Rounding.{rounded-one, exact-rounded}
 use Rattle.whole.specs.Wholes.{IsWholePart}
 use Rattle.whole.proofs.WholeParts.{one-whole-part}
 use Rattle.binary64.specs.Nearest.{NearestBinary64}

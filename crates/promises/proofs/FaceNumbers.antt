@@ -16,7 +16,8 @@ use Rattle.bounds.proofs.Verdicts.{width-through, word-through, move-through}
 use Rattle.word.specs.Takum.{Takum, real, NaR, takum}
 use Rattle.word.specs.Reads.{num, den}
 use Rattle.word.proofs.Values.{not-NaR}
-use Rattle.write.specs.Writes.{IsExact, IsWritten, IsMoved, isNegative, Writes, Moves}
+use Rattle.round.specs.Nearest.{IsExact, IsWritten}
+use Rattle.write.specs.Writes.{IsMoved, isNegative, Writes, Moves}
 use Rattle.whole.specs.declared.taking.Whole.{Whole}
 use Rattle.whole.specs.Wholes.{IsWholePart, WritesWhole, TakesWhole}
 use Rattle.whole.proofs.InAndOut.{strictly-taken}

@@ -25,7 +25,7 @@ use Rattle.word.specs.Orders.{signed, order, negated, Compares, Negates}
 use Rattle.bounds.proofs.Answers.{wordOf, GivesAWord}
 use Rattle.bounds.proofs.Verdicts.{decided-one}
 use Rattle.word.proofs.Binades.{reading-one}
-use Rattle.write.specs.declared.value.Rule.{Rule}
+use Rattle.round.specs.declared.value.Rule.{Rule}
 -- those of a word's size, writing, whole numbers, binary64, columns and blocks stand beside their laws
 pub use Rattle.word.proofs.Normal.{reads-size-one}
 pub use Rattle.write.proofs.OneOutcome.{writes-one, moves-one}

@@ -26,9 +26,10 @@ use Rattle.word.specs.Reads.{IsReading}
 use Rattle.word.specs.Orders.{Compares}
 use Rattle.word.proofs.Words.{takum-NaR}
 use Rattle.word.proofs.Values.{real-inj, not-NaR}
-use Rattle.write.specs.declared.value.Rule.{Rule}
+use Rattle.round.specs.declared.value.Rule.{Rule}
 use Rattle.write.specs.declared.value.Value.{Value}
-use Rattle.write.specs.Writes.{HasValue, IsExact, IsWritten, isNegative, IsMoved, Writes, Moves}
+use Rattle.round.specs.Nearest.{HasValue, IsExact, IsWritten}
+use Rattle.write.specs.Writes.{isNegative, IsMoved, Writes, Moves}
 use Rattle.bounds.proofs.Powers.{twice}
 use Rattle.write.proofs.Moves.{moved-to-the-same, strict-keeps}
 use Rattle.whole.specs.declared.taking.Taking.{Taking}

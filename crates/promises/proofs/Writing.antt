@@ -22,14 +22,16 @@ use Rattle.bounds.proofs.Verdicts.{width-fits, width-through, stray-fits, word-
 use Rattle.word.proofs.Signed.{negated-other}
 use Rattle.word.proofs.Values.{grown, words-differ, no-sign, order-of-values}
 use Rattle.word.proofs.Words.{zeros-appended}
-use Rattle.write.specs.declared.value.Rule.{Rule}
+use Rattle.round.specs.declared.value.Rule.{Rule}
 use Rattle.write.specs.declared.value.Value.{Value}
-use Rattle.write.specs.Writes.{Nearest, IsRounded, zero, other, IsExact, IsWritten, isNegative, IsMoved, Writes, Moves}
-use Rattle.write.proofs.Exponents.{unit-some}
-use Rattle.write.proofs.Places.{two, wordOf, has-value, from-word}
-use Rattle.write.proofs.Rules.{zero-written, number-written}
-use Rattle.write.proofs.Rounding.{rounded-exists, rounded-one, rounded-not-zero-nor-NaR, past-the-largest, before-the-smallest, rounded-negated, exact-written, written-one}
-use Rattle.write.proofs.Order.{rounding-keeps-order, order-times}
+use Rattle.round.specs.Nearest.{Nearest, IsRounded, zero, other, IsExact, IsWritten}
+use Rattle.write.specs.Writes.{isNegative, IsMoved, Writes, Moves}
+use Rattle.word.proofs.Units.{unit-some}
+use Rattle.round.proofs.Places.{two, wordOf, has-value, from-word}
+use Rattle.round.proofs.Rules.{zero-written}
+use Rattle.write.proofs.Meanings.{number-written}
+use Rattle.round.proofs.Rounding.{rounded-exists, rounded-one, rounded-not-zero-nor-NaR, past-the-largest, before-the-smallest, rounded-negated, exact-written, written-one}
+use Rattle.round.proofs.Order.{rounding-keeps-order, order-times}
 use Rattle.write.proofs.Moves.{Kept, moved-to-the-same, strict-keeps, there-and-back, wider-keeps}
 use Rattle.promises.specs.Refusals.{moveLines}
 use Rattle.promises.specs.Writing as promise

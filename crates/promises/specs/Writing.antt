@@ -13,9 +13,10 @@ use Rattle.bounds.specs.Refusals.{IsWord}
 use Rattle.bounds.specs.Widths.{narWord, largest, smallest}
 use Rattle.word.specs.Reads.{num, den, IsSize, signedSize, Reads}
 use Rattle.word.specs.Orders.{signed, order, negated}
-use Rattle.write.specs.declared.value.Rule.{Rule}
+use Rattle.round.specs.declared.value.Rule.{Rule}
 use Rattle.write.specs.declared.value.Value.{Value}
-use Rattle.write.specs.Writes.{HasValue, IsRounded, IsExact, Writes, Moves}
+use Rattle.round.specs.Nearest.{HasValue, IsRounded, IsExact}
+use Rattle.write.specs.Writes.{Writes, Moves}
 use Rattle.promises.specs.Demands.{RefusedAs}
 
 -- the size of an offered value as a fraction, counted in 2^-307

@@ -14,9 +14,10 @@ use Rattle.word.specs.Reads.{signedSize}
 use Rattle.word.proofs.Values.{real-inj}
 use Rattle.bounds.proofs.Answers.{GivesAWord}
 use Rattle.bounds.proofs.Verdicts.{then-through, open-when, width-fits, word-passes, answered}
-use Rattle.write.specs.declared.value.Rule.{Rule}
-use Rattle.write.specs.Writes.{isNegative, IsWritten}
-use Rattle.write.proofs.Rounding.{exact-written}
+use Rattle.round.specs.declared.value.Rule.{Rule}
+use Rattle.write.specs.Writes.{isNegative}
+use Rattle.round.specs.Nearest.{IsWritten}
+use Rattle.round.proofs.Rounding.{exact-written}
 use Rattle.whole.specs.declared.taking.Taking.{Taking}
 use Rattle.whole.specs.declared.taking.Whole.{Whole}
 use Rattle.whole.specs.Wholes.{IsWholePart, overTest, inexactTest, IsTaken, WritesWhole, TakesWhole}

@@ -7,9 +7,9 @@ use Rattle.bounds.specs.declared.answer.Answer.{Answer}
 use Rattle.bounds.specs.Refusals.{_then_, Decided, through, refused}
 use Rattle.word.specs.Takum.{Takum, real, NaR, takum}
 use Rattle.bounds.proofs.Verdicts.{width-through, answered, refused-as, decided-one}
-use Rattle.write.specs.declared.value.Rule.{Rule}
+use Rattle.round.specs.declared.value.Rule.{Rule}
 use Rattle.write.specs.Writes.{isNegative}
-use Rattle.write.proofs.Rounding.{written-one}
+use Rattle.round.proofs.Rounding.{written-one}
 use Rattle.whole.specs.declared.taking.Taking.{Taking}
 use Rattle.whole.specs.declared.taking.Whole.{Whole}
 use Rattle.whole.specs.Wholes.{overTest, inexactTest, IsTaken, WritesWhole, TakesWhole}

@@ -9,8 +9,9 @@ use Rattle.bounds.specs.declared.refusal.Verdict.{Verdict}
 use Rattle.word.specs.Takum.{Takum, real, NaR, takum}
 use Rattle.word.specs.Reads.{signedSize}
 use Rattle.bounds.specs.Refusals.{unless, widthTest, wordTest, _then_, Decided}
-use Rattle.write.specs.declared.value.Rule.{Rule}
-use Rattle.write.specs.Writes.{IsWritten, isNegative}
+use Rattle.round.specs.declared.value.Rule.{Rule}
+use Rattle.round.specs.Nearest.{IsWritten}
+use Rattle.write.specs.Writes.{isNegative}
 use Rattle.whole.specs.declared.taking.Taking.{Taking}
 use Rattle.whole.specs.declared.taking.Whole.{Whole}
 

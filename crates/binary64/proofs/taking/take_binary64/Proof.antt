@@ -23,7 +23,8 @@ use Rattle.word.specs.Reads.{IsNumber}
 use Rattle.word.proofs.Numbers.{characteristic-of-string}
 use Rattle.bounds.proofs.Verdicts.{word-through}
 use Rattle.word.proofs.Words.{takum-zero, takum-NaR}
-use Rattle.write.proofs.Sized.{NaR-at-top, word-sized}
+use Rattle.word.proofs.Tops.{NaR-at-top}
+use Rattle.round.proofs.Sized.{word-sized}
 use Rattle.binary64.specs.declared.taking.Binary64.{Binary64}
 use Rattle.binary64.specs.Takes.{IsTaken, TakesBinary64}
 use Rattle.binary64.proofs.Closest.{closest-range}

@@ -23,7 +23,8 @@ use Rattle.word.proofs.Casts.{tested, not-negative, is-negative, plain-value}
 use Rattle.bounds.proofs.Verdicts.{word-through}
 use Rattle.word.proofs.Words.{takum-zero, takum-NaR}
 use Rattle.write.specs.Writes.{isNegative}
-use Rattle.write.proofs.Sized.{NaR-at-top, word-sized}
+use Rattle.word.proofs.Tops.{NaR-at-top}
+use Rattle.round.proofs.Sized.{word-sized}
 use Rattle.whole.specs.declared.taking.Taking.{Taking}
 use Rattle.whole.specs.declared.taking.Whole.{Whole}
 use Rattle.whole.specs.Wholes.{overTest, IsTaken, TakesWhole}

@@ -18,9 +18,11 @@ use Rattle.bounds.specs.Widths.{GivesWord}
 use Rattle.bounds.proofs.Verdicts.{told-move, move-through, width-through, answered}
 use Rattle.word.proofs.Words.{takum-zero, takum-NaR}
 use Rattle.write.specs.Writes.{isNegative, IsMoved, Moves}
-use Rattle.write.specs.Offers.{WritesSize, Settles}
-use Rattle.write.proofs.Rules.{zero-written, size-moved}
-use Rattle.write.proofs.Sized.{NaR-at-top, word-sized}
+use Rattle.round.specs.Offers.{WritesSize, Settles}
+use Rattle.round.proofs.Rules.{zero-written}
+use Rattle.write.proofs.Meanings.{size-moved}
+use Rattle.word.proofs.Tops.{NaR-at-top}
+use Rattle.round.proofs.Sized.{word-sized}
 use Rattle.write.proofs.moving.move_word.Statement.{statement}
 use Rattle.write.proofs.moving.move_word.Tie as tie
 

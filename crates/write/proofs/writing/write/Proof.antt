@@ -12,14 +12,14 @@ use mir.Val.{SFits, toZ, ofZ}
 use mir.Syntax.{w32, w64}
 use mir.Facts.{toZ-ofZ, toZ-pos}
 use Rattle.word.proofs.Signed.{add-mag}
-use Rattle.write.proofs.Normal.{zeros-le, shifted-full, shifted-offer}
+use Rattle.round.proofs.Normal.{zeros-le, shifted-full, shifted-offer}
 use Rattle.write.specs.Writes.{Writes}
-use Rattle.write.proofs.Exponents.{unit-some}
+use Rattle.word.proofs.Units.{unit-some}
 use Rattle.bounds.specs.declared.refusal.Verdict.{Verdict}
 use Rattle.bounds.proofs.Verdicts.{width-through}
 use Rattle.bounds.specs.Refusals.{widthTest, through, refused}
-use Rattle.write.specs.Offers.{WritesSize, Settles}
-use Rattle.write.proofs.Rules.{zero-written}
+use Rattle.round.specs.Offers.{WritesSize, Settles}
+use Rattle.round.proofs.Rules.{zero-written}
 use Rattle.word.specs.Reads.{num}
 use Rattle.write.proofs.writing.write.Statement.{statement}
 use Rattle.write.proofs.writing.write.Tie as tie

@@ -24,6 +24,8 @@ pub mod Coarse
 pub mod Sides
 -- so the hub gives the nearest positive word, past either end and inside
 pub mod Hub
+-- and a whole class of sizes has one
+pub mod Classes
 -- ---- one size in several units
 -- every size is offered as a fraction, and both parts of a fraction times one number are the same size
 pub mod Scales

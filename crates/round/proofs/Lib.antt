@@ -37,6 +37,8 @@ mod Held
 pub mod Sized
 -- two sizes are the same exactly where their normal forms are
 pub mod Exact
+-- one size beside the multiples of two units; no word has a size that lies between two multiples of a unit past 64 bits
+pub mod Finer
 -- ---- what the two rules give
 -- the nearest word with its sign, and what each rule makes of it
 pub mod Rules

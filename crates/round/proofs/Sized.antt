@@ -1,13 +1,14 @@
 -- A word that has a size, with either sign, has it at the top of 64 bits in the normal form. Assumes nothing.
-use mathlib.Core.Path.{_≡_, sym, ap, _∙_, subst}
+use mathlib.Core.Path.{_≡_, refl, sym, ap, _∙_, subst}
 use mathlib.Core.Bool.{Bool}
-use Prim.Native.Nat.{ℕ, zero, suc, _-_, _*_, _^_, _≤_, _<_}
+use Prim.Native.Nat.{ℕ, zero, suc, _+_, _-_, _*_, _^_, _≤_, _<_}
 use native.Mathlib.Omega.{arith}
-use lib.IntN.{pos, natAbs, _-ℤ_}
+use lib.Dec.{ltb}
+use lib.IntN.{ℤ, pos, natAbs, _-ℤ_}
 use Rattle.word.specs.declared.size.Size.{Size}
 use Rattle.word.specs.Reads.{IsSize, signedSize}
-use Rattle.word.specs.Sizes.{Sizes}
-use Rattle.word.specs.Takum.{takum, real, NaR}
+use Rattle.word.specs.Sizes.{withoutSign, Sizes}
+use Rattle.word.specs.Takum.{takum, real, NaR, p, F, c}
 use Rattle.word.proofs.Tops.{word-number}
 use Rattle.word.proofs.Values.{real-inj, absolute, no-sign, not-NaR}
 use Rattle.word.proofs.Words.{takum-zero, takum-NaR}
@@ -28,3 +29,11 @@ module _ (n : ℕ) (lo : 2 ≤ n) (hi : n ≤ 64) (negative : Bool) (z w : ℕ) 
   has-form s x =
       let y = word-number n w (value .word) not-zero not-NaR-word s x in
       (y .low, subst (IsSize (s .m) (s .h -ℤ pos 63)) (size-of-it (s .negative) (y .v) (y .means)) (y .size))
+
+  -- there is one, and its significand takes 64 bits
+  pub form : (e : ℤ) × (M : ℕ) × (2 ^ 63 ≤ M) × (M < 2 ^ 64) × IsSize M (e -ℤ pos 63) z
+  form =
+      let T = withoutSign (2 ^ 63) (w * 2 ^ (64 - n)) in
+      let s : Size = record { negative = ltb (2 ^ 63) (w * 2 ^ (64 - n)); h = c 64 T; m = 2 ^ 63 + F 64 T * 2 ^ (63 - p 64 T) } in
+      let x : Sizes (w * 2 ^ (64 - n)) s = record { sign = refl; characteristic = refl; significand = refl } in
+      (s .h, s .m, has-form s x .0, word-number n w (value .word) not-zero not-NaR-word s x .high, has-form s x .1)

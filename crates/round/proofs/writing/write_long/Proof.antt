@@ -5,6 +5,8 @@ use native.Mathlib.Nat.{pos-of-ne-zero}
 use native.Mathlib.Omega.{arith}
 use lib.IntN.{ℤ}
 use mir.Facts.{toZ-ofZ}
+use mir.Syntax.{w32}
+use mir.Val.{toZ, ofZ}
 use borrow.Author.Needs.{needs, sfits-of}
 use Rattle.bounds.specs.declared.refusal.Verdict.{Verdict}
 use Rattle.bounds.proofs.Verdicts.{width-through}
@@ -40,9 +42,10 @@ returns-2 : tie.Need-returns-2
 unfolding WritesLong WritesTimes significand
 returns-2 c = let k = c .before in
     let s = k .before .before .before .before .before .before in
+    let held : toZ w32 (ofZ w32 (s .args .value .k)) ≡ s .args .value .k = toZ-ofZ (sfits-of (k .struct-told .given .1 .1 .1 .0 .1)) in
     let all : s .args .value .low ≡ s .args .value .high * 2 ^ 64 + s .args .value .low = omega (arith, k .before .if1 .taken) in
     through (let-through (k .before .before .before))
-    (subst₂ (λ (x : ℕ) (z : ℤ). WritesTimes (s .args .width .bits) (s .args .rule) (s .args .value .negative) x z (c .write-short .result)) all (toZ-ofZ (sfits-of (k .struct-told .given .1 .1 .1 .0 .1))) (c .write-short .ensures))
+    (subst₂ (λ (x : ℕ) (z : ℤ). WritesTimes (s .args .width .bits) (s .args .rule) (s .args .value .negative) x z (c .write-short .result)) all held (c .write-short .ensures))
 
 write-full-requires : tie.Need-write-full-requires
 write-full-requires c κs = let b = bounds (c .before .before .before) in
@@ -52,8 +55,9 @@ returns-3 : tie.Need-returns-3
 unfolding WritesLong WritesTimes significand
 returns-3 c = let k = c .before in
     let s = k .before .before .before .before .before .before in
+    let held : toZ w32 (ofZ w32 (s .args .value .k)) ≡ s .args .value .k = toZ-ofZ (sfits-of (k .struct-told2 .given .1 .1 .1 .0 .1)) in
     through (let-through (k .before .before .before))
-    (subst (λ (z : ℤ). WritesTimes (s .args .width .bits) (s .args .rule) (s .args .value .negative) (s .args .value .high * 2 ^ 64 + s .args .value .low) z (c .write-full .result)) (toZ-ofZ (sfits-of (k .struct-told2 .given .1 .1 .1 .0 .1))) (c .write-full .ensures))
+    (subst (λ (z : ℤ). WritesTimes (s .args .width .bits) (s .args .rule) (s .args .value .negative) (s .args .value .high * 2 ^ 64 + s .args .value .low) z (c .write-full .result)) held (c .write-full .ensures))
 
 pub write-long-spec : {M : Type 1} → statement M
 write-long-spec =

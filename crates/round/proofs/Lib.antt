@@ -31,6 +31,10 @@ pub mod Classes
 pub mod Scales
 -- the normal form: the top bit moved to 2^63, and the exponent that makes up for it
 pub mod Normal
+-- the normal form of 128 bits: the first 64, and what lies below them
+pub mod Long
+-- the exponent of a size, as the machine adds it
+mod Held
 -- a word that has a size has it in this form
 pub mod Sized
 -- two sizes are the same exactly where their normal forms are

@@ -1,7 +1,7 @@
 -- The nearest word with its sign, and what each rule makes of it. Assumes nothing.
 use mathlib.Core.Path.{_≡_, refl, sym, ap, _∙_, subst, subst₂}
 use mathlib.Core.Bool.{Bool, true, false}
-use Prim.Native.Nat.{ℕ, zero, suc, _-_, _*_, _^_, _≤_, _<_}
+use Prim.Native.Nat.{ℕ, _+_, _-_, _*_, _^_, _≤_, _<_}
 use native.Mathlib.Nat.{zero-mul, one-mul, mul-one, mul-pos, lt-of-lt-of-le}
 use native.Mathlib.Omega.{arith}
 use lib.Dec.{lit<}
@@ -16,8 +16,10 @@ use Rattle.word.proofs.Words.{takum-zero}
 use Rattle.round.specs.declared.value.Rule.{Rule}
 use Rattle.round.specs.declared.size.Rest.{Rest}
 use Rattle.round.specs.Nearest.{HasValue, Nearest, zero, other, IsWritten}
-use Rattle.round.specs.Offers.{Amounts, IsOffered, IsNearest, RoundsSize, TellsSize, withSign, WritesSize, Settles}
+use Rattle.round.specs.Offers.{Amounts, IsOffered, IsRest, IsNearest, RoundsSize, TellsSize, withSign, WritesSize, WritesFiner, Settles}
 use Rattle.word.proofs.Units.{unit-some}
+use Rattle.round.proofs.Finer.{no-finer-word}
+use Rattle.round.proofs.Long.{finer-offer}
 use Rattle.round.proofs.Places.{nearest-one}
 use Rattle.round.proofs.Scales.{plain-offer, written-times}
 use Rattle.round.proofs.Signs.{signed-nearest, nearest-positive, exact-some, exact-nearest}
@@ -62,3 +64,23 @@ module _ (n : ℕ) (lo : 2 ≤ n) (hi : n ≤ 64) (h : ℤ) (m w : ℕ) where
         let same = nearest-one n lo hi s a b w' w some (exact-nearest n lo hi a b nonzero some s w' y) (near a b some offered) in
         inexact s (y .z) a b (exact-some n lo hi a b nonzero some (y .z) (y .same)) (subst (HasValue n s (y .z)) same (y .is)) some offered (y .same),
   )
+
+-- ---- a size with something below its last unit
+module _ (n : ℕ) (lo : 2 ≤ n) (hi : n ≤ 64) (h : ℤ) (m below : ℕ) (fits : below < 2 ^ 64) where
+  module _ (rest : Rest) (is : IsRest below rest) (w : ℕ) (near : IsNearest n h m rest w) where
+    of-size : (a b : ℕ) → 0 < b → IsOffered (m * 2 ^ 64 + below) Rest.Nothing (h -ℤ pos 127) a b → Nearest n false a b w
+    unfolding IsNearest
+    of-size a b some offered = near a b some (finer-offer m below rest h a b some fits is offered)
+
+    pub finer-positive : (0 < w) × (w < 2 ^ (n - 1))
+    finer-positive =
+        let x = h -ℤ pos 127 +ℤ pos 307 in
+        nearest-positive n lo hi _ _ w (of-size _ _ (unit-some x .1) (plain-offer (m * 2 ^ 64 + below) (h -ℤ pos 127)))
+
+    pub finer-word : (s : Bool) → WritesFiner n Rule.Rounded s h m below (Answer.Word (withSign n s w))
+    unfolding WritesFiner IsWritten
+    finer-word s = λ a b nonzero some offered. other nonzero (signed-nearest n lo hi s a b w (of-size a b some offered))
+
+  pub finer-refusal : 2 ^ 63 ≤ m → m < 2 ^ 64 → 0 < below → (s : Bool) → WritesFiner n Rule.Strict s h m below (Answer.Refused Refusal.Inexact)
+  unfolding WritesFiner IsWritten
+  finer-refusal full top finer s = λ a b nonzero some offered. (refl, no-finer-word n lo hi s m below h a b full top finer fits nonzero some offered)

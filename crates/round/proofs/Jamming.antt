@@ -6,22 +6,25 @@ use Prim.Native.Nat.{ℕ, zero, suc, _+_, _-_, _*_, _/_, _%_, _^_, _≤_, _<_}
 use native.Mathlib.Nat.{mul-le-mul-right, mul-pos, one-mul, zero-mul, mod-lt, le-div-iff-mul-le, le-trans, le-of-eq, lt-of-le-of-lt, lt-of-lt-of-le, two-pow-succ}
 use native.Mathlib.Decide.{decLt}
 use native.Mathlib.Omega.{arith}
+use lib.Dec.{lit<, lit≤}
 use lib.IntN.{ℤ, pos, _+ℤ_, _-ℤ_, +ℤ-negℤ-cancel}
 use lib.Pow.{pow-pos, pow-mono, shr-lt, split}
 use Rattle.bounds.specs.declared.answer.Answer.{Answer}
 use Rattle.bounds.specs.declared.refusal.Refusal.{Refusal}
-use Rattle.word.specs.Reads.{num, den}
+use Rattle.word.specs.Takum.{regimeOf, characteristicOf, power, S, D, R, r, p, C, F, c, e, value, meaning, N, padded, takum}
+use Rattle.word.specs.Reads.{num, den, signedSize}
+use Rattle.bounds.proofs.Answers.{wordOf}
 use Rattle.bounds.proofs.Powers.{pow-sum, not-more}
 use Rattle.word.proofs.Units.{unit-some}
 use Rattle.round.specs.declared.value.Rule.{Rule}
 use Rattle.round.specs.declared.size.Rest.{Rest}
 use Rattle.round.specs.declared.size.Side.{Side}
-use Rattle.round.specs.Nearest.{Nearest, other, IsWritten}
+use Rattle.round.specs.Nearest.{HasValue, Nearest, other, IsWritten}
 use Rattle.round.specs.Offers.{Amounts, IsOffered, IsNearest, Tells, withSign}
 use Rattle.round.specs.Jamming.{Between, jammed}
 use Rattle.round.proofs.Classes.{class-nearest}
 use Rattle.round.proofs.Finer.{coarser-between, no-word-between}
-use Rattle.round.proofs.Rounding.{written-one}
+use Rattle.round.proofs.Rounding.{over-nearest, tie-nearest, written-one}
 use Rattle.round.proofs.Scales.{plain-offer, coarser}
 use Rattle.round.proofs.Signs.{signed-nearest}
 
@@ -136,9 +139,57 @@ module _ (x : ℕ) (k : ℤ) where
       let is : jammed x * num y * den y ≡ jammed x * unit = plain-offer (jammed x) k in
       coarser-between k 1 (jammed x * num y) (den y) (x / 2) (omega (arith, is, some)) (omega (arith, is, some))
 
-pub jamming : (n : ℕ) → 2 ≤ n → n ≤ 64 → (rule : Rule) (s : Bool) (x : ℕ) (k : ℤ) (a b : ℕ) (r r' : Answer) → 2 ^ 127 ≤ x → x < 2 ^ 128 → 0 < b → Between x k a b → IsWritten n rule s a b r → IsWritten n rule s (jammed x * num (k +ℤ pos 307)) (den (k +ℤ pos 307)) r' → r ≡ r'
-jamming n lo hi rule s x k a b r r' full top some between exact cut =
+-- every size that is cut to so many bits and jammed is written as it is itself
+unfoldable pub Jams : ℕ → Type 0
+Jams bits =
+    (n : ℕ) → 2 ≤ n → n ≤ 64 → (rule : Rule) (s : Bool) (x : ℕ) (k : ℤ) (a b : ℕ) (r r' : Answer) → 2 ^ (bits - 1) ≤ x → x < 2 ^ bits → 0 < b → Between x k a b
+    → IsWritten n rule s a b r → IsWritten n rule s (jammed x * num (k +ℤ pos 307)) (den (k +ℤ pos 307)) r' → r ≡ r'
+
+-- 66 bits are enough
+pub enough-bits-jam : (bits : ℕ) → 66 ≤ bits → Jams bits
+unfolding Jams
+enough-bits-jam bits enough n lo hi rule s x k a b r r' full top some between exact cut =
     let y = k +ℤ pos 307 in
-    let t = between-written n lo hi 62 (x / 2) (k +ℤ pos 1) (le-div-iff-mul-le (pow-pos 1) .1 full) (shr-lt 127 1 top) rule s in
+    let t = between-written n lo hi (bits - 66) (x / 2) (k +ℤ pos 1) half-full half-top rule s in
     written-one n lo hi rule s a b r (t .0) some exact (t .1 a b some (exact-between x k a b between))
     ∙ sym (written-one n lo hi rule s (jammed x * num y) (den y) r' (t .0) (unit-some y .1) cut (t .1 (jammed x * num y) (den y) (unit-some y .1) (jammed-between x k)))
+  where
+    half-full : 2 ^ (64 + (bits - 66)) ≤ x / 2
+    half-full = le-div-iff-mul-le (pow-pos 1) .1 (le-trans (le-of-eq (pow-sum (64 + (bits - 66)) 1 (bits - 1) (omega (arith, enough)))) full)
+
+    half-top : x / 2 < 2 ^ (65 + (bits - 66))
+    half-top = shr-lt (65 + (bits - 66)) 1 (subst (λ (i : ℕ). x < 2 ^ i) sum top)
+      where
+        sum : bits ≡ 65 + (bits - 66) + 1
+        sum = omega (arith, enough)
+
+-- so the 128 bits of a long value are
+pub jamming : (n : ℕ) → 2 ≤ n → n ≤ 64 → (rule : Rule) (s : Bool) (x : ℕ) (k : ℤ) (a b : ℕ) (r r' : Answer) → 2 ^ 127 ≤ x → x < 2 ^ 128 → 0 < b → Between x k a b → IsWritten n rule s a b r → IsWritten n rule s (jammed x * num (k +ℤ pos 307)) (den (k +ℤ pos 307)) r' → r ≡ r'
+unfolding Jams
+jamming = enough-bits-jam 128 (lit≤ tt)
+
+-- 65 bits are not: the words 14 and 15 of 5 bits are 2^63 and 2^127, and past their midpoint 2^126 + 2^62 lies 2^126 + 2^62 + 1, which is cut to
+-- (2^64 + 1) * 2^62; its lowest bit is set already, and without what lies below it is the midpoint itself
+lower : HasValue 5 false (2 ^ (63 + 307)) 14
+unfolding regimeOf characteristicOf power S D R r p C F c e value meaning N padded takum signedSize
+lower = record { word = record { least = lit≤ tt; most = lit≤ tt; fits = lit< tt }; means = refl }
+
+upper : HasValue 5 false (2 ^ (127 + 307)) 15
+unfolding regimeOf characteristicOf power S D R r p C F c e value meaning N padded takum signedSize
+upper = record { word = record { least = lit≤ tt; most = lit≤ tt; fits = lit< tt }; means = refl }
+
+pub sixty-five-bits-dont-jam : Jams 65 → ⊥
+unfolding Jams jammed num den IsWritten wordOf
+sixty-five-bits-dont-jam jams = differ (jams 5 (lit≤ tt) (lit≤ tt) Rule.Rounded false (2 ^ 64 + 1) (pos 62) past 1 (Answer.Word 15) (Answer.Word 14) (lit≤ tt) (lit< tt) (lit< tt) (record { low = lit< tt; high = lit< tt }) (other (lit< tt) rounded-up) (other (lit< tt) rounded-down))
+  where
+    past : ℕ
+    past = (2 ^ 126 + 2 ^ 62 + 1) * 2 ^ 307
+
+    rounded-up : Nearest 5 false past 1 15
+    rounded-up = over-nearest 5 (lit≤ tt) (lit≤ tt) 14 (2 ^ (63 + 307)) (2 ^ (127 + 307)) past 1 (lit< tt) (lit< tt) (lit< tt) lower upper (lit< tt) (lit≤ tt)
+
+    rounded-down : Nearest 5 false ((2 ^ 64 + 1) * 2 ^ (62 + 307)) 1 14
+    rounded-down = tie-nearest 5 (lit≤ tt) (lit≤ tt) 14 (2 ^ (63 + 307)) (2 ^ (127 + 307)) ((2 ^ 64 + 1) * 2 ^ (62 + 307)) 1 (lit< tt) (lit< tt) (lit< tt) lower upper refl
+
+    differ : Answer.Word 15 ≡ Answer.Word 14 → ⊥
+    differ q = omega (arith, ap wordOf q)

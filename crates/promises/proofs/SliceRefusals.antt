@@ -20,7 +20,7 @@ use Rattle.write.specs.declared.value.Rule.{Rule}
 use Rattle.write.specs.Writes.{Moves}
 use Rattle.column.specs.declared.moving.Column.{Column}
 use Rattle.column.specs.Columns.{Movable, MovableUpTo, IsTried, MovesColumn}
-use Rattle.column.proofs.Rooms.{room-fits, room-short}
+use Rattle.bounds.proofs.Rooms.{room-fits, room-short}
 use Rattle.sheet.specs.declared.block.Block.{Block}
 use Rattle.sheet.specs.Layout as block
 use Rattle.sheet.specs.Sums.{sumA, sumB}

@@ -12,7 +12,7 @@ ghost use Rattle.binary64.specs.Takes.{TakesBinary64};
 
 pub enum Binary64 {
     Number(f64),
-    NotReal,
+    Nar,
     Refused(Refusal),
 }
 
@@ -22,7 +22,7 @@ pub fn take_binary64(width: Width, word: u64) -> Binary64
 {
     match read_size(width, word) {
         WordSize::Zero => Binary64::Number(0.0),
-        WordSize::Nar => Binary64::NotReal,
+        WordSize::Nar => Binary64::Nar,
         WordSize::Number(size) => {
             // The lowest of 53 digits is 2^(h - 52).
             let j = (size.h + 971) as u64;

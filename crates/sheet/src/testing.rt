@@ -12,7 +12,7 @@ ghost use mathlib.Core.Path.{_≡_};
 ghost use lib.ListN.{length};
 ghost use Rattle.sheet.specs.Layout.{unused};
 ghost use Rattle.sheet.specs.Sums.{total};
-ghost use Rattle.sheet.specs.Reads.{markTest, checkTest, widthTest, countTest, fillTest, blockTest};
+ghost use Rattle.sheet.specs.Reads.{markTest, checkTest, blockWidthTest, countTest, fillTest, blockTest};
 
 pub(crate) fn test(block: &[u8], places: usize) -> Verdict
     ensures { λ v. ⌜ v ≡ blockTest (now (block .entry)) places ⌝ }
@@ -54,7 +54,7 @@ fn test_sums(block: &[u8]) -> Verdict
 
 fn test_width(block: &[u8]) -> Verdict
     requires { ⌜ length (now block) ≡ 512 ⌝ }
-    ensures { λ v. ⌜ v ≡ widthTest (now (block .entry)) ⌝ }
+    ensures { λ v. ⌜ v ≡ blockWidthTest (now (block .entry)) ⌝ }
 {
     match width_of(block) {
         8 | 16 | 32 | 64 => Verdict::Through,

@@ -28,7 +28,7 @@ pub fn take_whole(width: Width, rule: Taking, word: u64) -> Whole
 {
     match read_size(width, word) {
         WordSize::Zero => by_rule(rule, true, 0),
-        WordSize::Nar => Whole::Refused(Refusal::NotReal),
+        WordSize::Nar => Whole::Refused(Refusal::Nar),
         WordSize::Number(size) => take_number(rule, size),
         WordSize::Refused(q) => Whole::Refused(q),
     }

@@ -22,13 +22,13 @@ use Rattle.word.proofs.Binades.{reading-one, number-not-zero, number-no
 -- there and back
 reading : WordSize → Reading
 reading WordSize.Zero = Reading.Zero
-reading WordSize.Nar = Reading.NotReal
+reading WordSize.Nar = Reading.Nar
 reading (WordSize.Number s) = Reading.Number (s .negative) (s .h) (s .m) 63
 reading (WordSize.Refused q) = Reading.Refused q
 
 sizeOf : Reading → WordSize
 sizeOf Reading.Zero = WordSize.Zero
-sizeOf Reading.NotReal = WordSize.Nar
+sizeOf Reading.Nar = WordSize.Nar
 sizeOf (Reading.Number negative h m p) = WordSize.Number (record { negative = negative; h = h; m = m })
 sizeOf (Reading.Refused q) = WordSize.Refused q
 

@@ -24,7 +24,7 @@ use Rattle.word.specs.Reads.{IsNumber}
 use Rattle.bounds.proofs.Verdicts.{word-through}
 use Rattle.word.proofs.Normal.{Tells, tells, exponent-small}
 use Rattle.binary64.specs.declared.taking.Binary64.{Binary64}
-use Rattle.binary64.specs.Takes.{IsTaken, TakesBinary64}
+use Rattle.binary64.specs.Takes.{IsTakenBinary64, TakesBinary64}
 use Rattle.binary64.proofs.Closest.{closest-range}
 use Rattle.binary64.proofs.Leading.{rounded-once}
 use Rattle.binary64.proofs.Raised.{raise-less}
@@ -71,7 +71,7 @@ module _ (k : tie.After-struct-told) where
   taken x f h =
       let number = word .1 in
       through (word .0)
-      (subst (λ (x : Float). IsTaken (takum (g .before .args .width .bits) (g .before .args .word)) (Binary64.Number x)) (sym (rounded-once (size .negative) (size .m) (up .0) (number .low) (number .high) (omega (arith, up .4)) x f h)) (number-taken number (up .0) (up .2)))
+      (subst (λ (x : Float). IsTakenBinary64 (takum (g .before .args .width .bits) (g .before .args .word)) (Binary64.Number x)) (sym (rounded-once (size .negative) (size .m) (up .0) (number .low) (number .high) (omega (arith, up .4)) x f h)) (number-taken number (up .0) (up .2)))
 
 -- a sign as a number
 sign-small : (b : Bool) → boolByte b ≤ 1
@@ -122,9 +122,9 @@ returns c = let x = told (c .before .before) (c .enum-told .given .1) in
     through (x .0) (zero-taken _ (x .1))
 
 returns-2 : tie.Need-returns-2
-unfolding TakesBinary64 Tells IsTaken
+unfolding TakesBinary64 Tells IsTakenBinary64
 returns-2 c = let x = told (c .before .before) (c .enum-told2 .given .1) in
-    through (x .0) (subst (λ (t : Takum). IsTaken t Binary64.NotReal) (sym (x .1)) refl)
+    through (x .0) (subst (λ (t : Takum). IsTakenBinary64 t Binary64.Nar) (sym (x .1)) refl)
 
 returns-3 : tie.Need-returns-3
 returns-3 c = let k = c .before .before .before in

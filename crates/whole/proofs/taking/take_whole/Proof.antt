@@ -10,7 +10,7 @@ use Rattle.word.specs.Reads.{signedSize}
 use Rattle.word.proofs.Normal.{Tells, tells}
 use Rattle.write.specs.Writes.{isNegative}
 use Rattle.whole.specs.declared.taking.Whole.{Whole}
-use Rattle.whole.specs.Wholes.{overTest, IsTaken, TakesWhole}
+use Rattle.whole.specs.Wholes.{overTest, IsTakenWhole, TakesWhole}
 use Rattle.whole.specs.Parts.{TakesSize}
 use Rattle.whole.proofs.WholeValues.{valueOf, exactly, taken-as-itself}
 use Rattle.whole.proofs.taking.take_whole.Statement.{statement}
@@ -46,12 +46,12 @@ returns : tie.Need-returns
 unfolding TakesWhole Tells valueOf signedSize isNegative overTest
 returns c = let rule = c .before .before .before .before .args .rule in
     let x = told (c .before .before .before) (c .before .enum-told .given .1) in
-    through (x .0) (subst₂ (IsTaken rule) (sym (x .1)) (sym (c .by-rule .ensures ∙ exactly rule (pos 0))) (taken-as-itself rule (pos 0) refl))
+    through (x .0) (subst₂ (IsTakenWhole rule) (sym (x .1)) (sym (c .by-rule .ensures ∙ exactly rule (pos 0))) (taken-as-itself rule (pos 0) refl))
 
 returns-2 : tie.Need-returns-2
-unfolding TakesWhole Tells IsTaken
+unfolding TakesWhole Tells IsTakenWhole
 returns-2 c = let x = told (c .before .before) (c .enum-told2 .given .1) in
-    through (x .0) (subst (λ (t : Takum). IsTaken (c .before .before .before .args .rule) t (Whole.Refused Refusal.NotReal)) (sym (x .1)) refl)
+    through (x .0) (subst (λ (t : Takum). IsTakenWhole (c .before .before .before .args .rule) t (Whole.Refused Refusal.Nar)) (sym (x .1)) refl)
 
 returns-3 : tie.Need-returns-3
 unfolding TakesWhole TakesSize Tells

@@ -74,7 +74,7 @@ pub(crate) fn take_comparison(digest: u64, comparison: Comparison) -> u64 {
 pub(crate) fn take_reading(digest: u64, reading: Reading) -> u64 {
     match reading {
         Reading::Zero => take(digest, 0),
-        Reading::NotReal => take(digest, 1),
+        Reading::Nar => take(digest, 1),
         Reading::Number { negative, h, m, p } => {
             let signed = take(take(digest, 2), negative as u64);
             take(take(take_signed_32(signed, h), m), p as u64)
@@ -93,7 +93,7 @@ pub(crate) fn take_whole_out(digest: u64, out: Whole) -> u64 {
 pub(crate) fn take_binary64_out(digest: u64, out: Binary64) -> u64 {
     match out {
         Binary64::Number(x) => take(take(digest, 0), pattern_of(x)),
-        Binary64::NotReal => take(digest, 1),
+        Binary64::Nar => take(digest, 1),
         Binary64::Refused(refusal) => take_refusal(digest, refusal),
     }
 }

@@ -27,7 +27,7 @@ pub(crate) fn print_word(n: u32, word: u64) {
 fn print_reading(reading: Reading) {
     match reading {
         Reading::Zero => print_number(0),
-        Reading::NotReal => print_bytes(b"nar"),
+        Reading::Nar => print_bytes(b"nar"),
         Reading::Number { negative, h, m, p } => print_value(negative, h, m, p),
         Reading::Refused(refusal) => print_refusal(refusal),
     }

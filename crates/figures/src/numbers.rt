@@ -57,7 +57,7 @@ pub(crate) fn print_binary64_out(n: u32, word: u64) {
     print_bytes(b" as binary64 is ");
     match take_binary64(Width { bits: n }, word) {
         Binary64::Number(x) => print_pattern(x),
-        Binary64::NotReal => print_bytes(b"no reading"),
+        Binary64::Nar => print_bytes(b"no reading"),
         Binary64::Refused(refusal) => print_refusal(refusal),
     }
     print_bytes(b"\n");

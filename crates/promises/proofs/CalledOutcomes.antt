@@ -113,7 +113,7 @@ reading-same r s e f (a, b, c, d) = λ i. record { refusal = e i; kind = f i; ne
 told : (n w : ℕ) (r : HandedReading) → r .refusal ≡ 0 → IsToldBy n w r → (a : Reading) × IsReading (takum n w) (fractionBits n w) a × (r ≡ readingHanded a)
 unfolding IsToldBy NoNumber IsReading
 told n w r e (inl (f, x, none)) = (Reading.Zero, x, reading-same r _ e f none)
-told n w r e (inr (inl (f, x, none))) = (Reading.NotReal, x, reading-same r _ e f none)
+told n w r e (inr (inl (f, x, none))) = (Reading.Nar, x, reading-same r _ e f none)
 told n w r e (inr (inr (f, x))) = (Reading.Number (r .negative) (r .h) (r .m) (r .p), x, reading-same r _ e f (refl, refl, refl, refl))
 
 pub reading-called-one : (n w : ℕ) (r s : HandedReading) → HandsReading n w r → HandsReading n w s → r ≡ s

@@ -81,7 +81,7 @@ read-hands n w = hands Reading.Refused (λ r. r .refusal) (λ r. (r .kind ≡ 0)
   where
     by : (a : Reading) → IsReading (takum n w) (fractionBits n w) a → (readingHanded a .refusal ≡ 0) × IsToldBy n w (readingHanded a)
     by Reading.Zero x = (refl, inl (refl, x, (refl, refl, refl, refl)))
-    by Reading.NotReal x = (refl, inr (inl (refl, x, (refl, refl, refl, refl))))
+    by Reading.Nar x = (refl, inr (inl (refl, x, (refl, refl, refl, refl))))
     by (Reading.Number s h m p) x = (refl, inr (inr (refl, x)))
     by (Reading.Refused q) x = absurd x
 

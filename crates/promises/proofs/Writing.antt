@@ -149,7 +149,7 @@ read-exactly n w Reading.Zero v i x says =
 read-exactly n w (Reading.Number s h m p) v i x says =
     let number = answered (word-passes n w i) x in
     subst (λ (v : Value). IsExact n (v .negative) (numerator v) (denominator v) w) (sym says) (record { z = number .v; is = record { word = i; means = number .means }; same = sym (number .size) })
-read-exactly n w Reading.NotReal v i x says = absurd says
+read-exactly n w Reading.Nar v i x says = absurd says
 read-exactly n w (Reading.Refused q) v i x says = absurd says
 
 pub what-was-read-is-written-back : promise.WhatWasReadIsWrittenBack
@@ -207,7 +207,7 @@ a-move-is-a-reading-and-a-writing n n' w rule Reading.Zero v r i x says (through
     through (move-through n n' w q .1) (zero-moved n' (t .0) (t .1) rule r (takum n w) v (answered (word-passes n w i) x) says y)
 a-move-is-a-reading-and-a-writing n n' w rule (Reading.Number s h m p) v r i x says (through q y) =
     subst (λ (v : Value). Writes n' rule v r) (sym says) (through (move-through n n' w q .1) (number-written n' rule r (takum n w) _ s h m p (answered (word-passes n w i) x) y))
-a-move-is-a-reading-and-a-writing n n' w rule Reading.NotReal v r i x says (through q y) = absurd says
+a-move-is-a-reading-and-a-writing n n' w rule Reading.Nar v r i x says (through q y) = absurd says
 a-move-is-a-reading-and-a-writing n n' w rule (Reading.Refused p) v r i x says (through q y) = absurd says
 
 pub strict-moves-keep-the-value : promise.StrictMovesKeepTheValue

@@ -134,7 +134,7 @@ AWordThatIsNotNaRGoesOutAsANumber = (n w : ℕ) (a : Binary64) → IsWord n w �
 
 -- NaR goes out as no number
 unfoldable pub NaRGoesOutAsNone : Type 0
-NaRGoesOutAsNone = (n w : ℕ) (a : Binary64) → IsWord n w → w ≡ narWord n → TakesBinary64 n w a → a ≡ Binary64.NotReal
+NaRGoesOutAsNone = (n w : ℕ) (a : Binary64) → IsWord n w → w ≡ narWord n → TakesBinary64 n w a → a ≡ Binary64.Nar
 
 -- a binary64 number that is the whole number x is written as x is, by either rule
 unfoldable pub Binary64AgreesWithWhole : Type 0

@@ -80,7 +80,7 @@ StrictWritingIsRefusedExactlyWhereThereIsNoWord = (n : ℕ) (v : Value) (r : Ans
 unfoldable pub Says : Reading → Value → Type 0
 Says Reading.Zero v = v .m ≡ 0
 Says (Reading.Number s h m p) v = v ≡ record { negative = s; m = m; k = h -ℤ pos p }
-Says Reading.NotReal v = ⊥
+Says Reading.Nar v = ⊥
 Says (Reading.Refused q) v = ⊥
 
 -- what was read is written back as the word it was read from, by either rule

@@ -1,9 +1,9 @@
 -- `test_room` meets its contract. Assumes nothing.
 use mathlib.Core.Path.{sym}
 use borrow.Author.Needs.{needs}
-use Rattle.column.proofs.Rooms.{room-fits, room-short}
-use Rattle.column.proofs.moving.test_room.Statement.{statement}
-use Rattle.column.proofs.moving.test_room.Tie as tie
+use Rattle.bounds.proofs.Rooms.{room-fits, room-short}
+use Rattle.bounds.proofs.room.test_room.Statement.{statement}
+use Rattle.bounds.proofs.room.test_room.Tie as tie
 
 returns : tie.Need-returns
 returns c = sym (room-fits _ _ (search needs))

@@ -174,7 +174,7 @@ module _ (i j e m : ℕ) (rest : Rest) (top : m < 2 ^ 64) where
       wide-over l = λ unit a h x y z hy hz. let w = within m rest unit a h x in omega (arith, w .low, one unit y hy, z-is unit z hz, mul-le-mul-right unit l, h)
 
 -- 64 binades apart and m = 2^63: the midpoint lies half a unit on, and the rest decides
-rest-side : Rest → Side
+unfoldable pub rest-side : Rest → Side
 rest-side Rest.Nothing = Side.Under
 rest-side Rest.UnderHalf = Side.Under
 rest-side Rest.Half = Side.Midway
@@ -191,25 +191,9 @@ module _ (i j e : ℕ) (last : e + 1 ≡ j) (apart : i + 64 ≡ j) where
   decided Rest.Half unit a h x = x
   decided Rest.OverHalf unit a h x = x .0
 
-  rest-decides : (m : ℕ) → m ≡ 2 ^ 63 → (rest : Rest) → TellsPowers i j e m rest (rest-side rest)
+  pub rest-decides : (m : ℕ) → m ≡ 2 ^ 63 → (rest : Rest) → TellsPowers i j e m rest (rest-side rest)
   unfolding TellsPowers
   rest-decides m q rest = λ unit a h x y z hy hz. subst (Tells (rest-side rest) (2 * a)) (sym (ends unit y z hy hz)) (decided rest unit a h (subst (λ (k : ℕ). Amounts k rest a unit) q x))
-
-  pub rest-nothing : (m : ℕ) → m ≡ 2 ^ 63 → TellsPowers i j e m Rest.Nothing Side.Under
-  unfolding rest-side
-  rest-nothing m q = rest-decides m q Rest.Nothing
-
-  pub rest-under-half : (m : ℕ) → m ≡ 2 ^ 63 → TellsPowers i j e m Rest.UnderHalf Side.Under
-  unfolding rest-side
-  rest-under-half m q = rest-decides m q Rest.UnderHalf
-
-  pub rest-half : (m : ℕ) → m ≡ 2 ^ 63 → TellsPowers i j e m Rest.Half Side.Midway
-  unfolding rest-side
-  rest-half m q = rest-decides m q Rest.Half
-
-  pub rest-over-half : (m : ℕ) → m ≡ 2 ^ 63 → TellsPowers i j e m Rest.OverHalf Side.Over
-  unfolding rest-side
-  rest-over-half m q = rest-decides m q Rest.OverHalf
 
 -- one of these decides
 module _ (i j e m : ℕ) (rest : Rest) (up : i < j) (narrow : j ≤ i + 64) (under : e < j) (full : 2 ^ 63 ≤ m) (top : m < 2 ^ 64) where

@@ -7,7 +7,7 @@ use native.Mathlib.Nat.{mul-le-mul-right, mul-pos, one-mul, zero-mul, mod-lt, le
 use native.Mathlib.Decide.{decLt}
 use native.Mathlib.Omega.{arith}
 use lib.Dec.{lit<, lit≤}
-use lib.IntN.{ℤ, pos, _+ℤ_, _-ℤ_, +ℤ-negℤ-cancel}
+use lib.IntN.{ℤ, pos, _+ℤ_, +ℤ-negℤ-cancel}
 use lib.Pow.{pow-pos, pow-mono, shr-lt, split}
 use Rattle.bounds.specs.declared.answer.Answer.{Answer}
 use Rattle.bounds.specs.declared.refusal.Refusal.{Refusal}

@@ -46,7 +46,7 @@ pub mod Finer
 pub mod Rules
 -- there is one rounded word and at most one strict word, a word's own value gives it back, and the ends
 pub mod Rounding
--- what is cut off below 128 bits may be jammed into the lowest of them
+-- what is cut off below 128 bits may be jammed into the lowest of them; 66 bits would do, 65 would not
 pub mod Jamming
 -- rounding keeps the order of values
 pub mod Order

@@ -1,14 +1,11 @@
 -- One size under several units: a power of two moves between significand and exponent, and a fraction between its two parts. Assumes nothing.
-use mathlib.Core.Path.{_≡_, refl, sym, ap, ap₂, _∙_, subst, subst₂}
-use mathlib.Core.Bool.{Bool, true, false, cond}
+use mathlib.Core.Path.{_≡_, sym, ap, ap₂, _∙_, subst, subst₂}
+use mathlib.Core.Bool.{Bool}
 use mathlib.Core.Logic.{⊎-elim}
 use Prim.Native.Nat.{ℕ, zero, suc, _-_, _*_, _^_, _≤_, _<_}
-use native.Mathlib.Nat.{mul-one, one-mul, mul-comm, mul-assoc, mul-right-comm, eq-of-mul-eq-mul-right, mul-le-mul-right, mul-lt-mul-of-pos-right, le-of-mul-le-mul-right, mul-sub, mul-pos, zero-mul}
+use native.Mathlib.Nat.{mul-comm, mul-assoc, mul-right-comm, eq-of-mul-eq-mul-right, mul-le-mul-right, mul-lt-mul-of-pos-right, le-of-mul-le-mul-right, mul-sub, mul-pos, zero-mul}
 use native.Mathlib.Omega.{arith}
-use borrow.Author.Tests.{ltb-true, ltb-false}
-use lib.Dec.{ltb}
-use lib.IntN.{ℤ, pos, negsuc, negℤ, _+ℤ_, _-ℤ_, +ℤ-assoc, +ℤ-comm}
-use lib.Pow.{pow-add}
+use lib.IntN.{ℤ, pos, _+ℤ_}
 use Rattle.word.specs.Reads.{num, den, IsSize}
 use Rattle.bounds.specs.declared.answer.Answer.{Answer}
 use Rattle.round.specs.declared.value.Rule.{Rule}

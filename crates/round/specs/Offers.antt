@@ -109,7 +109,3 @@ IsRest below Rest.Nothing = below ≡ 0
 IsRest below Rest.UnderHalf = (0 < below) × (below < 2 ^ 63)
 IsRest below Rest.Half = below ≡ 2 ^ 63
 IsRest below Rest.OverHalf = 2 ^ 63 < below
-
--- what the rule makes of the nearest word
-unfoldable pub Settles : ℕ → Rule → ℤ → ℕ → ℕ → Answer → Type 0
-Settles n rule h m w r = (negative : Bool) → RoundsSize n negative h m Rest.Nothing w → WritesSize n rule negative h m r

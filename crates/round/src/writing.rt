@@ -11,7 +11,7 @@ use word::size::size_of;
 ghost use mathlib.Core.Path.{_≡_};
 ghost use Prim.Native.Nat.{_+_, _-_, _*_, _^_, _≤_, _<_};
 ghost use Rattle.round.specs.Nearest.{WritesLong, WritesShort};
-ghost use Rattle.round.specs.Offers.{RoundsSize, Settles, TellsSize, IsRest, WritesSize, WritesFiner, WritesTimes, topBits, withSign};
+ghost use Rattle.round.specs.Offers.{RoundsSize, TellsSize, IsRest, WritesSize, WritesFiner, WritesTimes, topBits, withSign};
 
 // The word for a long value: the nearest, or exactly that value or INEXACT.
 pub fn write_long(width: Width, rule: Rule, value: LongValue) -> Answer
@@ -66,13 +66,22 @@ fn top_bits(high: u64, low: u64, zeros: u32) -> u64
     (high << zeros) + ((low >> 1) >> (63 - zeros))
 }
 
-// The word for the size m * 2^(h - 63) with its sign.
+// The word for the size m * 2^(h - 63) with its sign: the nearest, by the strict rule only where it has that size. Each rule calls `rounded`
+// by itself: so that one is compiled once, and the rule where it is known.
 fn write_size(width: Width, rule: Rule, negative: bool, h: i64, m: u64) -> Answer
     requires { ⌜ (2 ≤ width .bits) × (width .bits ≤ 64) × (2 ^ 63 ≤ m) ⌝ }
     ensures { λ r. ⌜ WritesSize (width .bits) rule negative h m r ⌝ }
 {
-    let word = rounded(width.bits, negative, h, m, Rest::Nothing);
-    by_rule(width, rule, h, m, word)
+    match rule {
+        Rule::Rounded => Answer::Word(rounded(width.bits, negative, h, m, Rest::Nothing)),
+        Rule::Strict => {
+            let word = rounded(width.bits, negative, h, m, Rest::Nothing);
+            if has_size(width.bits, word, h, m) {
+                return Answer::Word(word);
+            }
+            Answer::Refused(Refusal::Inexact)
+        }
+    }
 }
 
 // The same where something lies below the last unit of m, counted in 2^-64 of it: no word has so many bits, so none has exactly the size.
@@ -102,29 +111,12 @@ fn rest_of(below: u64) -> Rest
     Rest::OverHalf
 }
 
-// The word that is nearest to the size (m + rest) * 2^(h - 63) with its sign. The rule comes after it: so this is compiled once, and the rule
-// where it is known.
+// The word that is nearest to the size (m + rest) * 2^(h - 63) with its sign.
 fn rounded(n: u32, negative: bool, h: i64, m: u64, rest: Rest) -> u64
     requires { ⌜ (2 ≤ n) × (n ≤ 64) × (2 ^ 63 ≤ m) ⌝ }
     ensures { λ w. ⌜ RoundsSize n negative h m rest w ⌝ }
 {
     with_sign(n, negative, nearest(n, h, m, rest))
-}
-
-// The nearest word by the rule: by the strict one only where it has the size m * 2^(h - 63).
-fn by_rule(width: Width, rule: Rule, h: i64, m: u64, word: u64) -> Answer
-    requires { ⌜ (2 ≤ width .bits) × (width .bits ≤ 64) × (2 ^ 63 ≤ m) ⌝ }
-    ensures { λ r. ⌜ Settles (width .bits) rule h m word r ⌝ }
-{
-    match rule {
-        Rule::Rounded => Answer::Word(word),
-        Rule::Strict => {
-            if has_size(width.bits, word, h, m) {
-                return Answer::Word(word);
-            }
-            Answer::Refused(Refusal::Inexact)
-        }
-    }
 }
 
 // A word's opposite lies as far above NaR as the word lies below it.

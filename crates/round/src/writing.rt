@@ -10,6 +10,7 @@ use bounds::width::Width;
 use word::size::size_of;
 ghost use mathlib.Core.Path.{_≡_};
 ghost use Prim.Native.Nat.{_+_, _-_, _*_, _^_, _≤_, _<_};
+ghost use Rattle.round.specs.declared.value.Rule.{Rule};
 ghost use Rattle.round.specs.Nearest.{WritesLong, WritesShort};
 ghost use Rattle.round.specs.Offers.{RoundsSize, TellsSize, IsRest, WritesSize, WritesFiner, WritesTimes, topBits, withSign};
 
@@ -66,22 +67,28 @@ fn top_bits(high: u64, low: u64, zeros: u32) -> u64
     (high << zeros) + ((low >> 1) >> (63 - zeros))
 }
 
-// The word for the size m * 2^(h - 63) with its sign: the nearest, by the strict rule only where it has that size. Each rule calls `rounded`
-// by itself: so that one is compiled once, and the rule where it is known.
+// The word for the size m * 2^(h - 63) with its sign. `rounded` is called in two functions: so it is compiled once, and the rule where it
+// is known.
 fn write_size(width: Width, rule: Rule, negative: bool, h: i64, m: u64) -> Answer
     requires { ⌜ (2 ≤ width .bits) × (width .bits ≤ 64) × (2 ^ 63 ≤ m) ⌝ }
     ensures { λ r. ⌜ WritesSize (width .bits) rule negative h m r ⌝ }
 {
     match rule {
         Rule::Rounded => Answer::Word(rounded(width.bits, negative, h, m, Rest::Nothing)),
-        Rule::Strict => {
-            let word = rounded(width.bits, negative, h, m, Rest::Nothing);
-            if has_size(width.bits, word, h, m) {
-                return Answer::Word(word);
-            }
-            Answer::Refused(Refusal::Inexact)
-        }
+        Rule::Strict => write_strictly(width, negative, h, m),
     }
+}
+
+// The nearest word where it has exactly the size; if any word has it, that is the nearest.
+fn write_strictly(width: Width, negative: bool, h: i64, m: u64) -> Answer
+    requires { ⌜ (2 ≤ width .bits) × (width .bits ≤ 64) × (2 ^ 63 ≤ m) ⌝ }
+    ensures { λ r. ⌜ WritesSize (width .bits) Rule.Strict negative h m r ⌝ }
+{
+    let word = rounded(width.bits, negative, h, m, Rest::Nothing);
+    if has_size(width.bits, word, h, m) {
+        return Answer::Word(word);
+    }
+    Answer::Refused(Refusal::Inexact)
 }
 
 // The same where something lies below the last unit of m, counted in 2^-64 of it: no word has so many bits, so none has exactly the size.

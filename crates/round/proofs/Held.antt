@@ -1,12 +1,12 @@
--- The exponent k + j of a size, as the machine adds it in 64 bits. Assumes nothing.
+-- The exponent k + j or k - j of a size, as the machine has it in 64 bits. Assumes nothing.
 use mathlib.Core.Path.{_≡_, sym, ap, ap₂, _∙_, subst}
 use Prim.Native.Nat.{ℕ, _^_, _<_}
 use native.Mathlib.Omega.{arith}
-use lib.IntN.{ℤ, pos, _+ℤ_}
+use lib.IntN.{ℤ, pos, _+ℤ_, _-ℤ_}
 use mir.Val.{SFits, toZ, ofZ}
 use mir.Syntax.{w32, w64}
 use mir.Facts.{toZ-ofZ, toZ-pos}
-use Rattle.word.proofs.Signed.{add-mag}
+use Rattle.word.proofs.Signed.{add-mag, sub-mag}
 
 module _ (k : ℤ) (fits : SFits w32 k) where
   still-fits : SFits w64 k
@@ -31,3 +31,19 @@ module _ (k : ℤ) (fits : SFits w32 k) where
 
     pub held-sum : toZ w64 (ofZ w64 (toZ w64 (ofZ w64 (toZ w32 (ofZ w32 k))) +ℤ toZ w64 j)) ≡ k +ℤ pos j
     held-sum = ap (λ (z : ℤ). toZ w64 (ofZ w64 z)) raised-sum ∙ toZ-ofZ sum-fits
+
+    -- and as it takes j away
+    pub lowered-sum : toZ w64 (ofZ w64 (toZ w32 (ofZ w32 k))) -ℤ toZ w64 j ≡ k -ℤ pos j
+    lowered-sum = ap₂ (λ (x y : ℤ). x -ℤ y) (ap (λ (z : ℤ). toZ w64 (ofZ w64 z)) (toZ-ofZ fits) ∙ toZ-ofZ still-fits) (toZ-pos w64 fewer)
+      where
+        fewer : j < 2 ^ 63
+        fewer = omega (arith, small)
+
+    difference-fits : SFits w64 (k -ℤ pos j)
+    difference-fits = record { sfits = omega (arith, sub-mag k (pos j), fits .sfits, small) }
+
+    pub lowered-fits : SFits w64 (toZ w64 (ofZ w64 (toZ w32 (ofZ w32 k))) -ℤ toZ w64 j)
+    lowered-fits = subst (λ (z : ℤ). SFits w64 z) (sym lowered-sum) difference-fits
+
+    pub held-difference : toZ w64 (ofZ w64 (toZ w64 (ofZ w64 (toZ w32 (ofZ w32 k))) -ℤ toZ w64 j)) ≡ k -ℤ pos j
+    held-difference = ap (λ (z : ℤ). toZ w64 (ofZ w64 z)) lowered-sum ∙ toZ-ofZ difference-fits

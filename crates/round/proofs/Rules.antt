@@ -16,7 +16,7 @@ use Rattle.word.proofs.Words.{takum-zero}
 use Rattle.round.specs.declared.value.Rule.{Rule}
 use Rattle.round.specs.declared.size.Rest.{Rest}
 use Rattle.round.specs.Nearest.{HasValue, Nearest, zero, other, IsWritten}
-use Rattle.round.specs.Offers.{Amounts, IsOffered, IsRest, IsNearest, RoundsSize, TellsSize, withSign, WritesSize, WritesFiner}
+use Rattle.round.specs.Offers.{Amounts, IsOffered, IsRest, IsNearest, RoundsSize, TellsSize, withSign, WritesNormal, WritesFiner, Settles}
 use Rattle.word.proofs.Units.{unit-some}
 use Rattle.round.proofs.Finer.{no-finer-word}
 use Rattle.round.proofs.Long.{finer-offer}
@@ -54,19 +54,19 @@ module _ (n : ℕ) (lo : 2 ≤ n) (hi : n ≤ 64) (h : ℤ) (m : ℕ) (rest : Re
   signed-size s = λ a b some offered. signed-nearest n lo hi s a b w (near a b some offered)
 
 -- ---- what each rule makes of it
-module _ (n : ℕ) (lo : 2 ≤ n) (hi : n ≤ 64) (s : Bool) (h : ℤ) (m w : ℕ) (near : RoundsSize n s h m Rest.Nothing w) where
-  pub rounded-word : WritesSize n Rule.Rounded s h m (Answer.Word w)
-  unfolding RoundsSize WritesSize IsWritten
-  rounded-word = λ a b nonzero some offered. other nonzero (near a b some offered)
+module _ (n : ℕ) (lo : 2 ≤ n) (hi : n ≤ 64) (h : ℤ) (m w : ℕ) where
+  pub rounded-word : Settles n Rule.Rounded h m w (Answer.Word w)
+  unfolding Settles RoundsSize WritesNormal IsWritten
+  rounded-word s near = λ a b nonzero some offered. other nonzero (near a b some offered)
 
-  pub strict-word : TellsSize n w h m true → WritesSize n Rule.Strict s h m (Answer.Word w)
-  unfolding RoundsSize WritesSize IsWritten TellsSize
-  strict-word exact = λ a b nonzero some offered. let x = near a b some offered in
+  pub strict-word : TellsSize n w h m true → Settles n Rule.Strict h m w (Answer.Word w)
+  unfolding Settles RoundsSize WritesNormal IsWritten TellsSize
+  strict-word exact s near = λ a b nonzero some offered. let x = near a b some offered in
       record { z = x .z; is = x .is; same = exact s (x .z) a b (x .some) (x .is) some offered }
 
-  pub strict-refusal : TellsSize n w h m false → WritesSize n Rule.Strict s h m (Answer.Refused Refusal.Inexact)
-  unfolding RoundsSize WritesSize IsWritten TellsSize
-  strict-refusal inexact = λ a b nonzero some offered. (
+  pub strict-refusal : TellsSize n w h m false → Settles n Rule.Strict h m w (Answer.Refused Refusal.Inexact)
+  unfolding Settles RoundsSize WritesNormal IsWritten TellsSize
+  strict-refusal inexact s near = λ a b nonzero some offered. (
     refl,
     λ w' y.
         let same = nearest-one n lo hi s a b w' w some (exact-nearest n lo hi a b nonzero some s w' y) (near a b some offered) in

@@ -3,9 +3,10 @@ use mathlib.Core.Path.{_≡_}
 use mathlib.Core.Bool.{Bool, true, false}
 use mathlib.Core.Logic.{_⊎_}
 use Prim.Native.Nat.{ℕ, _+_, _-_, _*_, _%_, _^_, _≤_, _<_, max, min}
-use lib.IntN.{ℤ, pos, _+ℤ_}
+use lib.IntN.{ℤ, pos, _+ℤ_, _-ℤ_}
 use Rattle.bounds.specs.declared.answer.Answer.{Answer}
 use Rattle.bounds.specs.declared.refusal.Refusal.{Refusal}
+use Rattle.word.specs.declared.size.Size.{Size}
 use Rattle.word.specs.Takum.{real, takum}
 use Rattle.word.specs.Reads.{num, den, signedSize}
 use Rattle.bounds.specs.Refusals.{widthTest, IsWord, Decided}
@@ -52,6 +53,10 @@ IsWritten n Rule.Strict negative a b (Answer.Refused q) = (q ≡ Refusal.Inexact
 -- WIDTH, then INEXACT; m * 2^k is offered as a fraction counted in 2^-307
 unfoldable pub WritesShort : ℕ → Rule → Bool → ℕ → ℤ → Answer → Type 0
 WritesShort n rule negative m k r = Decided (widthTest n) (λ q. r ≡ Answer.Refused q) (IsWritten n rule negative (m * num (k +ℤ pos 307)) (den (k +ℤ pos 307)) r)
+
+-- the same of a size as a word is read in
+unfoldable pub WritesSize : ℕ → Rule → Size → Answer → Type 0
+WritesSize n rule s r = WritesShort n rule (s .negative) (s .m) (s .h -ℤ pos 63) r
 
 -- the same of two numbers in a row, which are one significand of 128 bits
 unfoldable pub WritesLong : ℕ → Rule → LongValue → Answer → Type 0

@@ -88,8 +88,8 @@ unfoldable pub TellsPowers : ℕ → ℕ → ℕ → ℕ → Rest → Side → T
 TellsPowers i j e m rest side = (unit a : ℕ) → 0 < unit → Amounts m rest a unit → (y z : ℕ) → y * 2 ^ e ≡ 2 ^ (63 + i) * unit → z * 2 ^ e ≡ 2 ^ (63 + j) * unit → Tells side (2 * a) (y + z)
 
 -- what is written for the size m * 2^(h - 63) with its sign
-unfoldable pub WritesSize : ℕ → Rule → Bool → ℤ → ℕ → Answer → Type 0
-WritesSize n rule negative h m r = (a b : ℕ) → 0 < a → 0 < b → IsOffered m Rest.Nothing (h -ℤ pos 63) a b → IsWritten n rule negative a b r
+unfoldable pub WritesNormal : ℕ → Rule → Bool → ℤ → ℕ → Answer → Type 0
+WritesNormal n rule negative h m r = (a b : ℕ) → 0 < a → 0 < b → IsOffered m Rest.Nothing (h -ℤ pos 63) a b → IsWritten n rule negative a b r
 
 -- what is written for the size (m + below * 2^-64) * 2^(h - 63) with its sign
 unfoldable pub WritesFiner : ℕ → Rule → Bool → ℤ → ℕ → ℕ → Answer → Type 0
@@ -109,3 +109,7 @@ IsRest below Rest.Nothing = below ≡ 0
 IsRest below Rest.UnderHalf = (0 < below) × (below < 2 ^ 63)
 IsRest below Rest.Half = below ≡ 2 ^ 63
 IsRest below Rest.OverHalf = 2 ^ 63 < below
+
+-- what the rule makes of the nearest word
+unfoldable pub Settles : ℕ → Rule → ℤ → ℕ → ℕ → Answer → Type 0
+Settles n rule h m w r = (negative : Bool) → RoundsSize n negative h m Rest.Nothing w → WritesNormal n rule negative h m r

@@ -7,12 +7,12 @@ use bounds::answer::Answer;
 use bounds::refusal::Refusal;
 use bounds::refusal::Verdict;
 use bounds::width::Width;
+use word::size::Size;
 use word::size::size_of;
 ghost use mathlib.Core.Path.{_≡_};
 ghost use Prim.Native.Nat.{_+_, _-_, _*_, _^_, _≤_, _<_};
-ghost use Rattle.round.specs.declared.value.Rule.{Rule};
-ghost use Rattle.round.specs.Nearest.{WritesLong, WritesShort};
-ghost use Rattle.round.specs.Offers.{RoundsSize, TellsSize, IsRest, WritesSize, WritesFiner, WritesTimes, topBits, withSign};
+ghost use Rattle.round.specs.Nearest.{WritesLong, WritesShort, WritesSize};
+ghost use Rattle.round.specs.Offers.{RoundsSize, Settles, TellsSize, IsRest, WritesFiner, WritesTimes, topBits, withSign};
 
 // The word for a long value: the nearest, or exactly that value or INEXACT.
 pub fn write_long(width: Width, rule: Rule, value: LongValue) -> Answer
@@ -28,7 +28,7 @@ pub fn write_long(width: Width, rule: Rule, value: LongValue) -> Answer
     write_full(width, rule, value.negative, value.high, value.low, value.k)
 }
 
-// The same of m * 2^k with its sign. Most values are so short, so this is a call by itself, which is compiled where it is made.
+// The same of m * 2^k with its sign. Most values are so short, so they have a call of their own.
 pub fn write_short(width: Width, rule: Rule, negative: bool, m: u64, k: i32) -> Answer
     ensures { λ r. ⌜ WritesShort (width .bits) rule negative m k r ⌝ }
 {
@@ -41,7 +41,28 @@ pub fn write_short(width: Width, rule: Rule, negative: bool, m: u64, k: i32) -> 
     }
     let zeros = u64::leading_zeros(m);
     let h = k as i64 + (63 - zeros) as i64;
-    write_size(width, rule, negative, h, m << zeros)
+    let full = m << zeros;
+    let word = rounded(width.bits, negative, h, full, Rest::Nothing);
+    by_rule(width, rule, h, full, word)
+}
+
+// The same of a size as a word is read in, m * 2^(h - 63) with its sign, also where the top bit of m isn't set.
+pub fn write_size(width: Width, rule: Rule, size: Size) -> Answer
+    ensures { λ r. ⌜ WritesSize (width .bits) rule size r ⌝ }
+{
+    let verdict = width.test();
+    if let Verdict::Refused(q) = verdict {
+        return Answer::Refused(q);
+    }
+    let m = size.m;
+    if m == 0 {
+        return Answer::Word(0);
+    }
+    let zeros = u64::leading_zeros(m);
+    let h = size.h as i64 - zeros as i64;
+    let full = m << zeros;
+    let word = rounded(width.bits, size.negative, h, full, Rest::Nothing);
+    by_rule(width, rule, h, full, word)
 }
 
 // What is written for a significand that goes past 64 bits. Its first 64 stand in m, the others below.
@@ -54,7 +75,8 @@ fn write_full(width: Width, rule: Rule, negative: bool, high: u64, low: u64, k: 
     let m = top_bits(high, low, zeros);
     let below = low << zeros;
     if below == 0 {
-        return write_size(width, rule, negative, h, m);
+        let word = rounded(width.bits, negative, h, m, Rest::Nothing);
+        return by_rule(width, rule, h, m, word);
     }
     write_finer(width, rule, negative, h, m, below)
 }
@@ -67,31 +89,8 @@ fn top_bits(high: u64, low: u64, zeros: u32) -> u64
     (high << zeros) + ((low >> 1) >> (63 - zeros))
 }
 
-// The word for the size m * 2^(h - 63) with its sign. `rounded` is called in two functions: so it is compiled once, and the rule where it
-// is known.
-fn write_size(width: Width, rule: Rule, negative: bool, h: i64, m: u64) -> Answer
-    requires { ⌜ (2 ≤ width .bits) × (width .bits ≤ 64) × (2 ^ 63 ≤ m) ⌝ }
-    ensures { λ r. ⌜ WritesSize (width .bits) rule negative h m r ⌝ }
-{
-    match rule {
-        Rule::Rounded => Answer::Word(rounded(width.bits, negative, h, m, Rest::Nothing)),
-        Rule::Strict => write_strictly(width, negative, h, m),
-    }
-}
-
-// The nearest word where it has exactly the size; if any word has it, that is the nearest.
-fn write_strictly(width: Width, negative: bool, h: i64, m: u64) -> Answer
-    requires { ⌜ (2 ≤ width .bits) × (width .bits ≤ 64) × (2 ^ 63 ≤ m) ⌝ }
-    ensures { λ r. ⌜ WritesSize (width .bits) Rule.Strict negative h m r ⌝ }
-{
-    let word = rounded(width.bits, negative, h, m, Rest::Nothing);
-    if has_size(width.bits, word, h, m) {
-        return Answer::Word(word);
-    }
-    Answer::Refused(Refusal::Inexact)
-}
-
-// The same where something lies below the last unit of m, counted in 2^-64 of it: no word has so many bits, so none has exactly the size.
+// The word for the size m * 2^(h - 63) and something below its last unit, counted in 2^-64 of it: no word has so many bits, so none has exactly
+// that size.
 fn write_finer(width: Width, rule: Rule, negative: bool, h: i64, m: u64, below: u64) -> Answer
     requires { ⌜ (2 ≤ width .bits) × (width .bits ≤ 64) × (2 ^ 63 ≤ m) × (0 < below) ⌝ }
     ensures { λ r. ⌜ WritesFiner (width .bits) rule negative h m below r ⌝ }
@@ -118,12 +117,29 @@ fn rest_of(below: u64) -> Rest
     Rest::OverHalf
 }
 
-// The word that is nearest to the size (m + rest) * 2^(h - 63) with its sign.
+// The word that is nearest to the size (m + rest) * 2^(h - 63) with its sign. Whoever writes calls this and then `by_rule`: so this is
+// compiled once, and the rule where it is known.
 fn rounded(n: u32, negative: bool, h: i64, m: u64, rest: Rest) -> u64
     requires { ⌜ (2 ≤ n) × (n ≤ 64) × (2 ^ 63 ≤ m) ⌝ }
     ensures { λ w. ⌜ RoundsSize n negative h m rest w ⌝ }
 {
     with_sign(n, negative, nearest(n, h, m, rest))
+}
+
+// The nearest word by the rule: by the strict one only where it has the size m * 2^(h - 63). If any word has it, that is the nearest.
+fn by_rule(width: Width, rule: Rule, h: i64, m: u64, word: u64) -> Answer
+    requires { ⌜ (2 ≤ width .bits) × (width .bits ≤ 64) × (2 ^ 63 ≤ m) ⌝ }
+    ensures { λ r. ⌜ Settles (width .bits) rule h m word r ⌝ }
+{
+    match rule {
+        Rule::Rounded => Answer::Word(word),
+        Rule::Strict => {
+            if has_size(width.bits, word, h, m) {
+                return Answer::Word(word);
+            }
+            Answer::Refused(Refusal::Inexact)
+        }
+    }
 }
 
 // A word's opposite lies as far above NaR as the word lies below it.

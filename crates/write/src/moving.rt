@@ -3,7 +3,7 @@ use bounds::answer::Answer;
 use bounds::refusal::Verdict;
 use bounds::width::Width;
 use round::value::Rule;
-use round::writing::write_short;
+use round::writing::write_size;
 use word::size::WordSize;
 use word::size::read_size;
 ghost use Rattle.write.specs.Writes.{Moves};
@@ -21,6 +21,6 @@ pub fn move_word(from: Width, to: Width, rule: Rule, word: u64) -> Answer
         WordSize::Refused(q) => Answer::Refused(q),
         WordSize::Zero => Answer::Word(0),
         WordSize::Nar => to.nar(),
-        WordSize::Number(size) => write_short(to, rule, size.negative, size.m, size.h - 63),
+        WordSize::Number(size) => write_size(to, rule, size),
     }
 }

@@ -11,7 +11,7 @@ use lib.Pow.{pow-pos}
 use Rattle.word.specs.Reads.{num, den}
 use Rattle.word.proofs.Units.{unit-some}
 use Rattle.round.specs.declared.size.Rest.{Rest}
-use Rattle.round.specs.Offers.{IsOffered, IsRest, topBits, WritesSize, WritesFiner, WritesTimes}
+use Rattle.round.specs.Offers.{IsOffered, IsRest, topBits, WritesNormal, Settles, WritesFiner, WritesTimes}
 use Rattle.round.proofs.Held.{raised-fits, held-sum, wide}
 use Rattle.round.proofs.Long.{few-zeros, high-shifted, top-full, long-offer, finer-offer}
 use Rattle.round.proofs.writing.write_full.Statement.{statement}
@@ -73,16 +73,20 @@ cast-below c = record { fits = lt-of-le-of-lt (few (c .before)) (lit< tt) }
 shl-below : tie.Need-shl-below
 shl-below c = lt-of-le-of-lt (few (c .before)) (lit< tt)
 
-write-size-requires : tie.Need-write-size-requires
-write-size-requires c κs = let k = c .before in
+rounded-requires : tie.Need-rounded-requires
+rounded-requires c κs = let k = c .before in
+    (k .before .pre .0, k .before .pre .1, full k)
+
+by-rule-requires : tie.Need-by-rule-requires
+by-rule-requires c κs = let k = c .before .before in
     (k .before .pre .0, k .before .pre .1, full k)
 
 returns : tie.Need-returns
-unfolding WritesTimes WritesSize IsRest
-returns c = let k = c .before .before in
+unfolding WritesTimes WritesNormal Settles IsRest
+returns c = let k = c .before .before .before in
     let s = k .before in
-    subst (λ (z : ℤ). WritesSize (s .args .width .bits) (s .args .rule) (s .args .negative) z (k .top-bits .result) (c .write-size .result)) (held-sum (s .args .k) (s .fits .k) (127 - zeros s) (small s)) (c .write-size .ensures) _ _ (mul-pos (some s) (unit-some _ .0)) (unit-some _ .1)
-    (finer-offer (k .top-bits .result) (below s) Rest.Nothing (h s) _ _ (unit-some _ .1) (below-lt s) (c .before .if1 .taken) (offered s (k .top-bits .result) (k .top-bits .ensures)))
+    subst (λ (z : ℤ). WritesNormal (s .args .width .bits) (s .args .rule) (s .args .negative) z (k .top-bits .result) (c .by-rule .result)) (held-sum (s .args .k) (s .fits .k) (127 - zeros s) (small s)) (c .by-rule .ensures (s .args .negative) (c .before .rounded .ensures)) _ _ (mul-pos (some s) (unit-some _ .0)) (unit-some _ .1)
+    (finer-offer (k .top-bits .result) (below s) Rest.Nothing (h s) _ _ (unit-some _ .1) (below-lt s) (c .before .before .if1 .taken) (offered s (k .top-bits .result) (k .top-bits .ensures)))
 
 write-finer-requires : tie.Need-write-finer-requires
 write-finer-requires c κs = let k = c .before in
@@ -106,7 +110,8 @@ write-full-spec =
     top-bits-requires
     cast-below
     shl-below
-    write-size-requires
+    rounded-requires
+    by-rule-requires
     returns
     write-finer-requires
     returns-2)

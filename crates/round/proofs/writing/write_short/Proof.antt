@@ -13,7 +13,7 @@ use Rattle.bounds.proofs.Verdicts.{width-through}
 use Rattle.word.specs.Reads.{num}
 use Rattle.word.proofs.Units.{unit-some}
 use Rattle.round.specs.Nearest.{WritesShort}
-use Rattle.round.specs.Offers.{WritesSize}
+use Rattle.round.specs.Offers.{WritesNormal, Settles}
 use Rattle.round.proofs.Normal.{zeros-le, shifted-full, shifted-offer}
 use Rattle.round.proofs.Rules.{zero-written}
 use Rattle.round.proofs.Held.{raised-fits, held-sum, wide}
@@ -76,22 +76,27 @@ add-h : tie.Need-add-h
 add-h c = let t = s (c .before) in
     raised-fits (t .args .k) (t .fits .k) (63 - leadingZeros 64 (m c)) (small c)
 
-cast-write-size : tie.Need-cast-write-size
-cast-write-size c = record { fits = lt-of-le-of-lt (few c) (lit< tt) }
+cast-full : tie.Need-cast-full
+cast-full c = record { fits = lt-of-le-of-lt (few c) (lit< tt) }
 
-shl-write-size : tie.Need-shl-write-size
-shl-write-size c = lt-of-le-of-lt (few c) (lit< tt)
+shl-full : tie.Need-shl-full
+shl-full c = lt-of-le-of-lt (few c) (lit< tt)
 
-write-size-requires : tie.Need-write-size-requires
-write-size-requires c κs = let b = bounds (c .before) in
+rounded-requires : tie.Need-rounded-requires
+rounded-requires c κs = let b = bounds (c .before) in
     (b .0, b .1, shifted-full _ (some c) (s (c .before) .fits .m .fits))
 
+by-rule-requires : tie.Need-by-rule-requires
+by-rule-requires c κs = let k = c .before in
+    let b = bounds (k .before) in
+    (b .0, b .1, shifted-full _ (some k) (s (k .before) .fits .m .fits))
+
 returns-3 : tie.Need-returns-3
-unfolding WritesShort WritesSize
-returns-3 c = let k = c .before in
+unfolding WritesShort WritesNormal Settles
+returns-3 c = let k = c .before .before in
     let t = s (k .before) in
     through (let-through (k .before))
-    (subst (λ (z : ℤ). WritesSize (t .args .width .bits) (t .args .rule) (t .args .negative) z (m k * 2 ^ leadingZeros 64 (m k) % 2 ^ 64) (c .write-size .result)) (held-sum (t .args .k) (t .fits .k) (63 - leadingZeros 64 (m k)) (small k)) (c .write-size .ensures) _ _ (mul-pos (some k) (unit-some _ .0)) (unit-some _ .1) (shifted-offer _ (some k) (t .fits .m .fits) (t .args .k)))
+    (subst (λ (z : ℤ). WritesNormal (t .args .width .bits) (t .args .rule) (t .args .negative) z (m k * 2 ^ leadingZeros 64 (m k) % 2 ^ 64) (c .by-rule .result)) (held-sum (t .args .k) (t .fits .k) (63 - leadingZeros 64 (m k)) (small k)) (c .by-rule .ensures (t .args .negative) (c .before .rounded .ensures)) _ _ (mul-pos (some k) (unit-some _ .0)) (unit-some _ .1) (shifted-offer _ (some k) (t .fits .m .fits) (t .args .k)))
 
 pub write-short-spec : {M : Type 1} → statement M
 write-short-spec =
@@ -106,7 +111,8 @@ write-short-spec =
     sub-h
     cast-h-2
     add-h
-    cast-write-size
-    shl-write-size
-    write-size-requires
+    cast-full
+    shl-full
+    rounded-requires
+    by-rule-requires
     returns-3)

@@ -1,40 +1,135 @@
--- `write_size` meets its contract: the nearest word with its sign, or the strict rule's. Assumes nothing.
-use mathlib.Core.Path.{_≡_, sym, subst}
-use lib.IntN.{ℤ}
-use mir.Facts.{toZ-ofZ}
-use borrow.Author.Needs.{needs}
-use Rattle.bounds.specs.declared.answer.Answer.{Answer}
-use Rattle.round.specs.declared.size.Rest.{Rest}
-use Rattle.round.specs.declared.value.Rule.{Rule}
-use Rattle.round.specs.Offers.{RoundsSize, WritesSize}
-use Rattle.round.proofs.Rules.{rounded-word}
+-- `write_size` meets its contract: the width, zero, and any other size with its top bit moved to 2^63. Assumes nothing.
+use mathlib.Core.Path.{_≡_, refl, sym, ap, _∙_, subst}
+use Prim.Native.Nat.{ℕ, zero, _-_, _*_, _%_, _^_, _≤_, _<_}
+use native.Mathlib.Nat.{pos-of-ne-zero, zero-mul, lt-of-le-of-lt, mul-pos}
+use native.Mathlib.Omega.{arith}
+use borrow.Author.Needs.{needs, sfits-of}
+use lib.Dec.{lit<}
+use lib.Count.{leadingZeros}
+use lib.IntN.{ℤ, pos, _+ℤ_, _-ℤ_}
+use mir.Val.{SFits, toZ, ofZ}
+use mir.Syntax.{w32, w64}
+use Rattle.bounds.specs.declared.refusal.Verdict.{Verdict}
+use Rattle.bounds.specs.Refusals.{widthTest, through, refused}
+use Rattle.bounds.proofs.Verdicts.{width-through}
+use Rattle.word.specs.Reads.{num}
+use Rattle.word.proofs.Units.{unit-some, lower-by}
+use Rattle.round.specs.Nearest.{WritesShort, WritesSize}
+use Rattle.round.specs.Offers.{WritesNormal, Settles}
+use Rattle.round.proofs.Normal.{zeros-le, shifted-full, shifted-offer}
+use Rattle.round.proofs.Rules.{zero-written}
+use Rattle.round.proofs.Held.{lowered-fits, held-difference, wide}
 use Rattle.round.proofs.writing.write_size.Statement.{statement}
 use Rattle.round.proofs.writing.write_size.Tie as tie
 
--- the rule is the one that was asked for
-by-rule : (s : tie.Start) (rule : Rule) (r : Answer) → s .args .rule ≡ rule → WritesSize (s .args .width .bits) rule (s .args .negative) (s .args .h) (s .args .m) r → WritesSize (s .args .width .bits) (s .args .rule) (s .args .negative) (s .args .h) (s .args .m) r
-by-rule s rule r q x = subst (λ (u : Rule). WritesSize (s .args .width .bits) u (s .args .negative) (s .args .h) (s .args .m) r) (sym q) x
+module _ (g : tie.After-enum-told) where
+  abbrev s : tie.Start
+  s = g .before .before .before
+
+  let-through : widthTest (s .args .width .bits) ≡ Verdict.Through
+  let-through = sym (g .before .before .test .ensures) ∙ g .enum-told .given .1
+
+  bounds : (2 ≤ s .args .width .bits) × (s .args .width .bits ≤ 64)
+  bounds = width-through _ let-through
+
+-- what is known of a size that isn't zero
+module _ (c : tie.After-struct-told) where
+  abbrev g : tie.After-enum-told
+  g = c .before .before .before
+
+  abbrev m : ℕ
+  m = s g .args .size .m
+
+  abbrev h : ℤ
+  h = s g .args .size .h
+
+  some : zero < m
+  some = pos-of-ne-zero (c .before .before .if1 .left)
+
+  fits : m < 2 ^ 64
+  fits = c .struct-told .given .1 .1 .0 .1
+
+  h-fits : SFits w32 h
+  h-fits = sfits-of (c .struct-told .given .1 .0 .1)
+
+  few : leadingZeros 64 m ≤ 63
+  few = zeros-le m some fits
+
+  small : leadingZeros 64 m < 2 ^ 31
+  small = lt-of-le-of-lt few (lit< tt)
+
+  full : 2 ^ 63 ≤ m * 2 ^ leadingZeros 64 m % 2 ^ 64
+  full = shifted-full m some fits
+
+  -- the exponent as the machine has it, beside that of the value
+  held : toZ w64 (ofZ w64 (toZ w64 (ofZ w64 (toZ w32 (ofZ w32 h))) -ℤ toZ w64 (leadingZeros 64 m))) ≡ h -ℤ pos 63 +ℤ pos (63 - leadingZeros 64 m)
+  held = held-difference h h-fits (leadingZeros 64 m) small ∙ sym (lower-by h (leadingZeros 64 m) 63 few)
+
+test-requires : tie.Need-test-requires
+test-requires c κs = search needs
+
+enum-known-verdict : tie.Need-enum-known-verdict
+enum-known-verdict c = search needs
+
+returns : tie.Need-returns
+unfolding WritesSize WritesShort
+returns c = refused (sym (c .before .before .before .test .ensures) ∙ c .before .verdict .given .1) refl
 
 enum-told : tie.Need-enum-told
 enum-told c = search needs
 
-rounded-requires : tie.Need-rounded-requires
-rounded-requires c κs = search needs
-
-enum-told-2 : tie.Need-enum-told-2
-enum-told-2 c = search needs
-
-write-strictly-requires : tie.Need-write-strictly-requires
-write-strictly-requires c κs = search needs
-
-returns : tie.Need-returns
-returns c = let s = c .before .before .before in
-    let near = subst (λ (z : ℤ). RoundsSize (s .args .width .bits) (s .args .negative) z (s .args .m) Rest.Nothing (c .rounded .result)) (toZ-ofZ (s .fits .h)) (c .rounded .ensures) in
-    by-rule s Rule.Rounded _ (c .before .enum-told .given .1) (rounded-word _ (s .pre .0) (s .pre .1) _ _ _ _ near)
-
 returns-2 : tie.Need-returns-2
-returns-2 c = let s = c .before .before .before in
-    by-rule s Rule.Strict _ (c .before .enum-told2 .given .1) (subst (λ (z : ℤ). WritesSize (s .args .width .bits) Rule.Strict (s .args .negative) z (s .args .m) (c .write-strictly .result)) (toZ-ofZ (s .fits .h)) (c .write-strictly .ensures))
+unfolding WritesSize WritesShort
+returns-2 c = let g = c .before in
+    let e = s g .args .size .h -ℤ pos 63 +ℤ pos 307 in
+    through (let-through g) (zero-written _ (bounds g .0) (bounds g .1) _ _ _ _ (ap (λ (x : ℕ). x * num e) (c .if1 .taken) ∙ zero-mul (num e)))
+
+cast-h : tie.Need-cast-h
+cast-h c = wide (h c) (h-fits c)
+
+cast-h-2 : tie.Need-cast-h-2
+cast-h-2 c = record { sfits = omega (arith, small c) }
+
+sub-h : tie.Need-sub-h
+sub-h c = lowered-fits (h c) (h-fits c) (leadingZeros 64 (m c)) (small c)
+
+cast-full : tie.Need-cast-full
+cast-full c = record { fits = lt-of-le-of-lt (few c) (lit< tt) }
+
+shl-full : tie.Need-shl-full
+shl-full c = lt-of-le-of-lt (few c) (lit< tt)
+
+rounded-requires : tie.Need-rounded-requires
+rounded-requires c κs = let b = bounds (g c) in
+    (b .0, b .1, full c)
+
+by-rule-requires : tie.Need-by-rule-requires
+by-rule-requires c κs = let k = c .before in
+    let b = bounds (g k) in
+    (b .0, b .1, full k)
+
+returns-3 : tie.Need-returns-3
+unfolding WritesSize WritesShort WritesNormal Settles
+returns-3 c = let k = c .before .before in
+    let t = s (g k) in
+    let size = t .args .size in
+    through (let-through (g k))
+    (subst (λ (z : ℤ). WritesNormal (t .args .width .bits) (t .args .rule) (size .negative) z (m k * 2 ^ leadingZeros 64 (m k) % 2 ^ 64) (c .by-rule .result)) (held k) (c .by-rule .ensures (size .negative) (c .before .rounded .ensures)) _ _ (mul-pos (some k) (unit-some _ .0)) (unit-some _ .1) (shifted-offer _ (some k) (fits k) (h k -ℤ pos 63)))
 
 pub write-size-spec : {M : Type 1} → statement M
-write-size-spec = tie.close (tie.spec enum-told rounded-requires enum-told-2 write-strictly-requires returns returns-2)
+write-size-spec =
+    tie.close
+    (tie.spec
+    test-requires
+    enum-known-verdict
+    returns
+    enum-told
+    returns-2
+    cast-h
+    cast-h-2
+    sub-h
+    cast-full
+    shl-full
+    rounded-requires
+    by-rule-requires
+    returns-3)

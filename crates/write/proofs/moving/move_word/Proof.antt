@@ -2,25 +2,18 @@
 use mathlib.Core.Path.{_≡_, refl, sym, ap, _∙_, subst}
 use mathlib.Core.Bool.{false}
 use Prim.Native.Nat.{ℕ, _≤_}
-use native.Mathlib.Omega.{arith}
-use borrow.Author.Needs.{needs, sfits-of}
-use lib.IntN.{ℤ, pos, _-ℤ_}
-use lib.Signed.{mag}
-use mir.Facts.{toZ-ofZ}
-use mir.Syntax.{w32}
-use mir.Val.{SFits, toZ, ofZ}
+use borrow.Author.Needs.{needs}
 use Rattle.bounds.specs.declared.answer.Answer.{Answer}
 use Rattle.bounds.specs.declared.refusal.Verdict.{Verdict}
 use Rattle.bounds.specs.Refusals.{widthTest, strayTest, wordTest, _then_, through, refused}
 use Rattle.bounds.specs.Widths.{GivesWord}
-use Rattle.bounds.proofs.Verdicts.{told-move, width-through, word-through, answered}
+use Rattle.bounds.proofs.Verdicts.{told-move, width-through, answered}
 use Rattle.word.specs.declared.size.Size.{Size}
 use Rattle.word.specs.declared.size.WordSize.{WordSize}
 use Rattle.word.specs.Reads.{IsNumber}
-use Rattle.word.proofs.Signed.{sub-mag}
 use Rattle.word.specs.Takum.{Takum, takum}
-use Rattle.word.proofs.Normal.{Tells, tells, exponent-small}
-use Rattle.round.specs.Nearest.{WritesShort}
+use Rattle.word.proofs.Normal.{Tells, tells}
+use Rattle.round.specs.Nearest.{WritesShort, WritesSize}
 use Rattle.round.proofs.Rules.{zero-written}
 use Rattle.write.specs.Writes.{isNegative, IsMoved, Moves}
 use Rattle.write.proofs.Meanings.{number-moved}
@@ -42,7 +35,7 @@ module _ (c : tie.After-enum-told) where
   tested : {v : Verdict} → wordTest (s .args .from .bits) (s .args .word) ≡ v → widthTest (s .args .from .bits) then widthTest (s .args .to .bits) then strayTest (s .args .from .bits) (s .args .word) ≡ v
   tested q = told-move _ _ _ {a = Verdict.Through} (sym target) refl refl q
 
--- a number, and its exponent as the machine has it
+-- a number
 module _ (k : tie.After-known-told3) where
   abbrev g : tie.After-read-size
   g = k .before .before .before
@@ -53,18 +46,6 @@ module _ (k : tie.After-known-told3) where
   number : (wordTest (g .before .before .before .before .args .from .bits) (g .before .before .before .before .args .word) ≡ Verdict.Through) × IsNumber (takum (g .before .before .before .before .args .from .bits) (g .before .before .before .before .args .word)) 63 (size .negative) (size .h) (size .m) 63
   unfolding Tells
   number = told g (k .before .size .given .1)
-
-  small : mag (size .h) ≤ 254
-  small = exponent-small _ _ (word-through _ _ (number .0)) size (number .1)
-
-  h-fits : SFits w32 (size .h)
-  h-fits = record { sfits = omega (arith, small) }
-
-  less-fits : SFits w32 (size .h -ℤ pos 63)
-  less-fits = record { sfits = omega (arith, sub-mag (size .h) (pos 63), small) }
-
-  held : toZ w32 (ofZ w32 (toZ w32 (ofZ w32 (size .h)) -ℤ pos 63)) ≡ size .h -ℤ pos 63
-  held = ap (λ (z : ℤ). toZ w32 (ofZ w32 (z -ℤ pos 63))) (toZ-ofZ h-fits) ∙ toZ-ofZ less-fits
 
 test-requires : tie.Need-test-requires
 test-requires c κs = search needs
@@ -98,12 +79,8 @@ nar-requires c κs = search needs
 enum-known-size : tie.Need-enum-known-size
 enum-known-size c = search needs
 
-sub-write-short : tie.Need-sub-write-short
-sub-write-short c = let k = c .before .before in
-    subst (λ (z : ℤ). SFits w32 (z -ℤ pos 63)) (sym (toZ-ofZ (h-fits k))) (less-fits k)
-
-write-short-requires : tie.Need-write-short-requires
-write-short-requires c κs = search needs
+write-size-requires : tie.Need-write-size-requires
+write-size-requires c κs = search needs
 
 returns-2 : tie.Need-returns-2
 unfolding Moves Tells
@@ -126,12 +103,11 @@ returns-4 c = let k = c .before .before .before in
     through (tested (k .before) (x .0)) (subst (λ (t : Takum). IsMoved (s .args .to .bits) (s .args .rule) t (c .nar .result)) (sym (x .1)) (answered (target (k .before)) (c .nar .ensures)))
 
 returns-5 : tie.Need-returns-5
-unfolding Moves WritesShort
-returns-5 c = let k = c .before .before .before in
+unfolding Moves WritesSize WritesShort
+returns-5 c = let k = c .before in
     let s = g k .before .before .before .before in
     let x = number k in
-    through (tested (g k .before) (x .0)) (number-moved (s .args .to .bits) (s .args .rule) (c .write-short .result) _ 63 (size k .negative) (size k .h) (size k .m) 63 (x .1)
-    (answered (target (g k .before)) (subst (λ (z : ℤ). WritesShort (s .args .to .bits) (s .args .rule) (size k .negative) (size k .m) z (c .write-short .result)) (held k) (c .write-short .ensures))))
+    through (tested (g k .before) (x .0)) (number-moved (s .args .to .bits) (s .args .rule) (c .write-size .result) _ 63 (size k .negative) (size k .h) (size k .m) 63 (x .1) (answered (target (g k .before)) (c .write-size .ensures)))
 
 pub move-word-spec : {M : Type 1} → statement M
 move-word-spec =
@@ -147,8 +123,7 @@ move-word-spec =
     enum-told-3
     nar-requires
     enum-known-size
-    sub-write-short
-    write-short-requires
+    write-size-requires
     returns-2
     returns-3
     returns-4

@@ -1,5 +1,5 @@
 // A number with its neighbours and their opposites: what is asked of each, in the order of the page.
-use crate::digest::take_binary64_out;
+use crate::answers::take_binary64_out;
 use crate::ways::take_binary64_in;
 use crate::ways::take_out;
 use crate::ways::take_round;
@@ -35,10 +35,10 @@ fn take_ways(ways: Ways, digest: u64, n: u32, x: u64) -> u64
 
 // A binary64 number's opposite has the other sign bit; those of words and of whole numbers are their negations.
 fn opposite(ways: Ways, x: u64) -> u64 {
-    match ways {
-        Ways::Binary64In => x ^ TOP_BIT,
-        _ => std::num::wrapping_sub_u64(0, x),
+    if let Ways::Binary64In = ways {
+        return x ^ TOP_BIT;
     }
+    std::num::wrapping_sub_u64(0, x)
 }
 
 // x and its opposite.

@@ -56,13 +56,13 @@ pub(crate) fn take_two(digest: u64, n: u32, place: u64) -> u64
 }
 
 // Part 25.
-pub(crate) fn print_extreme(n: u32)
+pub(crate) fn print_extreme(name: &[u8], n: u32)
     requires { ⌜ (2 ≤ n) × (n ≤ 64) ⌝ }
 {
     let largest = word_or((Width { bits: n }).largest(), 0);
     let after_numbers = take_extreme_numbers(n);
     let after_smallest = take_beside_word(after_numbers, n, 1);
-    print_of_width(b"extreme", n, take_beside_word(after_smallest, n, largest));
+    print_of_one(name, n, take_beside_word(after_smallest, n, largest));
 }
 
 fn take_extreme_numbers(n: u32) -> u64

@@ -2,7 +2,7 @@
 use crate::around::Ways;
 use crate::around::take_both_of_four;
 use crate::around::take_both_of_three;
-use crate::bits::without_lowest;
+use crate::drawn::without_lowest;
 use crate::ways::take_out;
 use crate::ways::word_or;
 use bounds::width::Width;

@@ -1,5 +1,5 @@
 // The patterns of part 23, without the sign: of drawn fields, of a drawn word, and of the midpoint between two words.
-use crate::bits::without_lowest;
+use crate::drawn::without_lowest;
 use crate::numbers::INFINITY;
 use crate::numbers::NAN;
 use crate::numbers::pattern_of;

@@ -1,6 +1,6 @@
 // The ways in and out at a width, taken into a digest: of whole numbers, of binary64 numbers, and of words.
-use crate::digest::take_binary64_out;
-use crate::digest::take_whole_out;
+use crate::answers::take_binary64_out;
+use crate::answers::take_whole_out;
 use crate::numbers::number_of;
 use crate::numbers::whole_of;
 use binary64::taking::take_binary64;

@@ -3,7 +3,7 @@ use crate::around::Ways;
 use crate::around::take_both_of_five;
 use crate::around::take_both_of_three;
 use crate::around::take_three;
-use crate::bits::without_lowest;
+use crate::drawn::without_lowest;
 use crate::ways::take_round;
 use crate::ways::take_whole_in;
 use bounds::width::Limit;
@@ -24,11 +24,11 @@ pub(crate) fn take_in_order(digest: u64, n: u32, place: u64) -> u64 {
 }
 
 // Part 19.
-pub(crate) fn print_limit_line(n: u32)
+pub(crate) fn print_limit(name: &[u8], n: u32)
     requires { ⌜ (2 ≤ n) × (n ≤ 64) ⌝ }
 {
     let digest = take_both_of_five(Ways::WholeRound, EMPTY, n, limit_of(n));
-    print_of_width(b"limit", n, digest);
+    print_of_one(name, n, digest);
 }
 
 // Where the library refuses the width, the limit 0 has to show it.
@@ -40,10 +40,10 @@ fn limit_of(n: u32) -> u64 {
 }
 
 // Part 20.
-pub(crate) fn print_brink(n: u32)
+pub(crate) fn print_brink(name: &[u8], n: u32)
     requires { ⌜ (2 ≤ n) × (n ≤ 64) ⌝ }
 {
-    print_of_width(b"brink", n, take_past_ends(take_ends(n), n));
+    print_of_one(name, n, take_past_ends(take_ends(n), n));
 }
 
 // The words around that of value 2^63. Below width 4 there is none.

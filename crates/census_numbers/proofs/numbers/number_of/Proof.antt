@@ -6,8 +6,8 @@ use borrow.Author.Tests.{le-ltb}
 use lib.Dec.{T}
 use lib.Ieee.{binary64}
 use lib.Ieee.Bits.{nanBits-above}
-use Rattle.census.proofs.numbers.number_of.Statement.{statement}
-use Rattle.census.proofs.numbers.number_of.Tie as tie
+use Rattle.census_numbers.proofs.numbers.number_of.Statement.{statement}
+use Rattle.census_numbers.proofs.numbers.number_of.Tie as tie
 
 returns : tie.Need-returns
 returns c = search needs

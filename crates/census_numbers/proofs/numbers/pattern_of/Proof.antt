@@ -1,8 +1,8 @@
 -- `pattern_of` is safe: a number that equals itself is no NaN. Assumes nothing.
 use borrow.Author.Needs.{needs}
 use Rattle.binary64.proofs.Values.{equals-itself}
-use Rattle.census.proofs.numbers.pattern_of.Statement.{statement}
-use Rattle.census.proofs.numbers.pattern_of.Tie as tie
+use Rattle.census_numbers.proofs.numbers.pattern_of.Statement.{statement}
+use Rattle.census_numbers.proofs.numbers.pattern_of.Tie as tie
 
 returns : tie.Need-returns
 returns c = search needs

@@ -8,8 +8,8 @@ use mir.Facts.{toZ-pos}
 use mir.Syntax.{w64}
 use mir.Val.{SFits, toZ}
 use Rattle.word.proofs.Signed.{minus-one-less}
-use Rattle.census.proofs.numbers.whole_of.Statement.{statement}
-use Rattle.census.proofs.numbers.whole_of.Tie as tie
+use Rattle.census_numbers.proofs.numbers.whole_of.Statement.{statement}
+use Rattle.census_numbers.proofs.numbers.whole_of.Tie as tie
 
 less-fits : {x : ℕ} → x < 2 ^ 63 → SFits w64 (negsuc 0 -ℤ toZ w64 x)
 less-fits {x} h =

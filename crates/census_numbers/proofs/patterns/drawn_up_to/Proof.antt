@@ -2,8 +2,8 @@
 use native.Mathlib.Omega.{arith}
 use native.Mathlib.Nat.{mod-lt}
 use borrow.Author.Needs.{needs}
-use Rattle.census.proofs.patterns.drawn_up_to.Statement.{statement}
-use Rattle.census.proofs.patterns.drawn_up_to.Tie as tie
+use Rattle.census_numbers.proofs.patterns.drawn_up_to.Statement.{statement}
+use Rattle.census_numbers.proofs.patterns.drawn_up_to.Tie as tie
 
 rem-result : tie.Need-rem-result
 rem-result c = search needs

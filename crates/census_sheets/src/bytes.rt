@@ -1,61 +1,57 @@
 // The bytes of a block: numbers little-endian, and the seal, paper 01's sums A and B of its 126 numbers.
-use std::num::wrapping_add_u32;
-ghost use Prim.Native.Nat.{_<_};
+use std::num::wrapping_add_u64;
+ghost use Prim.Native.Nat.{_≤_, _<_, _+_};
 
-pub(crate) fn put_one(block: &mut [u8; 520], at: usize, x: u32)
+// Stores so many of a number's low bytes, the lowest first.
+pub(crate) fn put(block: &mut [u8; 520], at: usize, count: usize, x: u64)
+    requires { ⌜ (at ≤ 512) × (count ≤ 8) ⌝ }
+{
+    let end = at + count;
+    let mut rest = x;
+    let mut i = at;
+    while i < end {
+        block[i] = (rest % 256) as u8;
+        rest = rest >> 8;
+        i += 1;
+    }
+}
+
+// The byte becomes its exclusive or with x.
+pub(crate) fn flip(block: &mut [u8; 520], at: usize, x: u8)
     requires { ⌜ at < 520 ⌝ }
 {
-    block[at] = (x % 256) as u8;
-}
-
-pub(crate) fn put_two(block: &mut [u8; 520], at: usize, x: u32)
-    requires { ⌜ at < 519 ⌝ }
-{
-    put_one(block, at, x);
-    put_one(block, at + 1, x >> 8);
-}
-
-pub(crate) fn put_four(block: &mut [u8; 520], at: usize, x: u32)
-    requires { ⌜ at < 517 ⌝ }
-{
-    put_two(block, at, x);
-    put_two(block, at + 2, x >> 16);
+    block[at] = block[at] ^ x;
 }
 
 // The number at a place of the 126, and of those that A and B are.
-pub(crate) fn number_at(block: &[u8; 520], place: usize) -> u32
+pub(crate) fn number_at(block: &[u8; 520], place: usize) -> u64
     requires { ⌜ place < 128 ⌝ }
 {
     let at = 4 * place;
-    let low = wide(block[at]) | (wide(block[at + 1]) << 8);
-    let high = wide(block[at + 2]) | (wide(block[at + 3]) << 8);
-    low | (high << 16)
+    let low = byte_at(block, at) | (byte_at(block, at + 1) << 8);
+    low | (byte_at(block, at + 2) << 16) | (byte_at(block, at + 3) << 24)
 }
 
-fn wide(x: u8) -> u32 {
-    x as u32
+fn byte_at(block: &[u8; 520], at: usize) -> u64
+    requires { ⌜ at < 520 ⌝ }
+{
+    wide(block[at])
 }
 
-// Stores the sums of the bytes before them.
+fn wide(x: u8) -> u64 {
+    x as u64
+}
+
+// Stores the sums of the bytes before them. Only their low 32 bits count, so what goes beyond is let go on.
 pub(crate) fn seal(block: &mut [u8; 520]) {
-    let sums = sums_of(block);
-    put_four(block, 504, sums.a);
-    put_four(block, 508, sums.b);
-}
-
-struct Sums {
-    a: u32,
-    b: u32,
-}
-
-fn sums_of(block: &[u8; 520]) -> Sums {
     let mut a = 0;
     let mut b = 0;
     let mut place = 0;
     while place < 126 {
-        a = wrapping_add_u32(a, number_at(block, place));
-        b = wrapping_add_u32(b, a);
+        a = wrapping_add_u64(a, number_at(block, place));
+        b = wrapping_add_u64(b, a);
         place += 1;
     }
-    Sums { a, b }
+    put(block, 504, 4, a);
+    put(block, 508, 4, b);
 }

@@ -1,104 +1,123 @@
-// Parts 33, 34, 36 and 37: a block with a changed byte, with changed numbers, or with nothing but a head.
-use crate::block::Head;
+// The block of a change, changed as a place says, and read.
 use crate::block::MARK;
-use crate::block::draw_block;
 use crate::block::full_of;
 use crate::block::put_head;
+use crate::bytes::flip;
+use crate::bytes::put;
 use crate::bytes::seal;
+use crate::changes::Change;
+use crate::changes::draw_for;
+use crate::faults::take_faults;
 use crate::numbered::change_numbers;
 use crate::reading::take_reading;
+use crate::reading::take_reading_of;
 use census::bits::bounded;
 use census::digest::scramble;
-use census::digest::sequence;
 use census::run::Run;
+use census::run::undrawn;
 ghost use Prim.Native.Nat.{_≤_};
 
-// Part 33: its block, and the state of the sequence after it.
-pub(crate) fn draw_for_byte(block: &mut [u8; 520], w: u32) -> u64
-    requires { ⌜ (2 ≤ w) × (w ≤ 64) ⌝ }
+pub(crate) fn take_place(change: Change, run: Run, w: u32, place: u64) -> Run
+    requires { ⌜ w ≤ 64 ⌝ }
 {
-    draw_block(block, w, full_of(w) / 2, sequence(41_000 + w as u64))
+    let mut block = [0u8; 520];
+    draw_for(&mut block, change, w);
+    take_change(change, run, &mut block, w, place)
 }
 
-// Read as it is changed, and then sealed.
-pub(crate) fn take_byte(run: Run, w: u32, place: u64) -> Run
-    requires { ⌜ (2 ≤ w) × (w ≤ 64) ⌝ }
+fn take_change(change: Change, run: Run, block: &mut [u8; 520], w: u32, place: u64) -> Run
+    requires { ⌜ w ≤ 64 ⌝ }
 {
-    let state = scramble(run.state);
-    let room = (full_of(w) / 2 + 4) as usize;
-    let at = bounded(place, 511) as usize;
-    let mut block = [0u8; 520];
-    draw_for_byte(&mut block, w);
-    block[at] = block[at] ^ (1 + state % 255) as u8;
-    let after_changed = take_reading(run.digest, &block, room);
-    seal(&mut block);
-    Run {
-        state,
-        digest: take_reading(after_changed, &block, room),
+    match change {
+        Change::Byte => take_byte(run, block, w, place),
+        Change::Sums(kind) => take_sums(run, block, kind, w, place),
+        Change::Fault => undrawn(run, take_faults(run.digest, block, w, place)),
+        Change::WidthByte => undrawn(run, take_width_byte(run.digest, block, w, place)),
+        Change::Mark => undrawn(run, take_mark(run.digest, block, place)),
+        Change::Size => undrawn(run, take_size(run.digest, block, w, place)),
+        Change::Number => undrawn(run, take_number(run.digest, block, place)),
     }
 }
 
-// Part 34: its block, and the state of the sequence after it.
-pub(crate) fn draw_for_sums(block: &mut [u8; 520], w: u32) -> u64
-    requires { ⌜ (2 ≤ w) × (w ≤ 64) ⌝ }
-{
-    draw_block(block, w, full_of(w), sequence(42_000 + w as u64))
-}
-
-pub(crate) fn take_sums(run: Run, kind: u32, w: u32, place: u64) -> Run
-    requires { ⌜ (2 ≤ w) × (w ≤ 64) ⌝ }
-{
+// Part 33: read as it is changed, and then sealed.
+fn take_byte(run: Run, block: &mut [u8; 520], w: u32, place: u64) -> Run {
     let state = scramble(run.state);
-    let mut block = [0u8; 520];
-    draw_for_sums(&mut block, w);
-    change_numbers(
-        &mut block,
-        kind,
-        bounded(place, 125),
-        1 + state % 0xffff_ffff,
-    );
+    let room = (full_of(w) / 2 + 4) as usize;
+    flip(block, bounded(place, 511) as usize, (1 + state % 255) as u8);
+    let after_changed = take_reading(run.digest, block, room);
     Run {
         state,
-        digest: take_reading(run.digest, &block, full_of(w) as usize),
+        digest: take_sealed(after_changed, block, room),
+    }
+}
+
+fn take_sealed(digest: u64, block: &mut [u8; 520], room: usize) -> u64
+    requires { ⌜ room ≤ 1008 ⌝ }
+{
+    seal(block);
+    take_reading(digest, block, room)
+}
+
+// Part 34.
+fn take_sums(run: Run, block: &mut [u8; 520], kind: u32, w: u32, place: u64) -> Run {
+    let state = scramble(run.state);
+    change_numbers(block, kind, bounded(place, 125), 1 + state % 0xffff_ffff);
+    Run {
+        state,
+        digest: take_reading(run.digest, block, full_of(w) as usize),
     }
 }
 
 // Part 36: the place is the width byte.
-pub(crate) fn take_width_byte(digest: u64, count: u32, place: u64) -> u64 {
-    let v = bounded(place, 255) as u32;
-    take_head(
-        digest,
-        Head {
-            mark: MARK,
-            width: v,
-            count,
-            number: v,
-        },
-        64,
-    )
+fn take_width_byte(digest: u64, block: &mut [u8; 520], count: u32, place: u64) -> u64 {
+    put_head(block, MARK, place, count as u64, place);
+    take_sealed(digest, block, 64)
 }
 
 // Part 37: the place is the mark.
-pub(crate) fn take_mark(digest: u64, place: u64) -> u64 {
-    let v = bounded(place, 255) as u32;
-    take_head(
-        digest,
-        Head {
-            mark: v,
-            width: 16,
-            count: 1,
-            number: v,
-        },
-        4,
-    )
+fn take_mark(digest: u64, block: &mut [u8; 520], place: u64) -> u64 {
+    put_head(block, place, 16, 1, place);
+    take_sealed(digest, block, 4)
 }
 
-// A sealed block with nothing but a head.
-fn take_head(digest: u64, head: Head, room: usize) -> u64
-    requires { ⌜ room ≤ 1008 ⌝ }
+// Part 39: so many bytes are lent.
+fn take_size(digest: u64, block: &[u8; 520], w: u32, place: u64) -> u64 {
+    take_reading_of(digest, block, size_at(place), full_of(w) as usize)
+}
+
+fn size_at(place: u64) -> usize
+    ensures { λ r. ⌜ r ≤ 520 ⌝ }
 {
-    let mut block = [0u8; 520];
-    put_head(&mut block, head);
-    seal(&mut block);
-    take_reading(digest, &block, room)
+    match place {
+        0 => 0,
+        1 => 1,
+        2 => 2,
+        3 => 8,
+        4 => 503,
+        5 => 504,
+        6 => 511,
+        7 => 512,
+        8 => 513,
+        _ => 520,
+    }
+}
+
+// Part 40: the block has another number.
+fn take_number(digest: u64, block: &mut [u8; 520], place: u64) -> u64 {
+    put(block, 4, 4, block_number_at(place));
+    take_sealed(digest, block, 3)
+}
+
+fn block_number_at(place: u64) -> u64 {
+    match place {
+        0 => 0,
+        1 => 1,
+        2 => 255,
+        3 => 256,
+        4 => 65_535,
+        5 => 65_536,
+        6 => 0x7fff_ffff,
+        7 => 0x8000_0000,
+        _ => 0xffff_ffff,
+    }
 }

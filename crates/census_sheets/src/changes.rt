@@ -1,42 +1,29 @@
-// What parts 33 to 37 change in a block from place to place: the name of each, its places, how they run, and where its sequence goes on.
-use crate::changed::draw_for_byte;
-use crate::changed::draw_for_sums;
-use crate::changed::take_byte;
-use crate::changed::take_mark;
-use crate::changed::take_sums;
-use crate::changed::take_width_byte;
-use crate::faults::take_faults;
-use census::line::print_text;
-use census::run::Run;
-use census::run::undrawn;
+// What parts 33 to 37, 39 and 40 change in a block from place to place: its places, how they run, and the block that is changed.
+use crate::block::draw_block;
+use crate::block::full_of;
+use census::digest::sequence;
 ghost use Prim.Native.Nat.{_≤_};
 
-// Sums has the KIND of part 34, and WidthByte the count of part 36.
+// Sums has the KIND of part 34. At a WidthByte the number that goes with the change is no width, but the count of part 36.
 pub(crate) enum Change {
     Byte,
     Sums(u32),
     Fault,
-    WidthByte(u32),
+    WidthByte,
     Mark,
+    Size,
+    Number,
 }
 
-pub(crate) fn print_change(change: Change) {
-    match change {
-        Change::Byte => print_text(b"byte"),
-        Change::Sums(_) => print_text(b"sums"),
-        Change::Fault => print_text(b"fault"),
-        Change::WidthByte(_) => print_text(b"widthbyte"),
-        Change::Mark => print_text(b"mark"),
-    }
-}
-
-pub(crate) fn end_of_change(change: Change) -> u64 {
+pub(crate) fn end_of(change: Change) -> u64 {
     match change {
         Change::Byte => 512,
         Change::Sums(kind) => end_of_kind(kind),
         Change::Fault => 128,
-        Change::WidthByte(_) => 256,
+        Change::WidthByte => 256,
         Change::Mark => 256,
+        Change::Size => 10,
+        Change::Number => 9,
     }
 }
 
@@ -50,7 +37,8 @@ fn end_of_kind(kind: u32) -> u64 {
     }
 }
 
-pub(crate) fn longest_run_of(change: Change) -> u64
+// The most places that one line speaks of.
+pub(crate) fn longest_run(change: Change) -> u64
     ensures { λ r. ⌜ 1 ≤ r ⌝ }
 {
     match change {
@@ -60,26 +48,35 @@ pub(crate) fn longest_run_of(change: Change) -> u64
     }
 }
 
-// The sequence of a part goes on after the block that it has drawn.
-pub(crate) fn state_after_block(change: Change, w: u32) -> u64
-    requires { ⌜ (2 ≤ w) × (w ≤ 64) ⌝ }
+// Makes the block of a change out of zero bytes, and gives back the state of the sequence after it.
+pub(crate) fn draw_for(block: &mut [u8; 520], change: Change, w: u32) -> u64
+    requires { ⌜ w ≤ 64 ⌝ }
 {
-    let mut block = [0u8; 520];
+    let start = sequence(start_of(change) + w as u64);
+    draw_block(block, w, count_of(change, w), start)
+}
+
+fn start_of(change: Change) -> u64
+    ensures { λ r. ⌜ r ≤ 46000 ⌝ }
+{
     match change {
-        Change::Byte => draw_for_byte(&mut block, w),
-        Change::Sums(_) => draw_for_sums(&mut block, w),
+        Change::Byte => 41_000,
+        Change::Sums(_) => 42_000,
+        Change::Fault => 43_000,
+        Change::Size => 45_000,
+        Change::Number => 46_000,
         _ => 0,
     }
 }
 
-pub(crate) fn take_change(change: Change, run: Run, w: u32, place: u64) -> Run
-    requires { ⌜ (2 ≤ w) × (w ≤ 64) ⌝ }
-{
+// Where only a head is wanted, no word is drawn.
+fn count_of(change: Change, w: u32) -> u32 {
     match change {
-        Change::Byte => take_byte(run, w, place),
-        Change::Sums(kind) => take_sums(run, kind, w, place),
-        Change::Fault => undrawn(run, take_faults(run.digest, w, place)),
-        Change::WidthByte(count) => undrawn(run, take_width_byte(run.digest, count, place)),
-        Change::Mark => undrawn(run, take_mark(run.digest, place)),
+        Change::Byte => full_of(w) / 2,
+        Change::Sums(_) => full_of(w),
+        Change::Fault => full_of(w) / 2,
+        Change::Size => full_of(w),
+        Change::Number => 3,
+        _ => 0,
     }
 }

@@ -7,6 +7,7 @@ use census::bits::low_bits;
 use census::bits::power_of_two;
 use census::digest::scramble;
 use census::digest::take;
+use census::digest::take_kind;
 use census::digest::take_refusal;
 use column::moving::Column;
 use column::moving::move_column;
@@ -106,10 +107,10 @@ pub(crate) fn take_move(digest: u64, rule: Rule, column: &[u64], shape: Shape, r
 
 fn take_column(digest: u64, column: Column) -> u64 {
     match column {
-        Column::Moved(count) => take(take(digest, 0), count as u64),
+        Column::Moved(count) => take_kind(digest, 0, count as u64),
         Column::Refused(refusal) => take_refusal(digest, refusal),
         Column::RefusedAt { position, refusal } => {
-            let numbered = take(take(digest, 4), refusal.number() as u64);
+            let numbered = take_kind(digest, 4, refusal.number() as u64);
             take(numbered, position as u64)
         }
     }

@@ -1,12 +1,11 @@
 // Part 35: a block with any set of faults.
+use crate::block::MARK;
 use crate::block::SIZE;
-use crate::block::draw_block;
 use crate::block::full_of;
-use crate::bytes::put_one;
-use crate::bytes::put_two;
+use crate::bytes::flip;
+use crate::bytes::put;
 use crate::bytes::seal;
 use crate::reading::take_reading_of;
-use census::digest::sequence;
 ghost use Prim.Native.Nat.{_≤_};
 
 const OF_SIZE: u64 = 1;
@@ -23,62 +22,39 @@ const OF_FILL: u64 = 32;
 
 const OF_ROOM: u64 = 64;
 
-fn has(faults: u64, fault: u64) -> bool {
-    (faults & fault) != 0
+// How often a set has a fault of the sum on the page: once or not at all.
+fn times_in(faults: u64, fault: u64) -> u64
+    requires { ⌜ 1 ≤ fault ⌝ }
+    ensures { λ r. ⌜ r ≤ 1 ⌝ }
+{
+    faults / fault % 2
 }
 
-pub(crate) fn take_faults(digest: u64, w: u32, faults: u64) -> u64
-    requires { ⌜ (2 ≤ w) × (w ≤ 64) ⌝ }
+// The block, which has half as many words as it has room for, is changed, and read.
+pub(crate) fn take_faults(digest: u64, block: &mut [u8; 520], w: u32, faults: u64) -> u64
+    requires { ⌜ w ≤ 64 ⌝ }
 {
-    let count = full_of(w) / 2;
-    let mut block = [0u8; 520];
-    draw_block(&mut block, w, count, sequence(43_000 + w as u64));
-    spoil(&mut block, w, faults);
-    take_reading_of(
-        digest,
-        &block,
-        bytes_lent(faults),
-        room_lent(faults, count as usize),
-    )
+    spoil(block, w, faults);
+    let lent = SIZE - times_in(faults, OF_SIZE) as usize;
+    let room = (full_of(w) / 2 + 4) as usize - 5 * times_in(faults, OF_ROOM) as usize;
+    take_reading_of(digest, block, lent, room)
 }
 
 // The faults that are in the bytes. Only CHECK is made after sealing.
 fn spoil(block: &mut [u8; 520], w: u32, faults: u64)
     requires { ⌜ w ≤ 64 ⌝ }
 {
-    if has(faults, OF_MARK) {
-        put_one(block, 0, 0x55);
-    }
-    if has(faults, OF_WIDTH) {
-        put_one(block, 1, w + 4);
-    }
-    if has(faults, OF_COUNT) {
-        put_two(block, 2, full_of(w) + 1);
-    }
-    if has(faults, OF_FILL) {
-        put_one(block, 503, 1);
-    }
+    put(block, 0, 1, MARK + times_in(faults, OF_MARK));
+    put(block, 1, 1, w as u64 + 4 * times_in(faults, OF_WIDTH));
+    put(block, 2, 2, count_of(w, faults) as u64);
+    put(block, 503, 1, times_in(faults, OF_FILL));
     seal(block);
-    if has(faults, OF_CHECK) {
-        block[508] = block[508] ^ 1;
-    }
+    flip(block, 508, times_in(faults, OF_CHECK) as u8);
 }
 
-fn bytes_lent(faults: u64) -> usize
-    ensures { λ r. ⌜ r ≤ 512 ⌝ }
-{
-    if has(faults, OF_SIZE) {
-        return SIZE - 1;
+fn count_of(w: u32, faults: u64) -> u32 {
+    if times_in(faults, OF_COUNT) == 1 {
+        return full_of(w) + 1;
     }
-    SIZE
-}
-
-fn room_lent(faults: u64, count: usize) -> usize
-    requires { ⌜ (1 ≤ count) × (count ≤ 1000) ⌝ }
-    ensures { λ r. ⌜ r ≤ 1008 ⌝ }
-{
-    if has(faults, OF_ROOM) {
-        return count - 1;
-    }
-    count + 4
+    full_of(w) / 2
 }

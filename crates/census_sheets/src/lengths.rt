@@ -6,9 +6,7 @@ use crate::columns::take_moves_around;
 use crate::planted::take_planted;
 use census::digest::EMPTY;
 use census::digest::sequence;
-use census::line::print_digest;
-use census::line::print_number;
-use census::line::print_text;
+use census::line::print_of_three;
 ghost use Prim.Native.Nat.{_≤_};
 
 // What a line tells: part 28, a column as it is drawn, or part 29, an exact column with bits set for some calls.
@@ -105,14 +103,16 @@ fn print_planted(shape: Shape, state: u64) -> u64
 {
     let mut column = [0u64; 1000];
     let after = draw_column(&mut column, Kind::Exact, shape, state);
-    print_of_shape(b"planted", shape, take_planted(EMPTY, &mut column, shape));
+    print_of_shape(b"planted", shape, take_planted(EMPTY, &column, shape));
     after
 }
 
-fn print_of_shape(text: &[u8], shape: Shape, digest: u64) {
-    print_text(text);
-    print_number(shape.from as u64);
-    print_number(shape.to as u64);
-    print_number(shape.length as u64);
-    print_digest(digest);
+fn print_of_shape(name: &[u8], shape: Shape, digest: u64) {
+    print_of_three(
+        name,
+        shape.from,
+        shape.to as u64,
+        shape.length as u64,
+        digest,
+    );
 }

@@ -4,17 +4,33 @@ use crate::columns::Shape;
 use crate::columns::draw_column;
 use crate::columns::take_two_moves;
 use bounds::width::Width;
-use census::bits::bounded;
+use census::digest::EMPTY;
+use census::digest::sequence;
+use census::line::print_of_one;
 use census::run::Run;
 ghost use Prim.Native.Nat.{_≤_};
 
-// The target widths in order, from the least one on.
-pub(crate) fn take_pair(run: Run, n: u32, place: u64) -> Run
-    requires { ⌜ (2 ≤ n) × (n ≤ 64) ⌝ }
+// The sequence runs on from one target width to the next.
+pub(crate) fn print_pairs(name: &[u8], from: u32)
+    requires { ⌜ (2 ≤ from) × (from ≤ 64) ⌝ }
 {
-    let to = Width::LEAST + bounded(place, 62) as u32;
+    let mut run = Run {
+        state: sequence(30_000 + from as u64),
+        digest: EMPTY,
+    };
+    let mut to = Width::LEAST;
+    while to <= Width::GREATEST {
+        run = take_pair(run, from, to);
+        to += 1;
+    }
+    print_of_one(name, from, run.digest);
+}
+
+fn take_pair(run: Run, from: u32, to: u32) -> Run
+    requires { ⌜ (2 ≤ from) × (from ≤ 64) × (2 ≤ to) × (to ≤ 64) ⌝ }
+{
     let shape = Shape {
-        from: n,
+        from,
         to,
         length: 8,
     };

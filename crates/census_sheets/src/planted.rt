@@ -9,7 +9,7 @@ ghost use Prim.Native.Nat.{_≤_, _<_};
 const LOWEST: u64 = 1;
 
 // The 21 ways to set bits at the first place, the middle one and the last one.
-pub(crate) fn take_planted(start: u64, column: &mut [u64; 1000], shape: Shape) -> u64
+pub(crate) fn take_planted(start: u64, column: &[u64; 1000], shape: Shape) -> u64
     requires { ⌜ (1 ≤ shape .length) × (shape .length ≤ 1000) ⌝ }
 {
     let middle = shape.length / 2;
@@ -22,7 +22,7 @@ pub(crate) fn take_planted(start: u64, column: &mut [u64; 1000], shape: Shape) -
     take_at_two(digest, column, shape, middle, last)
 }
 
-fn take_at_one(start: u64, column: &mut [u64; 1000], shape: Shape, p: usize) -> u64
+fn take_at_one(start: u64, column: &[u64; 1000], shape: Shape, p: usize) -> u64
     requires { ⌜ (1 ≤ shape .length) × (shape .length ≤ 1000) × (p < 1000) ⌝ }
 {
     let stray = stray_bit(shape.from);
@@ -31,7 +31,7 @@ fn take_at_one(start: u64, column: &mut [u64; 1000], shape: Shape, p: usize) -> 
     take_way(digest, column, shape, p, stray, p, LOWEST)
 }
 
-fn take_at_two(start: u64, column: &mut [u64; 1000], shape: Shape, p: usize, q: usize) -> u64
+fn take_at_two(start: u64, column: &[u64; 1000], shape: Shape, p: usize, q: usize) -> u64
     requires { ⌜ (1 ≤ shape .length) × (shape .length ≤ 1000) × (p < 1000) × (q < 1000) ⌝ }
 {
     let stray = stray_bit(shape.from);
@@ -49,10 +49,10 @@ fn stray_bit(from: u32) -> u64 {
     0
 }
 
-// Sets bits at p and at q, makes the three calls, and puts the words back, the last first, as p and q can be the same place.
+// The three calls, with bits set at p and at q, which can be the same place.
 fn take_way(
-    start: u64,
-    column: &mut [u64; 1000],
+    digest: u64,
+    column: &[u64; 1000],
     shape: Shape,
     p: usize,
     bits_at_p: u64,
@@ -61,14 +61,10 @@ fn take_way(
 ) -> u64
     requires { ⌜ (1 ≤ shape .length) × (shape .length ≤ 1000) × (p < 1000) × (q < 1000) ⌝ }
 {
-    let word_at_p = column[p];
-    column[p] = word_at_p | bits_at_p;
-    let word_at_q = column[q];
-    column[q] = word_at_q | bits_at_q;
-    let digest = take_three_moves(start, column, shape);
-    column[q] = word_at_q;
-    column[p] = word_at_p;
-    digest
+    let mut planted = *column;
+    planted[p] = planted[p] | bits_at_p;
+    planted[q] = planted[q] | bits_at_q;
+    take_three_moves(digest, &planted, shape)
 }
 
 fn take_three_moves(digest: u64, column: &[u64; 1000], shape: Shape) -> u64

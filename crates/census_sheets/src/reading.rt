@@ -3,7 +3,7 @@ use crate::block::SIZE;
 use crate::row::BESIDE;
 use crate::row::fill_row;
 use crate::row::take_row;
-use census::digest::take;
+use census::digest::take_kind;
 use census::digest::take_refusal;
 use sheet::block::Block;
 use sheet::block::read_block;
@@ -54,8 +54,8 @@ fn take_block(digest: u64, block: Block) -> u64 {
             number,
             count,
         } => {
-            let after_width = take(take(digest, 0), width as u64);
-            take(take(after_width, number as u64), count as u64)
+            let after_width = take_kind(digest, 0, width as u64);
+            take_kind(after_width, number as u64, count as u64)
         }
         Block::Refused(refusal) => take_refusal(digest, refusal),
     }

@@ -1,38 +1,23 @@
 -- `draw_words` is safe and ends. The measure is the bytes that are left; nothing has to hold from turn to turn. Assumes nothing.
 use Prim.Native.Nat.{_-_}
 use native.Mathlib.Omega.{arith}
-use Rattle.census.proofs.block.draw_words.Statement.{statement}
-use Rattle.census.proofs.block.draw_words.Tie as tie
+use Rattle.census_sheets.proofs.block.draw_words.Statement.{statement}
+use Rattle.census_sheets.proofs.block.draw_words.Tie as tie
 
 abbrev Inv-loop : tie.InvT-loop
-Inv-loop block₀ w end start state₀ at₀ block state at = Unit {0}
+Inv-loop block₀ bytes end start state₀ at₀ block state at = Unit {0}
 
 abbrev μ-loop : tie.MeasureT-loop
-μ-loop block₀ w end start state₀ at₀ block state at = 504 - at
+μ-loop block₀ bytes end start state₀ at₀ block state at = end - at
 
 loop-holds : tie.Need-loop-holds Inv-loop μ-loop
 loop-holds c = tt
 
-mul-bounded : tie.Need-mul-bounded Inv-loop μ-loop
-mul-bounded c = omega arith
+scramble-requires : tie.Need-scramble-requires Inv-loop μ-loop
+scramble-requires c κs = tt
 
-rem-bounded : tie.Need-rem-bounded Inv-loop μ-loop
-rem-bounded c = omega arith
-
-bounded-requires : tie.Need-bounded-requires Inv-loop μ-loop
-bounded-requires c κs = tt
-
-drawn-at-requires : tie.Need-drawn-at-requires Inv-loop μ-loop
-drawn-at-requires c κs = tt
-
-shr-block : tie.Need-shr-block Inv-loop μ-loop
-shr-block c = omega arith
-
-cast-block : tie.Need-cast-block Inv-loop μ-loop
-cast-block c = omega arith
-
-element-write-block : tie.Need-element-write-block Inv-loop μ-loop
-element-write-block c = omega arith
+put-requires : tie.Need-put-requires Inv-loop μ-loop
+put-requires c κs = omega arith
 
 add-at : tie.Need-add-at Inv-loop μ-loop
 add-at c = omega arith
@@ -53,13 +38,8 @@ draw-words-spec =
     Inv-loop
     μ-loop
     loop-holds
-    mul-bounded
-    rem-bounded
-    bounded-requires
-    drawn-at-requires
-    shr-block
-    cast-block
-    element-write-block
+    scramble-requires
+    put-requires
     add-at
     loop-less
     loop-again

@@ -1,8 +1,8 @@
 -- `draw_column` is safe and ends. The measure is the places that are left; nothing has to hold from turn to turn. Assumes nothing.
 use Prim.Native.Nat.{_-_}
 use native.Mathlib.Omega.{arith}
-use Rattle.census.proofs.columns.draw_column.Statement.{statement}
-use Rattle.census.proofs.columns.draw_column.Tie as tie
+use Rattle.census_sheets.proofs.columns.draw_column.Statement.{statement}
+use Rattle.census_sheets.proofs.columns.draw_column.Tie as tie
 
 abbrev Inv-loop : tie.InvT-loop
 Inv-loop column₀ kind shape start state₀ place₀ column state place = Unit {0}

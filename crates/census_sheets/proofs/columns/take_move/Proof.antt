@@ -3,8 +3,8 @@ use mathlib.Core.Path.{sym}
 use native.Mathlib.Omega.{arith}
 use lib.Seq.{length-take-le}
 use borrow.Author.Needs.{needs}
-use Rattle.census.proofs.columns.take_move.Statement.{statement}
-use Rattle.census.proofs.columns.take_move.Tie as tie
+use Rattle.census_sheets.proofs.columns.take_move.Statement.{statement}
+use Rattle.census_sheets.proofs.columns.take_move.Tie as tie
 
 fill-row-requires : tie.Need-fill-row-requires
 fill-row-requires c κs = search needs

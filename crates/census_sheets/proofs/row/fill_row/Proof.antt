@@ -4,8 +4,8 @@ use Prim.Native.Nat.{_-_}
 use native.Mathlib.Omega.{arith}
 use lib.ListN.{length}
 use borrow.Author.Needs.{needs}
-use Rattle.census.proofs.row.fill_row.Statement.{statement}
-use Rattle.census.proofs.row.fill_row.Tie as tie
+use Rattle.census_sheets.proofs.row.fill_row.Statement.{statement}
+use Rattle.census_sheets.proofs.row.fill_row.Tie as tie
 
 abbrev Inv-loop : tie.InvT-loop
 Inv-loop row₀ i₀ row i = length row ≡ 1024

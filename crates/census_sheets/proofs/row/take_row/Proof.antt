@@ -1,8 +1,8 @@
 -- `take_row` is safe and ends. The measure is the numbers that are left; nothing has to hold from turn to turn. Assumes nothing.
 use Prim.Native.Nat.{_-_}
 use native.Mathlib.Omega.{arith}
-use Rattle.census.proofs.row.take_row.Statement.{statement}
-use Rattle.census.proofs.row.take_row.Tie as tie
+use Rattle.census_sheets.proofs.row.take_row.Statement.{statement}
+use Rattle.census_sheets.proofs.row.take_row.Tie as tie
 
 abbrev Inv-loop : tie.InvT-loop
 Inv-loop start row count digest₀ i₀ digest i = Unit {0}

@@ -2,53 +2,51 @@
 use crate::block::times;
 use crate::bytes::number_at;
 use crate::bytes::put;
+use std::num::wrapping_add_u64;
+use std::num::wrapping_sub_u64;
 ghost use Prim.Native.Nat.{_≤_, _<_, _^_};
 
-// What is added to a number, taken from the next one, and added to the one after that, each times d.
-struct Shares {
-    added: u64,
-    taken: u64,
-    last: u64,
+// What is added to a number and to the two after it.
+struct Added {
+    first: u64,
+    second: u64,
+    third: u64,
 }
 
+// Where nothing is added, a number behind the 126 may be meant.
 pub(crate) fn change_numbers(block: &mut [u8; 520], kind: u32, i: u64, d: u64)
     requires { ⌜ (i ≤ 125) × (d < 2 ^ 32) ⌝ }
 {
-    if kind == 1 {
-        let flipped = number_at(block, i as usize) ^ d;
-        put(block, 4 * i as usize, 4, flipped);
-        return;
-    }
-    let shares = shares_of(kind, i);
-    add(block, i, times(d, shares.added));
-    add(
-        block,
-        i + 1,
-        std::num::wrapping_sub_u64(0, times(d, shares.taken)),
-    );
-    // Where the last share is 0, a number behind the 126 may be meant, and stays as it is.
-    add(block, i + 2, times(d, shares.last));
+    let added = added_by(kind, i, d, number_at(block, i as usize));
+    add(block, i, added.first);
+    add(block, i + 1, added.second);
+    add(block, i + 2, added.third);
 }
 
-fn shares_of(kind: u32, i: u64) -> Shares
-    requires { ⌜ i ≤ 125 ⌝ }
-    ensures { λ r. ⌜ (r .added ≤ 126) × (r .taken ≤ 126) × (r .last ≤ 126) ⌝ }
+// x is the number at i.
+fn added_by(kind: u32, i: u64, d: u64, x: u64) -> Added
+    requires { ⌜ (i ≤ 125) × (d < 2 ^ 32) ⌝ }
 {
     match kind {
-        2 => Shares {
-            added: 1,
-            taken: 1,
-            last: 0,
+        1 => Added {
+            first: wrapping_sub_u64(x ^ d, x),
+            second: 0,
+            third: 0,
         },
-        3 => Shares {
-            added: 125 - i,
-            taken: 126 - i,
-            last: 0,
+        2 => Added {
+            first: d,
+            second: wrapping_sub_u64(0, d),
+            third: 0,
         },
-        _ => Shares {
-            added: 1,
-            taken: 2,
-            last: 1,
+        3 => Added {
+            first: times(d, 125 - i),
+            second: wrapping_sub_u64(0, times(d, 126 - i)),
+            third: 0,
+        },
+        _ => Added {
+            first: d,
+            second: wrapping_sub_u64(0, 2 * d),
+            third: d,
         },
     }
 }
@@ -56,6 +54,6 @@ fn shares_of(kind: u32, i: u64) -> Shares
 fn add(block: &mut [u8; 520], i: u64, d: u64)
     requires { ⌜ i ≤ 127 ⌝ }
 {
-    let sum = std::num::wrapping_add_u64(number_at(block, i as usize), d);
+    let sum = wrapping_add_u64(number_at(block, i as usize), d);
     put(block, 4 * i as usize, 4, sum);
 }

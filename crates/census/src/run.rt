@@ -30,6 +30,16 @@ pub fn words_of(n: u32) -> u64 {
     DRAWN
 }
 
+// One of the words from 1 to the last one; where there is none, 0.
+pub fn drawn_up_to(last: u64, x: u64) -> u64
+    ensures { λ r. ⌜ r ≤ last ⌝ }
+{
+    if last == 0 {
+        return 0;
+    }
+    1 + x % last
+}
+
 // Where the run that starts at a place before the end stops.
 pub fn run_end(longest: u64, first: u64, end: u64) -> u64
     requires { ⌜ (1 ≤ longest) × (first < end) ⌝ }

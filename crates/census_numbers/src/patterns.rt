@@ -7,6 +7,7 @@ use binary64::taking::Binary64;
 use binary64::taking::take_binary64;
 use bounds::width::Width;
 use census::bits::power_of_two;
+use census::run::drawn_up_to;
 ghost use Prim.Native.Nat.{_≤_};
 
 // The exponent field 1.
@@ -56,14 +57,6 @@ pub(crate) fn drawn_of_words(kind: u64, n: u32, x2: u64) -> u64
     }
     let word = drawn_up_to(half - 2, x2);
     midpoint_or(pattern_out(n, word), pattern_out(n, word + 1), itself)
-}
-
-// One of the words from 1 to the last one.
-fn drawn_up_to(last: u64, x: u64) -> u64
-    requires { ⌜ 1 ≤ last ⌝ }
-    ensures { λ r. ⌜ r ≤ last ⌝ }
-{
-    1 + x % last
 }
 
 // The midpoint of two neighbours' patterns, or another where no binary64 number is the midpoint.

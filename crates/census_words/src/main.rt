@@ -3,7 +3,10 @@ mod answers;
 mod draws;
 mod edges;
 mod facts;
+mod farther;
+mod longs;
 mod midpoints;
+mod midways;
 mod moves;
 mod parts;
 mod past;
@@ -18,6 +21,7 @@ mod widths;
 mod words;
 mod writings;
 
+use crate::farther::print_farther;
 use crate::parts::Part;
 use crate::parts::print_everywhere;
 use crate::parts::print_part;
@@ -30,6 +34,7 @@ use census::run::WIDEST_WHOLE;
 fn main() {
     print_readings();
     print_writings();
+    print_long_values();
 }
 
 // Parts 1 to 6.
@@ -59,4 +64,22 @@ fn print_writings() {
     print_everywhere(b"draw", Part::Runs(Subject::Draw));
     print_bad_widths(b"unmoved", Asked::Moving);
     print_everywhere(b"strayed", Part::Strays(Asked::Moving));
+}
+
+// Parts 41 to 44.
+fn print_long_values() {
+    print_part(b"midway", Part::Runs(Subject::Midway), 3, WIDEST_WHOLE);
+    print_part(
+        b"midway",
+        Part::Runs(Subject::DrawnMidway),
+        17,
+        Width::GREATEST,
+    );
+    print_everywhere(b"long", Part::Runs(Subject::Long));
+    print_farther(b"farther", 0);
+    print_farther(b"farther", 1);
+    print_everywhere(b"farther", Part::Farther);
+    print_farther(b"farther", 65);
+    print_farther(b"farther", 0x8000_0000);
+    print_farther(b"farther", 0xffff_ffff);
 }

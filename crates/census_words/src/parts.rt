@@ -1,4 +1,5 @@
 // The parts that go from width to width: one loop serves them all.
+use crate::farther::print_farther;
 use crate::past::print_past;
 use crate::refused::Asked;
 use crate::refused::print_strays;
@@ -15,6 +16,7 @@ pub(crate) enum Part {
     Line(Subject),
     Strays(Asked),
     Past,
+    Farther,
 }
 
 // Prints a part at every width.
@@ -42,5 +44,6 @@ fn print_at(name: &[u8], part: Part, n: u32)
         Part::Line(subject) => print_one_line(name, subject, n),
         Part::Strays(asked) => print_strays(name, asked, n),
         Part::Past => print_past(name, n),
+        Part::Farther => print_farther(name, n),
     }
 }

@@ -12,12 +12,16 @@ pub(crate) enum Subject {
     Write,
     Move,
     Draw,
+    Midway,
+    DrawnMidway,
+    Long,
 }
 
-// Writings begin at the smallest positive word.
+// Writings and midpoints begin at the smallest positive word.
 pub(crate) fn first_place(subject: Subject) -> u64 {
     match subject {
         Subject::Write => 1,
+        Subject::Midway => 1,
         _ => 0,
     }
 }
@@ -31,6 +35,9 @@ pub(crate) fn end_of(subject: Subject, n: u32) -> u64
         Subject::Write => power_of_two(n - 1),
         Subject::Move => words_of(n),
         Subject::Draw => DRAWN,
+        Subject::Midway => power_of_two(n - 1) - 1,
+        Subject::DrawnMidway => 512,
+        Subject::Long => 1024,
     }
 }
 
@@ -46,6 +53,8 @@ fn start_of(subject: Subject) -> u64
 {
     match subject {
         Subject::Draw => 1000,
+        Subject::DrawnMidway => 9000,
+        Subject::Long => 8000,
         _ => 0,
     }
 }

@@ -8,7 +8,7 @@ use native.Mathlib.Omega.{arith}
 use lib.IntN.{ℤ, pos, negsuc, natAbs, _+ℤ_, _-ℤ_, +ℤ-negℤ-cancel, -ℤ-+ℤ-cancel, pos-ne-negsuc}
 use lib.Pow.{pow-pos, pow-add, pow-mono}
 use Rattle.word.specs.declared.reading.Reading.{Reading}
-use Rattle.word.specs.Takum.{Takum, real}
+use Rattle.word.specs.Takum.{Takum, real, NaR}
 use Rattle.word.specs.Reads.{num, den, IsSize, signedSize, IsNumber, IsReading}
 use Rattle.bounds.proofs.Powers.{not-more}
 use Rattle.word.proofs.Values.{real-inj, not-NaR}
@@ -106,13 +106,16 @@ value-one m k v w h g = eq-of-mul-eq-mul-right (den (k +ℤ pos 307)) (subst (λ
 
 -- ---- readings
 module _ (t : Takum) (k : ℕ) where
-  number-not-zero : (s : Bool) (h : ℤ) (m p : ℕ) → IsNumber t k s h m p → t ≡ real (pos 0) → ⊥
+  pub number-not-zero : (s : Bool) (h : ℤ) (m p : ℕ) → IsNumber t k s h m p → t ≡ real (pos 0) → ⊥
   unfolding signedSize
   number-not-zero s h m p i q =
       lt-irrefl 0 (subst (λ (x : ℕ). zero < x) (signed-one s false (i .v) 0 some (real-inj (sym (i .means) ∙ q)) .1) some)
     where
       some : zero < i .v
       some = size-not-zero m (h -ℤ pos p) (i .v) (lt-of-lt-of-le (pow-pos p) (i .low)) (i .size)
+
+  pub number-not-NaR : (s : Bool) (h : ℤ) (m p : ℕ) → IsNumber t k s h m p → t ≡ NaR → ⊥
+  number-not-NaR s h m p i q = not-NaR (signedSize s (i .v)) (sym (i .means) ∙ q)
 
   numbers-one : (s s' : Bool) (h h' : ℤ) (m m' p p' : ℕ) → IsNumber t k s h m p → IsNumber t k s' h' m' p' → Reading.Number s h m p ≡ Reading.Number s' h' m' p'
   numbers-one s s' h h' m m' p p' i i' = λ j. Reading.Number (sign .0 j) (exponent j) (parts .1 j) (count j)
@@ -141,10 +144,10 @@ module _ (t : Takum) (k : ℕ) where
   reading-one Reading.Zero (Reading.Refused q) x y = absurd y
   reading-one Reading.NotReal Reading.Zero x y = absurd (not-NaR (pos 0) (sym y ∙ x))
   reading-one Reading.NotReal Reading.NotReal x y = refl
-  reading-one Reading.NotReal (Reading.Number s h m p) x y = absurd (not-NaR (signedSize s (y .v)) (sym (y .means) ∙ x))
+  reading-one Reading.NotReal (Reading.Number s h m p) x y = absurd (number-not-NaR s h m p y x)
   reading-one Reading.NotReal (Reading.Refused q) x y = absurd y
   reading-one (Reading.Number s h m p) Reading.Zero x y = absurd (number-not-zero s h m p x y)
-  reading-one (Reading.Number s h m p) Reading.NotReal x y = absurd (not-NaR (signedSize s (x .v)) (sym (x .means) ∙ y))
+  reading-one (Reading.Number s h m p) Reading.NotReal x y = absurd (number-not-NaR s h m p x y)
   reading-one (Reading.Number s h m p) (Reading.Number s' h' m' p') x y = numbers-one s s' h h' m m' p p' x y
   reading-one (Reading.Number s h m p) (Reading.Refused q) x y = absurd y
   reading-one (Reading.Refused q) b x y = absurd x

@@ -1,14 +1,42 @@
-// The sign of a string and its size, in the normal form that every number that is written or taken out goes through.
+// The sign and the size of a string and of a word, in the normal form that every number that is written or taken out goes through.
 use crate::fields::cut;
+use bounds::refusal::Refusal;
+use bounds::refusal::Verdict;
+use bounds::width::Width;
 ghost use mathlib.Core.Path.{_≡_};
 ghost use Prim.Native.Nat.{_^_};
-ghost use Rattle.word.specs.Sizes.{withoutSign, Sizes};
+ghost use Rattle.word.specs.Sizes.{withoutSign, Sizes, ReadsSize};
 
 // The size m * 2^(h - 63), m having its top bit set, and its sign.
 pub struct Size {
     pub negative: bool,
     pub h: i32,
     pub m: u64,
+}
+
+pub enum WordSize {
+    Zero,
+    Nar,
+    Number(Size),
+    Refused(Refusal),
+}
+
+// What a word of the width means, as a size in the normal form. It is what every call begins with that writes or takes out what a word means.
+pub fn read_size(width: Width, word: u64) -> WordSize
+    ensures { λ a. ⌜ ReadsSize (width .bits) word a ⌝ }
+{
+    let verdict = width.test_word(word);
+    if let Verdict::Refused(q) = verdict {
+        return WordSize::Refused(q);
+    }
+    if word == 0 {
+        return WordSize::Zero;
+    }
+    let string = word << (64 - width.bits);
+    if string == 1 << 63 {
+        return WordSize::Nar;
+    }
+    WordSize::Number(size_of(string))
 }
 
 // The size of a string of 64 bits, as a word of any width is one with zero bits after it. Every string has one, also zero's and NaR's;

@@ -1,0 +1,81 @@
+-- The size in the normal form is a reading with 63 fraction bits: what a word means has one, and its exponent is from -255 to 254. Assumes nothing.
+use mathlib.Core.Path.{_≡_, refl, sym, ap, _∙_, subst}
+use Prim.Native.Nat.{ℕ, _+_, _-_, _*_, _^_, _≤_}
+use lib.Dec.{ltb}
+use lib.IntN.{ℤ, pos}
+use lib.Signed.{mag}
+use Rattle.bounds.specs.Refusals.{IsWord}
+use Rattle.word.specs.declared.reading.Reading.{Reading}
+use Rattle.word.specs.declared.size.Size.{Size}
+use Rattle.word.specs.declared.size.WordSize.{WordSize}
+use Rattle.word.specs.Takum.{Takum, takum, p, F, c}
+use Rattle.word.specs.Reads.{IsNumber, IsReading}
+use Rattle.word.specs.Sizes.{withoutSign, IsWordSize, ReadsSize}
+use Rattle.bounds.proofs.Verdicts.{decided-one}
+use Rattle.word.proofs.Words.{takum-zero, takum-NaR}
+use Rattle.word.proofs.Numbers.{characteristic-of-string}
+use Rattle.word.proofs.Tops.{word-number}
+use Rattle.word.proofs.Binades.{reading-one, number-not-zero, number-not-NaR}
+
+-- there and back
+reading : WordSize → Reading
+reading WordSize.Zero = Reading.Zero
+reading WordSize.Nar = Reading.NotReal
+reading (WordSize.Number s) = Reading.Number (s .negative) (s .h) (s .m) 63
+reading (WordSize.Refused q) = Reading.Refused q
+
+sizeOf : Reading → WordSize
+sizeOf Reading.Zero = WordSize.Zero
+sizeOf Reading.NotReal = WordSize.Nar
+sizeOf (Reading.Number negative h m p) = WordSize.Number (record { negative = negative; h = h; m = m })
+sizeOf (Reading.Refused q) = WordSize.Refused q
+
+back : (a : WordSize) → sizeOf (reading a) ≡ a
+unfolding reading sizeOf
+back WordSize.Zero = refl
+back WordSize.Nar = refl
+back (WordSize.Number s) = refl
+back (WordSize.Refused q) = refl
+
+reads : (t : Takum) (a : WordSize) → IsWordSize t a → IsReading t 63 (reading a)
+unfolding IsWordSize IsReading reading
+reads t WordSize.Zero x = x
+reads t WordSize.Nar x = x
+reads t (WordSize.Number s) x = x
+reads t (WordSize.Refused q) x = x
+
+-- two sizes of one meaning are the same
+pub word-size-one : (t : Takum) (a b : WordSize) → IsWordSize t a → IsWordSize t b → a ≡ b
+word-size-one t a b x y = sym (back a) ∙ ap sizeOf (reading-one t 63 (reading a) (reading b) (reads t a x) (reads t b y)) ∙ back b
+
+-- two outcomes that the contract of `read_size` allows are equal
+pub reads-size-one : (n w : ℕ) (a b : WordSize) → ReadsSize n w a → ReadsSize n w b → a ≡ b
+unfolding ReadsSize
+reads-size-one n w a b = decided-one WordSize.Refused (IsWordSize (takum n w)) (word-size-one (takum n w)) a b
+
+-- the exponent is a characteristic
+exponent : WordSize → ℤ
+exponent WordSize.Zero = pos 0
+exponent WordSize.Nar = pos 0
+exponent (WordSize.Number s) = s .h
+exponent (WordSize.Refused q) = pos 0
+
+module _ (n w : ℕ) (i : IsWord n w) (s : Size) (x : IsNumber (takum n w) 63 (s .negative) (s .h) (s .m) 63) where
+  T : ℕ
+  T = w * 2 ^ (64 - n)
+
+  cut : Size
+  cut = record { negative = ltb (2 ^ 63) T; h = c 64 (withoutSign (2 ^ 63) T); m = 2 ^ 63 + F 64 (withoutSign (2 ^ 63) T) * 2 ^ (63 - p 64 (withoutSign (2 ^ 63) T)) }
+
+  pub exponent-small : mag (s .h) ≤ 254
+  unfolding IsWordSize IsReading T cut exponent
+  exponent-small =
+      subst (λ (z : ℤ). mag z ≤ 254)
+      (sym (ap exponent (word-size-one (takum n w) (WordSize.Number s) (WordSize.Number cut) x (word-number n w i not-zero not-nar cut (record { sign = refl; characteristic = refl; significand = refl })))))
+      (characteristic-of-string 64 (withoutSign (2 ^ 63) T))
+    where
+      not-zero : w ≡ 0 → ⊥
+      not-zero q = number-not-zero (takum n w) 63 (s .negative) (s .h) (s .m) 63 x (ap (takum n) q ∙ takum-zero n)
+
+      not-nar : w ≡ 2 ^ (n - 1) → ⊥
+      not-nar q = number-not-NaR (takum n w) 63 (s .negative) (s .h) (s .m) 63 x (takum-NaR n w (i .least) (i .most) q)

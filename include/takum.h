@@ -17,7 +17,7 @@
  * - It is 0 (TAKUM_OK) where the call was answered, and the other fields are the answer.
  * - It is a number from 1 to 11 where the call was refused. Then all other fields are zero (but for the position of a column), and a lent
  *   slice is as it was before the call. Where several refusals apply, the first is given, in this order:
- *   words: WIDTH, STRAY, NOT_REAL, OVER, INEXACT; columns: WIDTH, ROOM, then position by position, at each STRAY and INEXACT; blocks: SIZE,
+ *   words: WIDTH, STRAY, NAR, OVER, INEXACT; columns: WIDTH, ROOM, then position by position, at each STRAY and INEXACT; blocks: SIZE,
  *   MARK, CHECK, WIDTH, COUNT, FILL, ROOM.
  *
  * What a proof can't see is how the calls are used from C. It rests on this:
@@ -42,18 +42,18 @@ extern "C" {
 /* Why a call was refused. Every call that takes a width can give WIDTH, and every call that takes a word STRAY; what else it can give stands at
  * the call. */
 enum takum_refusal {
-    TAKUM_OK = 0,       /* it was not refused */
-    TAKUM_WIDTH = 1,    /* a width isn't 2 to 64, or a block's isn't 8, 16, 32 or 64 */
-    TAKUM_STRAY = 2,    /* a word has a bit set at or above its width */
-    TAKUM_NOT_REAL = 3, /* a whole number is wanted of NaR (the papers' name for it is NAR) */
-    TAKUM_INEXACT = 4,  /* strict, and no word, or no whole number, has the value */
-    TAKUM_OVER = 5,     /* the whole number falls outside signed 64 bits */
-    TAKUM_ROOM = 6,     /* the result slice is too short */
-    TAKUM_SIZE = 7,     /* a block isn't 512 bytes */
-    TAKUM_MARK = 8,     /* a block's byte 0 isn't 0x54 */
-    TAKUM_CHECK = 9,    /* a block's check sum A or B differs */
-    TAKUM_COUNT = 10,   /* a block has more words than its width has room for */
-    TAKUM_FILL = 11     /* an unused word byte of a block isn't zero */
+    TAKUM_OK = 0,      /* it was not refused */
+    TAKUM_WIDTH = 1,   /* a width isn't 2 to 64, or a block's isn't 8, 16, 32 or 64 */
+    TAKUM_STRAY = 2,   /* a word has a bit set at or above its width */
+    TAKUM_NAR = 3,     /* a whole number is wanted of NaR */
+    TAKUM_INEXACT = 4, /* strict, and no word, or no whole number, has the value */
+    TAKUM_OVER = 5,    /* the whole number falls outside signed 64 bits */
+    TAKUM_ROOM = 6,    /* the result slice is too short */
+    TAKUM_SIZE = 7,    /* a block isn't 512 bytes */
+    TAKUM_MARK = 8,    /* a block's byte 0 isn't 0x54 */
+    TAKUM_CHECK = 9,   /* a block's check sum A or B differs */
+    TAKUM_COUNT = 10,  /* a block has more words than its width has room for */
+    TAKUM_FILL = 11    /* an unused word byte of a block isn't zero */
 };
 
 /* The bounds of a width in bits, the size of a block in bytes, and the most words that a block has. */
@@ -70,14 +70,14 @@ enum { TAKUM_LEAST_WIDTH = 2, TAKUM_GREATEST_WIDTH = 64, TAKUM_BLOCK_SIZE = 512,
 #define TAKUM_STRICT true
 
 /* The field `kind` of a reading. */
-enum takum_kind { TAKUM_ZERO = 0, TAKUM_NAR = 1, TAKUM_NUMBER = 2 };
+enum takum_kind { TAKUM_KIND_ZERO = 0, TAKUM_KIND_NAR = 1, TAKUM_KIND_NUMBER = 2 };
 
 typedef struct takum_word_answer {
     uint32_t refusal;
     uint64_t word;
 } takum_word_answer;
 
-/* The fields after `kind` are zero unless it is TAKUM_NUMBER. Then the size is m * 2^(h - p), with 2^p <= m < 2^(p + 1), p being the number of
+/* The fields after `kind` are zero unless it is TAKUM_KIND_NUMBER. Then the size is m * 2^(h - p), with 2^p <= m < 2^(p + 1), p being the number of
  * fraction bits (of a word of fewer than 12 bits with zero bits appended up to 12), and `negative` the sign. */
 typedef struct takum_reading_answer {
     uint32_t refusal;
@@ -153,7 +153,7 @@ takum_word_answer takum_move(uint32_t from, uint32_t to, bool strict, uint64_t w
 /* The word for a whole number. INEXACT by the strict rule. */
 takum_word_answer takum_write_whole(uint32_t n, bool strict, int64_t x);
 
-/* The whole number of a word, cut or strict. NOT_REAL for NaR, OVER where its whole part is below -2^63 or above 2^63 - 1, and, by the
+/* The whole number of a word, cut or strict. NAR for NaR, OVER where its whole part is below -2^63 or above 2^63 - 1, and, by the
  * strict rule, INEXACT where the value isn't whole. */
 takum_whole_answer takum_take_whole(uint32_t n, bool strict, uint64_t word);
 

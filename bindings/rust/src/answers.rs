@@ -43,14 +43,14 @@ pub struct Value {
 ///
 /// // -1.5 is -3072 * 2^(0 - 11)
 /// assert_eq!(calls::read(16, 0xBC00), Ok(Reading::Number { negative: true, h: 0, m: 3072, p: 11 }));
-/// assert_eq!(calls::read(16, 0x8000), Ok(Reading::NotReal));
+/// assert_eq!(calls::read(16, 0x8000), Ok(Reading::Nar));
 /// ```
 #[derive(Clone, Copy, Debug, PartialEq, Eq, Hash)]
 pub enum Reading {
     /// Zero.
     Zero,
     /// NaR, "not a real".
-    NotReal,
+    Nar,
     /// A number that isn't zero, of the size m * 2^(h - p), with 2^p <= m < 2^(p + 1).
     Number {
         /// Its sign.

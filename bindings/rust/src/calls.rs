@@ -1,7 +1,7 @@
 //! The library's calls as they are. Each takes any numbers, and refuses a width that isn't 2 to 64 and a word with a bit at or above its
 //! width.
 //!
-//! Where several refusals apply, the first of this order is given. Words: `Width`, `Stray`, `NotReal`, `Over`, `Inexact`. Columns:
+//! Where several refusals apply, the first of this order is given. Words: `Width`, `Stray`, `Nar`, `Over`, `Inexact`. Columns:
 //! `Width`, `Room`, then position by position, at each `Stray` and `Inexact`. Blocks: `Size`, `Mark`, `Check`, `Width`, `Count`, `Fill`, `Room`.
 //! A refused call leaves its results as they were.
 //!
@@ -48,8 +48,8 @@ pub fn limit(n: u32) -> Result<u64, Refusal> {
 pub fn read(n: u32, word: u64) -> Result<Reading, Refusal> {
     let answer = unsafe { face::takum_read(n, word) };
     let reading = match answer.kind {
-        face::ZERO => Reading::Zero,
-        face::NAR => Reading::NotReal,
+        face::KIND_ZERO => Reading::Zero,
+        face::KIND_NAR => Reading::Nar,
         _ => Reading::Number { negative: answer.negative, h: answer.h, m: answer.m, p: answer.p },
     };
     Refusal::unless(answer.refusal, reading)
@@ -81,7 +81,7 @@ pub fn write_whole(n: u32, rule: Rule, x: i64) -> Result<u64, Refusal> {
     word_of(unsafe { face::takum_write_whole(n, rule == Rule::Strict, x) })
 }
 
-/// The whole number of a word; `NotReal` for NaR, `Over` outside signed 64 bits.
+/// The whole number of a word; `Nar` for NaR, `Over` outside signed 64 bits.
 pub fn take_whole(n: u32, taking: Taking, word: u64) -> Result<i64, Refusal> {
     let answer = unsafe { face::takum_take_whole(n, taking == Taking::Strict, word) };
     Refusal::unless(answer.refusal, answer.whole)

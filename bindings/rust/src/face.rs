@@ -17,8 +17,8 @@ pub struct ReadingAnswer {
 }
 
 /// The values of `kind`; any other is that of a number.
-pub const ZERO: u32 = 0;
-pub const NAR: u32 = 1;
+pub const KIND_ZERO: u32 = 0;
+pub const KIND_NAR: u32 = 1;
 
 #[repr(C)]
 pub struct OrderAnswer {

@@ -16,8 +16,8 @@ pub enum Refusal {
     Width = 1,
     /// A word has a bit set at or above its width.
     Stray = 2,
-    /// A whole number is wanted of NaR (the papers' name for it is NAR).
-    NotReal = 3,
+    /// A whole number is wanted of NaR.
+    Nar = 3,
     /// Strict, and no word, or no whole number, has the value.
     Inexact = 4,
     /// The whole number falls outside signed 64 bits.
@@ -39,7 +39,7 @@ pub enum Refusal {
 const ALL: [Refusal; 11] = [
     Refusal::Width,
     Refusal::Stray,
-    Refusal::NotReal,
+    Refusal::Nar,
     Refusal::Inexact,
     Refusal::Over,
     Refusal::Room,

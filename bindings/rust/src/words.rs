@@ -138,7 +138,7 @@ impl Takum {
         calls::move_word(self.width.bits, to.bits, rule, self.word).map(|word| to.given(word))
     }
 
-    /// Its whole number, or [`Refusal::NotReal`], [`Refusal::Over`] or, by the strict rule, [`Refusal::Inexact`].
+    /// Its whole number, or [`Refusal::Nar`], [`Refusal::Over`] or, by the strict rule, [`Refusal::Inexact`].
     pub fn take_whole(self, taking: Taking) -> Result<i64, Refusal> {
         calls::take_whole(self.width.bits, taking, self.word)
     }

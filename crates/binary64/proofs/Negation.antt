@@ -13,7 +13,7 @@ use Rattle.bounds.proofs.Verdicts.{word-passes}
 use Rattle.word.proofs.Words.{takum-zero}
 use Rattle.write.specs.Writes.{isNegative}
 use Rattle.binary64.specs.declared.taking.Binary64.{Binary64}
-use Rattle.binary64.specs.Takes.{IsTaken, TakesBinary64}
+use Rattle.binary64.specs.Takes.{IsTakenBinary64, TakesBinary64}
 use Rattle.binary64.proofs.Signs.{round-negated, neg-neg}
 use Rattle.binary64.proofs.Taken.{taken}
 
@@ -24,12 +24,12 @@ rounded-opposite (pos (suc i)) f = sym (round-negated binary64 (suc i) (2 ^ 307)
 rounded-opposite (negsuc i) f = sym (ap neg (sym (round-negated binary64 (suc i) (2 ^ 307))) ∙ neg-neg (round binary64 false (suc i) (2 ^ 307)))
 
 pub negated-taken : (n w : ℕ) (x : Float) → (w ≡ 0 → ⊥) → TakesBinary64 n w (Binary64.Number x) → TakesBinary64 n (negated n w) (Binary64.Number (neg x))
-unfolding opposite TakesBinary64 IsTaken
+unfolding opposite TakesBinary64 IsTakenBinary64
 negated-taken n w x f p =
     let t = taken n w x p in
     let some : t .z ≡ pos 0 → ⊥ = λ e. f (words-differ n w 0 (t .word) (record { least = t .word .least; most = t .word .most; fits = pow-pos n }) (t .means ∙ ap real e ∙ sym (takum-zero n))) in
     through (word-passes n (negated n w) (negated-word n w (t .word)))
-    (subst (λ (u : Takum). IsTaken u (Binary64.Number (neg x))) (sym (negation-negates n w (t .word) ∙ ap opposite (t .means))) (ap Binary64.Number (ap neg (t .is) ∙ sym (rounded-opposite (t .z) some))))
+    (subst (λ (u : Takum). IsTakenBinary64 u (Binary64.Number (neg x))) (sym (negation-negates n w (t .word) ∙ ap opposite (t .means))) (ap Binary64.Number (ap neg (t .is) ∙ sym (rounded-opposite (t .z) some))))
 
 pub zero-taken-positive : (n : ℕ) (x : Float) → TakesBinary64 n 0 (Binary64.Number x) → x ≡ fin false 0 (pos 0)
 unfolding isNegative round

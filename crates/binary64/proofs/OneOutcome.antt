@@ -7,10 +7,10 @@ use Rattle.bounds.specs.Refusals.{through, refused}
 use Rattle.word.specs.Takum.{Takum, real, NaR, takum}
 use Rattle.bounds.specs.declared.answer.Answer.{Answer}
 use Rattle.bounds.proofs.Verdicts.{width-through, answered, refused-as, decided-one}
-use Rattle.write.specs.declared.value.Rule.{Rule}
-use Rattle.write.proofs.Rounding.{written-one}
+use Rattle.round.specs.declared.value.Rule.{Rule}
+use Rattle.round.proofs.Rounding.{written-one}
 use Rattle.binary64.specs.declared.taking.Binary64.{Binary64}
-use Rattle.binary64.specs.Takes.{IsTaken, TakesBinary64}
+use Rattle.binary64.specs.Takes.{IsTakenBinary64, TakesBinary64}
 use Rattle.binary64.specs.Writes.{IsWrittenBinary64, WritesBinary64}
 
 written-one-of : (n : ℕ) → 2 ≤ n → n ≤ 64 → (rule : Rule) (x : Float) (r r' : Answer) → IsWrittenBinary64 n rule x r → IsWrittenBinary64 n rule x r' → r ≡ r'
@@ -24,11 +24,11 @@ unfolding WritesBinary64
 writes-binary64-one n rule x r r' (through h p) q = let t = width-through n h in written-one-of n (t .0) (t .1) rule x r r' p (answered h q)
 writes-binary64-one n rule x r r' (refused h p) q = p ∙ sym (refused-as _ h q)
 
-taken-one : (t : Takum) (a b : Binary64) → IsTaken t a → IsTaken t b → a ≡ b
-unfolding IsTaken
+taken-one : (t : Takum) (a b : Binary64) → IsTakenBinary64 t a → IsTakenBinary64 t b → a ≡ b
+unfolding IsTakenBinary64
 taken-one (real z) a b p q = p ∙ sym q
 taken-one NaR a b p q = p ∙ sym q
 
 pub takes-binary64-one : (n w : ℕ) (a b : Binary64) → TakesBinary64 n w a → TakesBinary64 n w b → a ≡ b
 unfolding TakesBinary64
-takes-binary64-one n w a b = decided-one Binary64.Refused (IsTaken (takum n w)) (taken-one (takum n w)) a b
+takes-binary64-one n w a b = decided-one Binary64.Refused (IsTakenBinary64 (takum n w)) (taken-one (takum n w)) a b

@@ -12,8 +12,9 @@ use Rattle.word.specs.Takum.{Takum}
 use Rattle.word.specs.Reads.{num, den, signedSize, IsSize, IsNumber}
 use Rattle.word.proofs.Integers.{balance}
 use Rattle.write.specs.Writes.{isNegative}
-use Rattle.write.proofs.Exponents.{unit-some, shift}
-use Rattle.write.proofs.Rules.{size-some}
+use Rattle.word.proofs.Units.{unit-some}
+use Rattle.round.proofs.Exponents.{shift}
+use Rattle.write.proofs.Meanings.{size-some}
 
 -- an exponent raised by 1023
 pub raise : (h : ℤ) → mag h ≤ 255 → (g : ℕ) × (h +ℤ pos 1023 ≡ pos g) × (767 ≤ g) × (g ≤ 1278)

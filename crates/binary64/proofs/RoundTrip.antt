@@ -11,10 +11,10 @@ use Rattle.bounds.specs.Refusals.{IsWord}
 use Rattle.word.specs.Takum.{real, takum}
 use Rattle.bounds.specs.declared.answer.Answer.{Answer}
 use Rattle.bounds.proofs.Verdicts.{width-fits, answered}
-use Rattle.write.specs.declared.value.Rule.{Rule}
+use Rattle.round.specs.declared.value.Rule.{Rule}
 use Rattle.write.specs.Writes.{isNegative}
 use Rattle.write.proofs.Moves.{rejoined}
-use Rattle.write.proofs.Rounding.{exact-written}
+use Rattle.round.proofs.Rounding.{exact-written}
 use Rattle.binary64.specs.declared.taking.Binary64.{Binary64}
 use Rattle.binary64.specs.Takes.{TakesBinary64}
 use Rattle.binary64.specs.Writes.{IsWrittenBinary64, WritesBinary64}

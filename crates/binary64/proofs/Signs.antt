@@ -1,11 +1,8 @@
--- A sign is changed without a rounding: the negative of a rounded size is the rounded size with its sign. And where a string has its sign. Assumes nothing.
+-- A sign is changed without a rounding: the negative of a rounded size is the rounded size with its sign. Assumes nothing.
 use mathlib.Core.Path.{_≡_, refl, sym, ap, _∙_}
 use mathlib.Core.Bool.{Bool, true, false, cond}
-use Prim.Native.Nat.{ℕ, zero, suc, _*_, _/_, _^_, _<_}
-use native.Mathlib.Decide.{decLt}
-use native.Mathlib.Omega.{arith}
-use borrow.Author.Tests.{eq-eqb, ne-eqb, lt-ltb, le-ltb}
-use lib.Dec.{eqb, ltb}
+use Prim.Native.Nat.{ℕ, zero, suc, _*_, _^_}
+use lib.Dec.{ltb}
 use lib.Ieee.{Float, nan, inf, fin, Format, prec, low, odd, units, round, neg}
 use lib.Ieee.Fits.{round-is}
 use lib.Ieee.Scale.{overflow}
@@ -33,11 +30,3 @@ neg-neg (inf true) = refl
 neg-neg (inf false) = refl
 neg-neg (fin true m e) = refl
 neg-neg (fin false m e) = refl
-
--- the first digit of a string of 64 bits that is not NaR's is its sign
-pub sign-digit : (t : ℕ) → t < 2 ^ 64 → (t ≡ 2 ^ 63 → ⊥) → eqb (t / 2 ^ 63) 1 ≡ ltb (2 ^ 63) t
-sign-digit t short other = by (decLt (2 ^ 63) t)
-  where
-    by : Dec (2 ^ 63 < t) → eqb (t / 2 ^ 63) 1 ≡ ltb (2 ^ 63) t
-    by (yes h) = eq-eqb (t / 2 ^ 63) 1 (omega (arith, short, h)) ∙ sym (lt-ltb (2 ^ 63) t h)
-    by (no f) = ne-eqb (t / 2 ^ 63) 1 (λ q. other (omega (arith, q, f))) ∙ sym (le-ltb (2 ^ 63) t (omega (arith, f)))

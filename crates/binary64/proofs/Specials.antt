@@ -12,11 +12,11 @@ use Rattle.bounds.specs.Widths.{narWord}
 use Rattle.bounds.specs.declared.answer.Answer.{Answer}
 use Rattle.bounds.proofs.Verdicts.{width-fits, word-passes, answered}
 use Rattle.word.proofs.Words.{takum-NaR}
-use Rattle.write.specs.declared.value.Rule.{Rule}
-use Rattle.write.proofs.Rounding.{written-one}
-use Rattle.write.proofs.Rules.{zero-written}
+use Rattle.round.specs.declared.value.Rule.{Rule}
+use Rattle.round.proofs.Rounding.{written-one}
+use Rattle.round.proofs.Rules.{zero-written}
 use Rattle.binary64.specs.declared.taking.Binary64.{Binary64}
-use Rattle.binary64.specs.Takes.{IsTaken, TakesBinary64}
+use Rattle.binary64.specs.Takes.{IsTakenBinary64, TakesBinary64}
 use Rattle.binary64.specs.Writes.{IsWrittenBinary64, WritesBinary64}
 
 module _ (n : ℕ) (lo : 2 ≤ n) (hi : n ≤ 64) (rule : Rule) (r : Answer) where
@@ -34,6 +34,6 @@ module _ (n : ℕ) (lo : 2 ≤ n) (hi : n ≤ 64) (rule : Rule) (r : Answer) whe
       written-one n lo hi rule s (0 * up e * 2 ^ 307) (down e) r (Answer.Word 0) (down-pos e) (answered (width-fits n lo hi) x)
       (zero-written n lo hi rule s (0 * up e * 2 ^ 307) (down e) (ap (λ (y : ℕ). y * 2 ^ 307) (zero-mul (up e)) ∙ zero-mul (2 ^ 307)))
 
-pub NaR-not-taken : (n w : ℕ) (a : Binary64) → IsWord n w → w ≡ narWord n → TakesBinary64 n w a → a ≡ Binary64.NotReal
-unfolding TakesBinary64 IsTaken narWord
-NaR-not-taken n w a i q x = subst (λ (t : Takum). IsTaken t a) (takum-NaR n w (i .least) (i .most) q) (answered (word-passes n w i) x)
+pub NaR-not-taken : (n w : ℕ) (a : Binary64) → IsWord n w → w ≡ narWord n → TakesBinary64 n w a → a ≡ Binary64.Nar
+unfolding TakesBinary64 IsTakenBinary64 narWord
+NaR-not-taken n w a i q x = subst (λ (t : Takum). IsTakenBinary64 t a) (takum-NaR n w (i .least) (i .most) q) (answered (word-passes n w i) x)

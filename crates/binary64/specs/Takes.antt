@@ -10,11 +10,11 @@ use Rattle.binary64.specs.declared.taking.Binary64.{Binary64}
 
 -- The nearest binary64, ties to even, to the value z * 2^-307; zero is positive zero. It has the property `NearestBinary64` (Nearest.antt), and
 -- only it has: proofs/Nearest.antt. Up to width 57 it has the value itself (`taken-exact` in proofs/Exactness.antt).
-unfoldable pub IsTaken : Takum → Binary64 → Type 0
-IsTaken (real z) a = a ≡ Binary64.Number (round binary64 (isNegative z) (natAbs z) (2 ^ 307))
-IsTaken NaR a = a ≡ Binary64.NotReal
+unfoldable pub IsTakenBinary64 : Takum → Binary64 → Type 0
+IsTakenBinary64 (real z) a = a ≡ Binary64.Number (round binary64 (isNegative z) (natAbs z) (2 ^ 307))
+IsTakenBinary64 NaR a = a ≡ Binary64.Nar
 
 -- ---- what the call answers
 -- WIDTH, then STRAY
 unfoldable pub TakesBinary64 : ℕ → ℕ → Binary64 → Type 0
-TakesBinary64 n w a = Decided (wordTest n w) (λ q. a ≡ Binary64.Refused q) (IsTaken (takum n w) a)
+TakesBinary64 n w a = Decided (wordTest n w) (λ q. a ≡ Binary64.Refused q) (IsTakenBinary64 (takum n w) a)

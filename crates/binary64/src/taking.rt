@@ -1,8 +1,8 @@
 // Taking a word out as a binary64 number.
 use bounds::refusal::Refusal;
-use bounds::refusal::Verdict;
 use bounds::width::Width;
-use word::size::size_of;
+use word::size::WordSize;
+use word::size::read_size;
 ghost use mathlib.Core.Path.{_≡_};
 ghost use Prim.Native.Nat.{_*_, _^_, _≤_, _<_};
 ghost use lib.Dec.{eqb};
@@ -12,7 +12,7 @@ ghost use Rattle.binary64.specs.Takes.{TakesBinary64};
 
 pub enum Binary64 {
     Number(f64),
-    NotReal,
+    Nar,
     Refused(Refusal),
 }
 
@@ -20,21 +20,16 @@ pub enum Binary64 {
 pub fn take_binary64(width: Width, word: u64) -> Binary64
     ensures { λ a. ⌜ TakesBinary64 (width .bits) word a ⌝ }
 {
-    let verdict = width.test_word(word);
-    if let Verdict::Refused(q) = verdict {
-        return Binary64::Refused(q);
+    match read_size(width, word) {
+        WordSize::Zero => Binary64::Number(0.0),
+        WordSize::Nar => Binary64::Nar,
+        WordSize::Number(size) => {
+            // The lowest of 53 digits is 2^(h - 52).
+            let j = (size.h + 971) as u64;
+            Binary64::Number(number(size.negative as u64, to_53_digits(size.m), j))
+        }
+        WordSize::Refused(q) => Binary64::Refused(q),
     }
-    if word == 0 {
-        return Binary64::Number(0.0);
-    }
-    let string = word << (64 - width.bits);
-    if string == 1 << 63 {
-        return Binary64::NotReal;
-    }
-    let size = size_of(string);
-    // The lowest of 53 digits is 2^(h - 52).
-    let j = (size.h + 971) as u64;
-    Binary64::Number(number(string >> 63, to_53_digits(size.m), j))
 }
 
 // A significand of 64 digits rounded to its 53 leading ones, ties to even: one more where the eleven that are cut are above half, or are half

@@ -1,7 +1,7 @@
 // Writing a binary64 number as a word.
 use bounds::answer::Answer;
 use bounds::width::Width;
-use write::value::Rule;
+use round::value::Rule;
 use write::value::Value;
 use write::writing::write;
 ghost use mathlib.Core.Path.{_≡_};

@@ -5,6 +5,8 @@
 pub mod Powers
 -- when the tests of a width and of a word refuse, and what a contract says then
 pub mod Verdicts
+-- when the test of the room refuses
+pub mod Rooms
 -- the exponent of the exact-count limit, from one logarithm
 pub mod Limits
 -- an answer is a word or a refusal, and not both

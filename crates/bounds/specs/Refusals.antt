@@ -4,14 +4,14 @@ use mathlib.Core.Bool.{Bool, cond, _&&_}
 use Prim.Native.Nat.{ℕ, _^_, _≤_, _<_}
 use lib.Dec.{leb, ltb}
 use Rattle.bounds.specs.declared.refusal.Refusal.{Refusal}
-use Rattle.bounds.specs.declared.refusal.Refusal.the-variants.{Width, Stray, NotReal, Inexact, Over, Room, Size, Mark, Check, Count, Fill}
+use Rattle.bounds.specs.declared.refusal.Refusal.the-variants.{Width, Stray, Nar, Inexact, Over, Room, Size, Mark, Check, Count, Fill}
 use Rattle.bounds.specs.declared.refusal.Verdict.{Verdict}
 use Rattle.bounds.specs.declared.refusal.Verdict.the-variants.{Through, Refused}
 
 abbrev pub numberOf : Refusal → ℕ
 numberOf Width = 1
 numberOf Stray = 2
-numberOf NotReal = 3
+numberOf Nar = 3
 numberOf Inexact = 4
 numberOf Over = 5
 numberOf Room = 6

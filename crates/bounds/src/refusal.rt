@@ -5,7 +5,7 @@ ghost use Rattle.bounds.specs.Refusals.{numberOf, _then_};
 pub enum Refusal {
     Width,
     Stray,
-    NotReal,
+    Nar,
     Inexact,
     Over,
     Room,
@@ -30,7 +30,7 @@ impl Refusal {
         match self {
             Refusal::Width => 1,
             Refusal::Stray => 2,
-            Refusal::NotReal => 3,
+            Refusal::Nar => 3,
             Refusal::Inexact => 4,
             Refusal::Over => 5,
             Refusal::Room => 6,

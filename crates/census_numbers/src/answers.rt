@@ -17,7 +17,7 @@ pub(crate) fn take_whole_out(digest: u64, out: Whole) -> u64 {
 pub(crate) fn take_binary64_out(digest: u64, out: Binary64) -> u64 {
     match out {
         Binary64::Number(x) => take_kind(digest, 0, pattern_of(x)),
-        Binary64::NotReal => take(digest, 1),
+        Binary64::Nar => take(digest, 1),
         Binary64::Refused(refusal) => take_refusal(digest, refusal),
     }
 }

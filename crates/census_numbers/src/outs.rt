@@ -14,7 +14,7 @@ use census::exponent::ORIGIN;
 use census::exponent::exponent;
 use census::run::Run;
 use census::run::WIDEST_WHOLE;
-use write::value::Rule;
+use round::value::Rule;
 use write::value::Value;
 use write::writing::write;
 ghost use Prim.Native.Nat.{_≤_};

@@ -81,7 +81,7 @@ fn midpoint_or(low: u64, high: u64, other: u64) -> u64 {
 pub(crate) fn pattern_out(n: u32, word: u64) -> u64 {
     match take_binary64(Width { bits: n }, word) {
         Binary64::Number(x) => pattern_of(x),
-        Binary64::NotReal => 0,
+        Binary64::Nar => 0,
         Binary64::Refused(_) => 0,
     }
 }

@@ -8,10 +8,10 @@ use binary64::writing::write_binary64;
 use bounds::answer::Answer;
 use bounds::width::Width;
 use census::digest::take_answer;
+use round::value::Rule;
 use whole::taking::Taking;
 use whole::taking::take_whole;
 use whole::writing::write_whole;
-use write::value::Rule;
 
 // The ways in of the whole number of 64 bits.
 pub(crate) fn take_whole_in(digest: u64, n: u32, bits: u64) -> u64 {

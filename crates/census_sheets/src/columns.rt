@@ -11,7 +11,7 @@ use census::digest::take_kind;
 use census::digest::take_refusal;
 use column::moving::Column;
 use column::moving::move_column;
-use write::value::Rule;
+use round::value::Rule;
 ghost use Prim.Native.Nat.{_≤_};
 ghost use lib.ListN.{length};
 

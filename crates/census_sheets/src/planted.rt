@@ -2,7 +2,7 @@
 use crate::columns::Shape;
 use crate::columns::take_move;
 use census::bits::power_of_two;
-use write::value::Rule;
+use round::value::Rule;
 ghost use Prim.Native.Nat.{_≤_, _<_};
 
 // The bit of INEXACT.

@@ -32,7 +32,7 @@ pub(crate) fn take_comparison(digest: u64, comparison: Comparison) -> u64 {
 pub(crate) fn take_reading(digest: u64, reading: Reading) -> u64 {
     match reading {
         Reading::Zero => take(digest, 0),
-        Reading::NotReal => take(digest, 1),
+        Reading::Nar => take(digest, 1),
         Reading::Number { negative, h, m, p } => {
             let signed = take_kind(digest, 2, negative as u64);
             take_kind(take_signed_32(signed, h), m, p as u64)

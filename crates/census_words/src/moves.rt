@@ -1,8 +1,8 @@
 // Part 9: the moves of a word to other widths, each rounded and strict.
 use bounds::width::Width;
 use census::digest::take_answer;
+use round::value::Rule;
 use write::moving::move_word;
-use write::value::Rule;
 ghost use Prim.Native.Nat.{_≤_};
 
 // The widest width whose words go to every width.

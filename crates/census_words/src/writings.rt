@@ -3,7 +3,7 @@ use crate::sizes::Size;
 use bounds::width::Width;
 use census::digest::take_answer;
 use census::exponent::exponent;
-use write::value::Rule;
+use round::value::Rule;
 use write::value::Value;
 use write::writing::write;
 ghost use Prim.Native.Nat.{_≤_};

@@ -3,8 +3,6 @@
 
 -- a word that is tried is let through exactly where it is moved to some word
 pub mod Trials
--- when the test of the room refuses
-pub mod Rooms
 -- a walk one word further: what has been tried, and what has been written
 pub mod Walks
 -- what the answer of the trial tells: every word can be moved, or nothing is to be written

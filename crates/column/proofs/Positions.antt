@@ -9,12 +9,12 @@ use Rattle.bounds.specs.declared.refusal.Refusal.{Refusal}
 use Rattle.bounds.specs.declared.refusal.Verdict.{Verdict}
 use Rattle.bounds.specs.Refusals.{widthTest, _then_, through, refused, roomTest}
 use Rattle.bounds.proofs.Verdicts.{stray-fits, then-through, answered}
-use Rattle.write.specs.declared.value.Rule.{Rule}
+use Rattle.round.specs.declared.value.Rule.{Rule}
 use Rattle.write.specs.Writes.{Moves}
 use Rattle.write.proofs.OneOutcome.{moves-one}
 use Rattle.column.specs.declared.moving.Column.{Column}
 use Rattle.column.specs.Columns.{MovableUpTo, FirstRefusal, IsTried, MovesColumn, Holds}
-use Rattle.column.proofs.Rooms.{room-fits, room-through}
+use Rattle.bounds.proofs.Rooms.{room-fits, room-through}
 use Rattle.column.proofs.Trials.{rounded-movable, not-refused}
 
 -- ---- an answer that is no refusal of the whole column has passed the tests

@@ -9,7 +9,7 @@ use Rattle.bounds.specs.declared.answer.Answer.{Answer}
 use Rattle.word.specs.Takum.{takum}
 use Rattle.bounds.proofs.Answers.{wordOf, GivesAWord}
 use Rattle.bounds.proofs.Verdicts.{answered}
-use Rattle.write.specs.declared.value.Rule.{Rule}
+use Rattle.round.specs.declared.value.Rule.{Rule}
 use Rattle.write.specs.Writes.{Moves}
 use Rattle.write.proofs.Moves.{strict-keeps, there-and-back}
 use Rattle.column.specs.declared.moving.Column.{Column}

@@ -7,7 +7,7 @@ use Rattle.bounds.specs.declared.refusal.Verdict.{Verdict}
 use Rattle.bounds.specs.Refusals.{widthTest, wordTest, refused}
 use Rattle.bounds.proofs.Answers.{GivesAWord}
 use Rattle.bounds.proofs.Verdicts.{width-through, word-through}
-use Rattle.write.specs.declared.value.Rule.{Rule}
+use Rattle.round.specs.declared.value.Rule.{Rule}
 use Rattle.write.specs.Writes.{Moves}
 use Rattle.write.proofs.Moves.{rounded-moves}
 use Rattle.write.proofs.OneOutcome.{moves-one}

@@ -6,7 +6,7 @@ use lib.ListN.{length, getD}
 use Rattle.bounds.specs.declared.answer.Answer.{Answer}
 use Rattle.bounds.specs.declared.refusal.Refusal.{Refusal}
 use Rattle.bounds.specs.Refusals.{widthTest, roomTest, _then_, Decided}
-use Rattle.write.specs.declared.value.Rule.{Rule}
+use Rattle.round.specs.declared.value.Rule.{Rule}
 use Rattle.write.specs.Writes.{Moves}
 use Rattle.column.specs.declared.moving.Column.{Column}
 

@@ -2,7 +2,7 @@
 use Prim.Native.Nat.{ℕ}
 use Rattle.bounds.specs.declared.answer.Answer.{Answer}
 use Rattle.bounds.specs.declared.refusal.Verdict.{Verdict}
-use Rattle.write.specs.declared.value.Rule.{Rule}
+use Rattle.round.specs.declared.value.Rule.{Rule}
 use Rattle.write.specs.Writes.{Moves}
 use Rattle.column.specs.Columns.{Movable}
 

@@ -2,15 +2,16 @@
 use bounds::answer::Answer;
 use bounds::refusal::Refusal;
 use bounds::refusal::Verdict;
+use bounds::room::test_room;
 use bounds::width::Width;
+use round::value::Rule;
 use write::moving::move_word;
-use write::value::Rule;
 ghost use mathlib.Core.Path.{_≡_};
 ghost use Prim.Native.Nat.{_≤_};
 ghost use lib.ListN.{length};
 ghost use Rattle.bounds.specs.declared.answer.Answer.{Answer};
 ghost use Rattle.bounds.specs.declared.refusal.Verdict.{Verdict};
-ghost use Rattle.bounds.specs.Refusals.{widthTest, roomTest};
+ghost use Rattle.bounds.specs.Refusals.{widthTest};
 ghost use Rattle.write.specs.Writes.{Moves};
 ghost use Rattle.column.specs.Columns.{Movable, MovableUpTo, IsTried, AreMoved, MovesColumn, Holds};
 ghost use Rattle.column.specs.Trials.{TriesWord};
@@ -39,16 +40,6 @@ pub fn move_column(from: Width, to: Width, rule: Rule, words: &[u64], results: &
     };
     write_words(from, to, rule, words, results);
     Column::Moved(words.len())
-}
-
-// Refuses a result slice that is too short.
-fn test_room(count: usize, room: usize) -> Verdict
-    ensures { λ r. ⌜ r ≡ roomTest count room ⌝ }
-{
-    if count <= room {
-        return Verdict::Through;
-    }
-    Verdict::Refused(Refusal::Room)
 }
 
 // What the column's answer is, both widths and the room being good: the first word that is refused decides.

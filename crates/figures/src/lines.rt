@@ -8,10 +8,10 @@ use bounds::refusal::Refusal;
 use bounds::width::Limit;
 use bounds::width::Made;
 use bounds::width::Width;
+use round::value::Rule;
 use word::reading::Reading;
 use word::reading::read;
 use write::moving::move_word;
-use write::value::Rule;
 use write::value::Value;
 use write::writing::write;
 
@@ -27,7 +27,7 @@ pub(crate) fn print_word(n: u32, word: u64) {
 fn print_reading(reading: Reading) {
     match reading {
         Reading::Zero => print_number(0),
-        Reading::NotReal => print_bytes(b"nar"),
+        Reading::Nar => print_bytes(b"nar"),
         Reading::Number { negative, h, m, p } => print_value(negative, h, m, p),
         Reading::Refused(refusal) => print_refusal(refusal),
     }

@@ -13,8 +13,8 @@ use crate::numbers::print_binary64_in;
 use crate::numbers::print_binary64_out;
 use crate::numbers::print_whole_in;
 use crate::numbers::print_whole_out;
+use round::value::Rule;
 use whole::taking::Taking;
-use write::value::Rule;
 use write::value::Value;
 
 fn main() {

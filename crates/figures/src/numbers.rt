@@ -9,11 +9,11 @@ use binary64::taking::Binary64;
 use binary64::taking::take_binary64;
 use binary64::writing::write_binary64;
 use bounds::width::Width;
+use round::value::Rule;
 use whole::taking::Taking;
 use whole::taking::Whole;
 use whole::taking::take_whole;
 use whole::writing::write_whole;
-use write::value::Rule;
 
 pub(crate) fn print_whole_in(n: u32, rule: Rule, x: i64) {
     print_width(n);
@@ -57,7 +57,7 @@ pub(crate) fn print_binary64_out(n: u32, word: u64) {
     print_bytes(b" as binary64 is ");
     match take_binary64(Width { bits: n }, word) {
         Binary64::Number(x) => print_pattern(x),
-        Binary64::NotReal => print_bytes(b"no reading"),
+        Binary64::Nar => print_bytes(b"no reading"),
         Binary64::Refused(refusal) => print_refusal(refusal),
     }
     print_bytes(b"\n");

@@ -10,7 +10,7 @@ use Rattle.word.specs.Takum.{Takum, real, NaR, takum}
 use Rattle.bounds.specs.declared.refusal.Refusal.{Refusal}
 use Rattle.whole.specs.declared.taking.Taking.{Taking}
 use Rattle.whole.specs.declared.taking.Whole.{Whole}
-use Rattle.whole.specs.Wholes.{IsTaken, TakesWhole}
+use Rattle.whole.specs.Wholes.{IsTakenWhole, TakesWhole}
 use Rattle.whole.proofs.Refused.{refused-only-for, meaning-taken, NaR-is-refused}
 use Rattle.lister.specs.Text.{nar, over, refusalText}
 
@@ -27,19 +27,19 @@ refusal-short q = by (eqb (numberOf q) 5)
     by false = lit≤ tt
 
 -- ---- a word is refused only as NAR, or as OVER
-pub refused-only-nar-or-over : (n w : ℕ) (q : Refusal) → IsWord n w → TakesWhole n Taking.Cut w (Whole.Refused q) → (q ≡ Refusal.NotReal) ⊎ (q ≡ Refusal.Over)
-unfolding IsTaken is-cut
+pub refused-only-nar-or-over : (n w : ℕ) (q : Refusal) → IsWord n w → TakesWhole n Taking.Cut w (Whole.Refused q) → (q ≡ Refusal.Nar) ⊎ (q ≡ Refusal.Over)
+unfolding IsTakenWhole is-cut
 refused-only-nar-or-over n w q i x = by (takum n w) refl
   where
     refusal-of : Whole → Refusal
     refusal-of (Whole.Is x) = Refusal.Over
     refusal-of (Whole.Refused q) = q
 
-    by : (t : Takum) → takum n w ≡ t → (q ≡ Refusal.NotReal) ⊎ (q ≡ Refusal.Over)
+    by : (t : Takum) → takum n w ≡ t → (q ≡ Refusal.Nar) ⊎ (q ≡ Refusal.Over)
     by NaR e = inl (ap refusal-of (NaR-is-refused n Taking.Cut w (Whole.Refused q) i x e))
     by (real z) e = let t = meaning-taken n Taking.Cut w (Whole.Refused q) i x (real z) e in
         only-over (refused-only-for Taking.Cut z (t .0) (t .1) (Whole.Refused q) t q refl)
       where
-        only-over : {A B C : Type 0} → ((q ≡ Refusal.Over) × A) ⊎ (B × (Taking.Cut ≡ Taking.Strict) × C) → (q ≡ Refusal.NotReal) ⊎ (q ≡ Refusal.Over)
+        only-over : {A B C : Type 0} → ((q ≡ Refusal.Over) × A) ⊎ (B × (Taking.Cut ≡ Taking.Strict) × C) → (q ≡ Refusal.Nar) ⊎ (q ≡ Refusal.Over)
         only-over (inl y) = inr (y .0)
         only-over (inr y) = absurd (subst is-cut (y .1) tt)

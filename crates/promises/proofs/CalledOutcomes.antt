@@ -21,9 +21,10 @@ use Rattle.word.specs.Reads.{num, den, signedSize, IsReading}
 use Rattle.word.specs.Orders.{opposite}
 use Rattle.word.proofs.Binades.{reading-one}
 use Rattle.word.proofs.Values.{real-inj, not-NaR, words-differ}
-use Rattle.write.specs.Writes.{HasValue, IsExact, isNegative}
-use Rattle.write.proofs.Exponents.{unit-some}
-use Rattle.write.proofs.Rounding.{rounded-one, exact-rounded}
+use Rattle.round.specs.Nearest.{HasValue, IsExact}
+use Rattle.write.specs.Writes.{isNegative}
+use Rattle.word.proofs.Units.{unit-some}
+use Rattle.round.proofs.Rounding.{rounded-one, exact-rounded}
 use Rattle.whole.specs.Wholes.{IsWholePart}
 use Rattle.whole.proofs.WholeParts.{one-whole-part}
 use Rattle.binary64.specs.Nearest.{NearestBinary64}
@@ -112,7 +113,7 @@ reading-same r s e f (a, b, c, d) = λ i. record { refusal = e i; kind = f i; ne
 told : (n w : ℕ) (r : HandedReading) → r .refusal ≡ 0 → IsToldBy n w r → (a : Reading) × IsReading (takum n w) (fractionBits n w) a × (r ≡ readingHanded a)
 unfolding IsToldBy NoNumber IsReading
 told n w r e (inl (f, x, none)) = (Reading.Zero, x, reading-same r _ e f none)
-told n w r e (inr (inl (f, x, none))) = (Reading.NotReal, x, reading-same r _ e f none)
+told n w r e (inr (inl (f, x, none))) = (Reading.Nar, x, reading-same r _ e f none)
 told n w r e (inr (inr (f, x))) = (Reading.Number (r .negative) (r .h) (r .m) (r .p), x, reading-same r _ e f (refl, refl, refl, refl))
 
 pub reading-called-one : (n w : ℕ) (r s : HandedReading) → HandsReading n w r → HandsReading n w s → r ≡ s

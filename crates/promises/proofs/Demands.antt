@@ -14,9 +14,9 @@ use Rattle.word.specs.Orders.{Compares, Negates, negated}
 use Rattle.bounds.proofs.Powers.{twice}
 use Rattle.bounds.proofs.Verdicts.{word-passes, words-pass, answered}
 use Rattle.word.proofs.Words.{takum-NaR}
-use Rattle.write.specs.Writes.{HasValue}
-use Rattle.write.proofs.Places.{two, wordOf, has-value, size-some, not-decreasing, place-of}
-use Rattle.write.proofs.Sized.{sized}
+use Rattle.round.specs.Nearest.{HasValue}
+use Rattle.round.proofs.Places.{two, wordOf, has-value, size-some, not-decreasing, place-of}
+use Rattle.round.proofs.Sized.{sized}
 use Rattle.word.proofs.Values.{grown, NaR-word, order-of-values, order-same, NaR-below, above-NaR, negated-word, negation-negates, words-differ}
 use Rattle.word.proofs.Binades.{meaning-one}
 use Rattle.promises.specs.Demands.{ReadingIsTheDefinition, ReadingTellsWordsApart, ASizeIsTheWordsValue, TheEndWords, TheNaRWord, ComparisonIsTheOrderOfValues, NaRIsBelowEveryValue, EveryValueIsAboveNaR, EveryWordEqualsItself, NegationNegates}

@@ -6,7 +6,7 @@ use mathlib.Core.Logic.{_⊎_, inl, inr}
 use Prim.Native.Nat.{ℕ, _<_}
 use native.Mathlib.Omega.{arith}
 use lib.ListN.{length, getD}
-use Rattle.bounds.specs.declared.refusal.Refusal.the-variants.{Width, Stray, NotReal, Inexact, Over, Room, Size, Mark, Check, Count, Fill}
+use Rattle.bounds.specs.declared.refusal.Refusal.the-variants.{Width, Stray, Nar, Inexact, Over, Room, Size, Mark, Check, Count, Fill}
 use Rattle.takum.specs.declared.handed.HandedColumn.{HandedColumn}
 use Rattle.promises.specs.Refusals.{Line, line}
 use Rattle.promises.specs.Face as promise
@@ -16,7 +16,7 @@ pub refusal-numbers-are-1-to-11 : promise.RefusalNumbersAre1To11
 unfolding promise.RefusalNumbersAre1To11
 refusal-numbers-are-1-to-11 Width = (omega arith, omega arith)
 refusal-numbers-are-1-to-11 Stray = (omega arith, omega arith)
-refusal-numbers-are-1-to-11 NotReal = (omega arith, omega arith)
+refusal-numbers-are-1-to-11 Nar = (omega arith, omega arith)
 refusal-numbers-are-1-to-11 Inexact = (omega arith, omega arith)
 refusal-numbers-are-1-to-11 Over = (omega arith, omega arith)
 refusal-numbers-are-1-to-11 Room = (omega arith, omega arith)

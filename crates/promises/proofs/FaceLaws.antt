@@ -9,7 +9,7 @@ use Rattle.bounds.specs.declared.answer.Answer.{Answer}
 use Rattle.bounds.specs.declared.refusal.Refusal.{Refusal}
 use Rattle.bounds.specs.declared.refusal.Verdict.{Verdict}
 use Rattle.bounds.specs.Refusals.{numberOf, Decided, through, refused}
-use Rattle.write.specs.declared.value.Rule.{Rule}
+use Rattle.round.specs.declared.value.Rule.{Rule}
 use Rattle.whole.specs.declared.taking.Taking.{Taking}
 use Rattle.takum.specs.declared.handed.HandedWord.{HandedWord}
 use Rattle.takum.specs.Handed.{HandsOver, ruleOf, takingOf, wordHanded}

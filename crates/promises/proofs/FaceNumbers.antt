@@ -16,7 +16,8 @@ use Rattle.bounds.proofs.Verdicts.{width-through, word-through, move-through}
 use Rattle.word.specs.Takum.{Takum, real, NaR, takum}
 use Rattle.word.specs.Reads.{num, den}
 use Rattle.word.proofs.Values.{not-NaR}
-use Rattle.write.specs.Writes.{IsExact, IsWritten, IsMoved, isNegative, Writes, Moves}
+use Rattle.round.specs.Nearest.{IsExact, IsWritten}
+use Rattle.write.specs.Writes.{IsMoved, isNegative, Writes, Moves}
 use Rattle.whole.specs.declared.taking.Whole.{Whole}
 use Rattle.whole.specs.Wholes.{IsWholePart, WritesWhole, TakesWhole}
 use Rattle.whole.proofs.InAndOut.{strictly-taken}
@@ -122,14 +123,14 @@ take-whole-hands n strict w =
     by (Whole.Refused q) y none = absurd (none q refl)
 
 -- no number goes out exactly where the word is NaR
-no-number : (n w : ℕ) → IsWord n w → taken.TakesBinary64 n w Binary64.NotReal → takum n w ≡ NaR
+no-number : (n w : ℕ) → IsWord n w → taken.TakesBinary64 n w Binary64.Nar → takum n w ≡ NaR
 unfolding AWordThatIsNotNaRGoesOutAsANumber TheNaRWord
 no-number n w i x = by (takum n w) refl
   where
     by : (t : Takum) → takum n w ≡ t → takum n w ≡ NaR
     by NaR e = e
     by (real z) e =
-        let t = a-word-that-is-not-NaR-goes-out-as-a-number n w Binary64.NotReal i (λ q. not-NaR z (sym e ∙ ap (takum n) q ∙ the-NaR-word n (i .least) (i .most) .1)) x in
+        let t = a-word-that-is-not-NaR-goes-out-as-a-number n w Binary64.Nar i (λ q. not-NaR z (sym e ∙ ap (takum n) q ∙ the-NaR-word n (i .least) (i .most) .1)) x in
         let is = t .1 in
         let z : _≡_ {A = ℕ} 0 1 = cc in
         absurd (omega arith)
@@ -143,5 +144,5 @@ take-binary64-hands n w = hands Binary64.Refused (λ r. r .refusal) (λ r. (r .r
 
     by : (a : Binary64) → taken.TakesBinary64 n w a → ((q : Refusal) → a ≡ Binary64.Refused q → ⊥) → (numberHanded a .refusal ≡ 0) × Taken (numberHanded a)
     by (Binary64.Number x) t none = let (z, means, near) = the-number-out-is-the-nearest n w x t in (refl, inl (refl, z, means, near))
-    by Binary64.NotReal t none = (refl, inr (refl, refl, no-number n w (word-through n w (unrefused none t .0)) t))
+    by Binary64.Nar t none = (refl, inr (refl, refl, no-number n w (word-through n w (unrefused none t .0)) t))
     by (Binary64.Refused q) t none = absurd (none q refl)

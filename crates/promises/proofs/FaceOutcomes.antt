@@ -8,7 +8,7 @@ use lib.ListN.{length}
 use Rattle.bounds.specs.Widths.{GivesWord, GivesLimit}
 use Rattle.word.specs.Reads.{Reads}
 use Rattle.word.specs.Orders.{Compares, Negates}
-use Rattle.write.specs.declared.value.Rule.{Rule}
+use Rattle.round.specs.declared.value.Rule.{Rule}
 use Rattle.write.specs.declared.value.Value.{Value}
 use Rattle.write.specs.Writes.{Writes, Moves}
 use Rattle.whole.specs.declared.taking.Taking.{Taking}

@@ -20,7 +20,8 @@ use Rattle.word.specs.Takum.{Takum, real, NaR, takum, fractionBits}
 use Rattle.word.specs.Reads.{IsReading, Reads}
 use Rattle.word.specs.Orders.{signed, order, opposite, negated, Compares, Negates}
 use Rattle.word.proofs.Values.{order-of-values, order-same, NaR-below, above-NaR, words-differ, negated-word, negation-negates}
-use Rattle.write.specs.Writes.{HasValue, isNegative}
+use Rattle.round.specs.Nearest.{HasValue}
+use Rattle.write.specs.Writes.{isNegative}
 use Rattle.whole.specs.Limits as limits
 use Rattle.whole.proofs.LimitWords.{every-whole-number-up-to-the-limit-has-a-word, the-limit-plus-one-has-no-word}
 use Rattle.takum.specs.declared.handed.HandedWord.{HandedWord}
@@ -80,7 +81,7 @@ read-hands n w = hands Reading.Refused (λ r. r .refusal) (λ r. (r .kind ≡ 0)
   where
     by : (a : Reading) → IsReading (takum n w) (fractionBits n w) a → (readingHanded a .refusal ≡ 0) × IsToldBy n w (readingHanded a)
     by Reading.Zero x = (refl, inl (refl, x, (refl, refl, refl, refl)))
-    by Reading.NotReal x = (refl, inr (inl (refl, x, (refl, refl, refl, refl))))
+    by Reading.Nar x = (refl, inr (inl (refl, x, (refl, refl, refl, refl))))
     by (Reading.Number s h m p) x = (refl, inr (inr (refl, x)))
     by (Reading.Refused q) x = absurd x
 

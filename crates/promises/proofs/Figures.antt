@@ -13,9 +13,10 @@ use Rattle.word.specs.Takum.{Takum, real, NaR, power, regimeOf, characteristicO
 use Rattle.word.specs.Reads.{num, den, IsSize, signedSize}
 use Rattle.word.proofs.Heads.{both}
 use Rattle.bounds.proofs.Verdicts.{width-fits, answered}
-use Rattle.write.specs.declared.value.Rule.{Rule}
-use Rattle.write.specs.Writes.{HasValue, other, IsWritten, isNegative, Writes}
-use Rattle.write.proofs.Rounding.{tie-nearest, none-between, written-one}
+use Rattle.round.specs.declared.value.Rule.{Rule}
+use Rattle.round.specs.Nearest.{HasValue, other, IsWritten}
+use Rattle.write.specs.Writes.{isNegative, Writes}
+use Rattle.round.proofs.Rounding.{tie-nearest, none-between, written-one}
 use Rattle.whole.specs.Wholes.{WritesWhole}
 use Rattle.promises.specs.Figures.{Said, plus, minus, nar, IsSaid, Figure, reads, writes, refuses, writesWhole, refusesWhole, whole, below, figures, FigureHolds, AllHold}
 use Rattle.promises.specs.Demands.{RefusedAs, ReadingIsTheDefinition}

@@ -11,7 +11,7 @@ use Rattle.bounds.specs.declared.refusal.Verdict.{Verdict}
 use Rattle.bounds.specs.Refusals.{numberOf, widthTest, strayTest, _then_, Decided, through, refused}
 use Rattle.bounds.proofs.Powers.{not-more}
 use Rattle.bounds.proofs.Verdicts.{width-fits, width-short, width-long, stray-fits, stray-bit, answered, refused-as}
-use Rattle.write.specs.declared.value.Rule.{Rule}
+use Rattle.round.specs.declared.value.Rule.{Rule}
 use Rattle.promises.specs.Writing.{GivenOrInexact}
 use Rattle.promises.specs.Demands.{RefusedAs}
 use Rattle.promises.specs.Refusals.{Line, line, FollowsUpTo, Follows, noWord}

@@ -17,8 +17,9 @@ use Rattle.bounds.specs.Refusals.{widthTest, through, refused}
 use Rattle.bounds.specs.Widths.{narWord, IsLimit, GivesLimit}
 use Rattle.bounds.proofs.Consecutive.{rule-gives-inequality, inequality-gives-rule, greatest-of-inequality}
 use Rattle.bounds.proofs.Verdicts.{width-fits, width-through, word-passes, answered}
-use Rattle.write.specs.declared.value.Rule.{Rule}
-use Rattle.write.specs.Writes.{HasValue, IsRounded, IsWritten, isNegative}
+use Rattle.round.specs.declared.value.Rule.{Rule}
+use Rattle.round.specs.Nearest.{HasValue, IsRounded, IsWritten}
+use Rattle.write.specs.Writes.{isNegative}
 use Rattle.whole.specs.declared.taking.Taking.{Taking}
 use Rattle.whole.specs.declared.taking.Whole.{Whole}
 use Rattle.whole.specs.Wholes.{overTest, WritesWhole, TakesWhole}
@@ -30,7 +31,7 @@ use Rattle.whole.proofs.WholeValues.{valueOf}
 use Rattle.whole.proofs.InAndOut.{strictly-written, strictly-taken, taken-as-written, written-comes-back, whole-comes-back, word-comes-back}
 use Rattle.whole.proofs.Order.{taking-keeps-order}
 use Rattle.binary64.specs.declared.taking.Binary64.{Binary64}
-use Rattle.binary64.specs.Takes.{IsTaken, TakesBinary64}
+use Rattle.binary64.specs.Takes.{IsTakenBinary64, TakesBinary64}
 use Rattle.binary64.specs.Writes.{WritesBinary64}
 use Rattle.binary64.proofs.Exactness.{taken-exact}
 use Rattle.binary64.proofs.RoundTrip.{out-then-in}
@@ -207,10 +208,10 @@ unfolding promise.SpecialNumbers
 special-numbers n rule r lo hi = record { not-a-number = nan-written n lo hi rule r; infinity = infinity-written n lo hi rule r; zero = zero-number-written n lo hi rule r }
 
 pub a-word-that-is-not-NaR-goes-out-as-a-number : promise.AWordThatIsNotNaRGoesOutAsANumber
-unfolding promise.AWordThatIsNotNaRGoesOutAsANumber TakesBinary64 IsTaken narWord
+unfolding promise.AWordThatIsNotNaRGoesOutAsANumber TakesBinary64 IsTakenBinary64 narWord
 a-word-that-is-not-NaR-goes-out-as-a-number n w a i other x = by (takum n w) refl (answered (word-passes n w i) x)
   where
-    by : (t : Takum) → takum n w ≡ t → IsTaken t a → (x : Float) × (a ≡ Binary64.Number x)
+    by : (t : Takum) → takum n w ≡ t → IsTakenBinary64 t a → (x : Float) × (a ≡ Binary64.Number x)
     by (real z) q y = (round binary64 (isNegative z) (natAbs z) (2 ^ 307), y)
     by NaR q y = absurd (other (NaR-word n w i q))
 

@@ -18,14 +18,14 @@ use Rattle.bounds.specs.declared.width.Made.{Made}
 use Rattle.word.specs.Takum.{takum, fractionBits}
 use Rattle.word.specs.Cuts.{Cuts}
 use Rattle.word.specs.Sizes.{Sizes}
-use Rattle.bounds.specs.Refusals.{numberOf, widthTest, wordTest, _then_}
+use Rattle.bounds.specs.Refusals.{numberOf, widthTest, wordTest, roomTest, _then_}
 use Rattle.bounds.specs.Widths.{Greatest, greatest, none, IsLimit, Makes, GivesWord, GivesLimit}
 use Rattle.word.specs.Reads.{IsReading, Reads}
 use Rattle.word.specs.Orders.{signed, order, negated, Compares, Negates}
 use Rattle.bounds.proofs.Answers.{wordOf, GivesAWord}
 use Rattle.bounds.proofs.Verdicts.{decided-one}
 use Rattle.word.proofs.Binades.{reading-one}
-use Rattle.write.specs.declared.value.Rule.{Rule}
+use Rattle.round.specs.declared.value.Rule.{Rule}
 -- those of a word's size, writing, whole numbers, binary64, columns and blocks stand beside their laws
 pub use Rattle.word.proofs.Normal.{reads-size-one}
 pub use Rattle.write.proofs.OneOutcome.{writes-one, moves-one}
@@ -46,6 +46,9 @@ tests-width-one n = given (widthTest n)
 
 pub tests-word-one : (n w : ℕ) (a b : Verdict) → a ≡ wordTest n w → b ≡ wordTest n w → a ≡ b
 tests-word-one n w = given (wordTest n w)
+
+pub tests-room-one : (count places : ℕ) (a b : Verdict) → a ≡ roomTest count places → b ≡ roomTest count places → a ≡ b
+tests-room-one count places = given (roomTest count places)
 
 pub tests-in-a-row-one : (u v : Verdict) (a b : Verdict) → a ≡ u then v → b ≡ u then v → a ≡ b
 tests-in-a-row-one u v = given (u then v)

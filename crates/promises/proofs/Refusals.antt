@@ -6,7 +6,7 @@ use Rattle.bounds.specs.Widths.{Makes, GivesWord, GivesLimit}
 use Rattle.word.specs.Takum.{takum, fractionBits}
 use Rattle.word.specs.Reads.{Reads}
 use Rattle.word.specs.Orders.{Compares, Negates}
-use Rattle.whole.specs.Wholes.{IsTaken}
+use Rattle.whole.specs.Wholes.{IsTakenWhole}
 use Rattle.binary64.specs.Takes as taken
 use Rattle.column.specs.Columns.{MovesColumn}
 use Rattle.column.proofs.Positions.{first}
@@ -16,7 +16,7 @@ use Rattle.promises.proofs.WordRefusals.{of-width, of-word, word-none, 
 use Rattle.promises.proofs.SliceRefusals.{column-follows, position-follows, block-follows}
 
 pub refusals-follow-the-table : RefusalsFollowTheTable
-unfolding Makes GivesWord GivesLimit Reads Compares Negates ComesBack taken.TakesBinary64 taken.IsTaken
+unfolding Makes GivesWord GivesLimit Reads Compares Negates ComesBack taken.TakesBinary64 taken.IsTakenBinary64
 refusals-follow-the-table = record {
   test = test-follows;
   test-word = test-word-follows;

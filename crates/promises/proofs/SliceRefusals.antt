@@ -16,11 +16,11 @@ use Rattle.bounds.specs.declared.refusal.Verdict.{Verdict}
 use Rattle.bounds.specs.Refusals.{widthTest, roomTest, unless, _then_, through, refused}
 use Rattle.bounds.proofs.Powers.{not-more}
 use Rattle.bounds.proofs.Verdicts.{both, open-when, width-through, then-through}
-use Rattle.write.specs.declared.value.Rule.{Rule}
+use Rattle.round.specs.declared.value.Rule.{Rule}
 use Rattle.write.specs.Writes.{Moves}
 use Rattle.column.specs.declared.moving.Column.{Column}
 use Rattle.column.specs.Columns.{Movable, MovableUpTo, IsTried, MovesColumn}
-use Rattle.column.proofs.Rooms.{room-fits, room-short}
+use Rattle.bounds.proofs.Rooms.{room-fits, room-short}
 use Rattle.sheet.specs.declared.block.Block.{Block}
 use Rattle.sheet.specs.Layout as block
 use Rattle.sheet.specs.Sums.{sumA, sumB}
@@ -118,8 +118,8 @@ module _ (b : List ℕ) where
       differ true p e = inr (eqb-false _ _ e)
       differ false p e = inl (eqb-false _ _ p)
 
-  width-of-block-tells : Tells (sheet.widthTest b) Refusal.Width ((block.width b ≡ 8 → ⊥) × (block.width b ≡ 16 → ⊥) × (block.width b ≡ 32 → ⊥) × (block.width b ≡ 64 → ⊥))
-  unfolding sheet.widthTest
+  width-of-block-tells : Tells (sheet.blockWidthTest b) Refusal.Width ((block.width b ≡ 8 → ⊥) × (block.width b ≡ 16 → ⊥) × (block.width b ≡ 32 → ⊥) × (block.width b ≡ 64 → ⊥))
+  unfolding sheet.blockWidthTest
   width-of-block-tells = unless-tells Refusal.Width (isBlockWidth (block.width b)) (λ e f. none f (is-width (block.width b) e)) (λ e. (λ h. no e (inl h), λ h. no e (inr (inl h)), λ h. no e (inr (inr (inl h))), λ h. no e (inr (inr (inr h)))))
     where
       none : (block.width b ≡ 8 → ⊥) × (block.width b ≡ 16 → ⊥) × (block.width b ≡ 32 → ⊥) × (block.width b ≡ 64 → ⊥) → OneOfFour (block.width b) → ⊥
@@ -131,8 +131,8 @@ module _ (b : List ℕ) where
       no : isBlockWidth (block.width b) ≡ false → OneOfFour (block.width b) → ⊥
       no e h = false≢true (sym e ∙ width-is (block.width b) h)
 
-  count-tells : sheet.widthTest b ≡ Verdict.Through → Tells (countTest b) Refusal.Count (496 / (block.width b / 8) < block.count b)
-  unfolding sheet.widthTest block.size
+  count-tells : sheet.blockWidthTest b ≡ Verdict.Through → Tells (countTest b) Refusal.Count (496 / (block.width b / 8) < block.count b)
+  unfolding sheet.blockWidthTest block.wordBytes
   count-tells e = by (decLt (496 / (block.width b / 8)) (block.count b))
     where
       whole : block.width b / 8 * (496 / (block.width b / 8)) ≡ 496
@@ -143,7 +143,7 @@ module _ (b : List ℕ) where
       by (no f) = fails (room-for b (496 / (block.width b / 8)) whole (not-more f)) f
 
   fill-tells : Tells (fillTest b) Refusal.Fill ((i : ℕ) × (8 + block.width b / 8 * block.count b ≤ i) × (i < 504) × (getD b i 0 ≡ 0 → ⊥))
-  unfolding fillTest block.unused block.end block.size
+  unfolding fillTest block.unused block.end block.wordBytes
   fill-tells = unless-tells Refusal.Fill (allZero (slice end 504 b)) (λ e (i, low, high, f). f (inside i high ∙ ap (λ (k : ℕ). getD (take 504 b) k 0) (omega (arith, low)) ∙ sym (getD-drop end (take 504 b) (i - end) 0) ∙ zeros (slice end 504 b) e (i - end))) found
     where
       end : ℕ

@@ -26,14 +26,15 @@ use Rattle.word.specs.Reads.{IsReading}
 use Rattle.word.specs.Orders.{Compares}
 use Rattle.word.proofs.Words.{takum-NaR}
 use Rattle.word.proofs.Values.{real-inj, not-NaR}
-use Rattle.write.specs.declared.value.Rule.{Rule}
+use Rattle.round.specs.declared.value.Rule.{Rule}
 use Rattle.write.specs.declared.value.Value.{Value}
-use Rattle.write.specs.Writes.{HasValue, IsExact, IsWritten, isNegative, IsMoved, Writes, Moves}
+use Rattle.round.specs.Nearest.{HasValue, IsExact, IsWritten}
+use Rattle.write.specs.Writes.{isNegative, IsMoved, Writes, Moves}
 use Rattle.bounds.proofs.Powers.{twice}
 use Rattle.write.proofs.Moves.{moved-to-the-same, strict-keeps}
 use Rattle.whole.specs.declared.taking.Taking.{Taking}
 use Rattle.whole.specs.declared.taking.Whole.{Whole}
-use Rattle.whole.specs.Wholes.{IsWholePart, overTest, inexactTest, IsTaken, WritesWhole, TakesWhole}
+use Rattle.whole.specs.Wholes.{IsWholePart, overTest, inexactTest, IsTakenWhole, WritesWhole, TakesWhole}
 use Rattle.whole.proofs.Refused.{whole-size}
 use Rattle.whole.proofs.WholeParts.{one-whole-part}
 use Rattle.whole.proofs.WholeValues.{valueOf, exact-value}
@@ -66,8 +67,8 @@ pub reading-none : (t : Takum) (p : ℕ) (a : Reading) → IsReading t p a → (
 unfolding IsReading
 reading-none t p a x q e = subst (IsReading t p) e x
 
-pub number-none : (t : Takum) (a : Binary64) → taken.IsTaken t a → (q : Refusal) → a ≡ Binary64.Refused q → ⊥
-unfolding taken.IsTaken
+pub number-none : (t : Takum) (a : Binary64) → taken.IsTakenBinary64 t a → (q : Refusal) → a ≡ Binary64.Refused q → ⊥
+unfolding taken.IsTakenBinary64
 number-none (real z) a x q e = let z : _≡_ {A = ℕ} 0 1 = cc in omega arith
 number-none NaR a x q e = let z : _≡_ {A = ℕ} 0 1 = cc in omega arith
 
@@ -183,11 +184,11 @@ module _ (n w : ℕ) (i : IsWord n w) (z x : ℤ) (means : takum n w ≡ real z)
       by false e = holds refl (refl, λ y h. eqb-false _ _ e (whole-value y h))
 
 pub take-whole-follows : (n : ℕ) (rule : Taking) (w : ℕ) (a : Whole) → TakesWhole n rule w a → Follows Whole.Refused a (width n ∷ stray n w ∷ nar n w ∷ over n w ∷ noWhole rule n w ∷ [])
-unfolding Follows FollowsUpTo TakesWhole IsTaken
+unfolding Follows FollowsUpTo TakesWhole IsTakenWhole
 take-whole-follows n rule w a x = follow Refusal.Width (width-tells n) (parts x) (λ e y. follow Refusal.Stray (stray-tells n w) y (λ s. by (takum n w) refl (word-through n w (rw e s))))
   where
-    by : (t : Takum) → takum n w ≡ t → IsWord n w → IsTaken rule t a → Follows Whole.Refused a (nar n w ∷ over n w ∷ noWhole rule n w ∷ [])
-    by NaR q i y = inl (q, record { q = Refusal.NotReal; is = y; known = refl })
+    by : (t : Takum) → takum n w ≡ t → IsWord n w → IsTakenWhole rule t a → Follows Whole.Refused a (nar n w ∷ over n w ∷ noWhole rule n w ∷ [])
+    by NaR q i y = inl (q, record { q = Refusal.Nar; is = y; known = refl })
     by (real z) q i (x, part, d) = inr (
       λ h. not-NaR z (sym q ∙ h),
       follow Refusal.Over (over-tells n w i z x q part) (parts d) (λ e y. follow Refusal.Inexact (inexact-tells n w i z x q part rule) y (λ e' h p k. let e : _≡_ {A = ℕ} 0 1 = cc in omega arith)),

@@ -22,14 +22,16 @@ use Rattle.bounds.proofs.Verdicts.{width-fits, width-through, stray-fits, word-
 use Rattle.word.proofs.Signed.{negated-other}
 use Rattle.word.proofs.Values.{grown, words-differ, no-sign, order-of-values}
 use Rattle.word.proofs.Words.{zeros-appended}
-use Rattle.write.specs.declared.value.Rule.{Rule}
+use Rattle.round.specs.declared.value.Rule.{Rule}
 use Rattle.write.specs.declared.value.Value.{Value}
-use Rattle.write.specs.Writes.{Nearest, IsRounded, zero, other, IsExact, IsWritten, isNegative, IsMoved, Writes, Moves}
-use Rattle.write.proofs.Exponents.{unit-some}
-use Rattle.write.proofs.Places.{two, wordOf, has-value, from-word}
-use Rattle.write.proofs.Rules.{zero-written, number-written}
-use Rattle.write.proofs.Rounding.{rounded-exists, rounded-one, rounded-not-zero-nor-NaR, past-the-largest, before-the-smallest, rounded-negated, exact-written, written-one}
-use Rattle.write.proofs.Order.{rounding-keeps-order, order-times}
+use Rattle.round.specs.Nearest.{Nearest, IsRounded, zero, other, IsExact, IsWritten}
+use Rattle.write.specs.Writes.{isNegative, IsMoved, Writes, Moves}
+use Rattle.word.proofs.Units.{unit-some}
+use Rattle.round.proofs.Places.{two, wordOf, has-value, from-word}
+use Rattle.round.proofs.Rules.{zero-written}
+use Rattle.write.proofs.Meanings.{number-written}
+use Rattle.round.proofs.Rounding.{rounded-exists, rounded-one, rounded-not-zero-nor-NaR, past-the-largest, before-the-smallest, rounded-negated, exact-written, written-one}
+use Rattle.round.proofs.Order.{rounding-keeps-order, order-times}
 use Rattle.write.proofs.Moves.{Kept, moved-to-the-same, strict-keeps, there-and-back, wider-keeps}
 use Rattle.promises.specs.Refusals.{moveLines}
 use Rattle.promises.specs.Writing as promise
@@ -147,7 +149,7 @@ read-exactly n w Reading.Zero v i x says =
 read-exactly n w (Reading.Number s h m p) v i x says =
     let number = answered (word-passes n w i) x in
     subst (λ (v : Value). IsExact n (v .negative) (numerator v) (denominator v) w) (sym says) (record { z = number .v; is = record { word = i; means = number .means }; same = sym (number .size) })
-read-exactly n w Reading.NotReal v i x says = absurd says
+read-exactly n w Reading.Nar v i x says = absurd says
 read-exactly n w (Reading.Refused q) v i x says = absurd says
 
 pub what-was-read-is-written-back : promise.WhatWasReadIsWrittenBack
@@ -205,7 +207,7 @@ a-move-is-a-reading-and-a-writing n n' w rule Reading.Zero v r i x says (through
     through (move-through n n' w q .1) (zero-moved n' (t .0) (t .1) rule r (takum n w) v (answered (word-passes n w i) x) says y)
 a-move-is-a-reading-and-a-writing n n' w rule (Reading.Number s h m p) v r i x says (through q y) =
     subst (λ (v : Value). Writes n' rule v r) (sym says) (through (move-through n n' w q .1) (number-written n' rule r (takum n w) _ s h m p (answered (word-passes n w i) x) y))
-a-move-is-a-reading-and-a-writing n n' w rule Reading.NotReal v r i x says (through q y) = absurd says
+a-move-is-a-reading-and-a-writing n n' w rule Reading.Nar v r i x says (through q y) = absurd says
 a-move-is-a-reading-and-a-writing n n' w rule (Reading.Refused p) v r i x says (through q y) = absurd says
 
 pub strict-moves-keep-the-value : promise.StrictMovesKeepTheValue

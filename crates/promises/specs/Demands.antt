@@ -14,7 +14,7 @@ use Rattle.word.specs.declared.size.Size.{Size}
 use Rattle.word.specs.Reads.{IsSize, signedSize, IsReading, Reads}
 use Rattle.word.specs.Sizes.{Sizes}
 use Rattle.word.specs.Orders.{order, opposite, Compares, Negates}
-use Rattle.write.specs.Writes.{HasValue}
+use Rattle.round.specs.Nearest.{HasValue}
 
 -- ---- demand 1: bad input gets the refusal number that the papers fix. Refusals.antt has the table.
 -- an answer that hands back the refusal with this number and nothing else

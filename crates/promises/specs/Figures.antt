@@ -8,7 +8,7 @@ use Rattle.bounds.specs.declared.answer.Answer.{Answer}
 use Rattle.word.specs.declared.reading.Reading.{Reading}
 use Rattle.word.specs.Takum.{Takum, real, NaR, fractionBits}
 use Rattle.word.specs.Reads.{IsSize, signedSize, IsReading, Reads}
-use Rattle.write.specs.declared.value.Rule.{Rule}
+use Rattle.round.specs.declared.value.Rule.{Rule}
 use Rattle.write.specs.declared.value.Value.{Value}
 use Rattle.write.specs.Writes.{Writes}
 use Rattle.whole.specs.Wholes.{WritesWhole}

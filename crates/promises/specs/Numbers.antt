@@ -13,8 +13,9 @@ use Rattle.word.specs.Takum.{real, takum}
 use Rattle.bounds.specs.Refusals.{IsWord}
 use Rattle.bounds.specs.Widths.{narWord, Within, GivesLimit}
 use Rattle.word.specs.Orders.{signed, order, negated}
-use Rattle.write.specs.declared.value.Rule.{Rule}
-use Rattle.write.specs.Writes.{HasValue, isNegative}
+use Rattle.round.specs.declared.value.Rule.{Rule}
+use Rattle.round.specs.Nearest.{HasValue}
+use Rattle.write.specs.Writes.{isNegative}
 use Rattle.whole.specs.declared.taking.Taking.{Taking}
 use Rattle.whole.specs.declared.taking.Whole.{Whole}
 use Rattle.whole.specs.Wholes.{overTest, WritesWhole, TakesWhole}
@@ -133,7 +134,7 @@ AWordThatIsNotNaRGoesOutAsANumber = (n w : ℕ) (a : Binary64) → IsWord n w �
 
 -- NaR goes out as no number
 unfoldable pub NaRGoesOutAsNone : Type 0
-NaRGoesOutAsNone = (n w : ℕ) (a : Binary64) → IsWord n w → w ≡ narWord n → TakesBinary64 n w a → a ≡ Binary64.NotReal
+NaRGoesOutAsNone = (n w : ℕ) (a : Binary64) → IsWord n w → w ≡ narWord n → TakesBinary64 n w a → a ≡ Binary64.Nar
 
 -- a binary64 number that is the whole number x is written as x is, by either rule
 unfoldable pub Binary64AgreesWithWhole : Type 0

@@ -19,9 +19,10 @@ use Rattle.word.specs.declared.reading.Reading.{Reading}
 use Rattle.word.specs.Takum.{real, NaR, takum}
 use Rattle.word.specs.Reads.{Reads}
 use Rattle.word.specs.Orders.{Compares, Negates}
-use Rattle.write.specs.declared.value.Rule.{Rule}
+use Rattle.round.specs.declared.value.Rule.{Rule}
 use Rattle.write.specs.declared.value.Value.{Value}
-use Rattle.write.specs.Writes.{IsExact, Writes, Moves}
+use Rattle.round.specs.Nearest.{IsExact}
+use Rattle.write.specs.Writes.{Writes, Moves}
 use Rattle.whole.specs.declared.taking.Taking.{Taking}
 use Rattle.whole.specs.declared.taking.Whole.{Whole}
 use Rattle.whole.specs.Wholes.{IsWholePart, WritesWhole, TakesWhole}

@@ -10,7 +10,7 @@ use Rattle.bounds.specs.declared.refusal.Refusal.{Refusal}
 use Rattle.bounds.specs.Refusals.{IsWord}
 use Rattle.word.specs.Takum.{takum, fractionBits}
 use Rattle.word.specs.Reads.{IsReading, Reads}
-use Rattle.write.specs.declared.value.Rule.{Rule}
+use Rattle.round.specs.declared.value.Rule.{Rule}
 use Rattle.write.specs.Writes.{Moves}
 use Rattle.column.specs.declared.moving.Column.{Column}
 use Rattle.column.specs.Columns.{MovesColumn, Holds}

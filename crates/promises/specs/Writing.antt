@@ -13,9 +13,10 @@ use Rattle.bounds.specs.Refusals.{IsWord}
 use Rattle.bounds.specs.Widths.{narWord, largest, smallest}
 use Rattle.word.specs.Reads.{num, den, IsSize, signedSize, Reads}
 use Rattle.word.specs.Orders.{signed, order, negated}
-use Rattle.write.specs.declared.value.Rule.{Rule}
+use Rattle.round.specs.declared.value.Rule.{Rule}
 use Rattle.write.specs.declared.value.Value.{Value}
-use Rattle.write.specs.Writes.{HasValue, IsRounded, IsExact, Writes, Moves}
+use Rattle.round.specs.Nearest.{HasValue, IsRounded, IsExact}
+use Rattle.write.specs.Writes.{Writes, Moves}
 use Rattle.promises.specs.Demands.{RefusedAs}
 
 -- the size of an offered value as a fraction, counted in 2^-307
@@ -79,7 +80,7 @@ StrictWritingIsRefusedExactlyWhereThereIsNoWord = (n : ℕ) (v : Value) (r : Ans
 unfoldable pub Says : Reading → Value → Type 0
 Says Reading.Zero v = v .m ≡ 0
 Says (Reading.Number s h m p) v = v ≡ record { negative = s; m = m; k = h -ℤ pos p }
-Says Reading.NotReal v = ⊥
+Says Reading.Nar v = ⊥
 Says (Reading.Refused q) v = ⊥
 
 -- what was read is written back as the word it was read from, by either rule

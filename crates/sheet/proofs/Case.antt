@@ -7,9 +7,9 @@ use Rattle.bounds.specs.declared.refusal.Verdict.{Verdict}
 use Rattle.bounds.proofs.Verdicts.{answered}
 use Rattle.bounds.specs.Refusals.{roomTest}
 use Rattle.sheet.specs.declared.block.Block.{Block}
-use Rattle.sheet.specs.Layout.{number, numberAt, packed, mark, width, count, blockNumber, size, end, words, unused, A, B, numbers}
+use Rattle.sheet.specs.Layout.{number, numberAt, packed, mark, width, count, blockNumber, wordBytes, end, words, unused, A, B, numbers}
 use Rattle.sheet.specs.Sums.{total, sumA, running, sumB}
-use Rattle.sheet.specs.Reads.{isBlockWidth, allZero, sizeTest, markTest, checkTest, widthTest, countTest, fillTest, blockTest, ReadsBlock, FillsResults}
+use Rattle.sheet.specs.Reads.{isBlockWidth, allZero, sizeTest, markTest, checkTest, blockWidthTest, countTest, fillTest, blockTest, ReadsBlock, FillsResults}
 
 -- bytes 54 10 02 00 01 00 00 00 00 5A 00 80, zeros up to byte 503, A = 0x80026A55, B = 0x012FA1D5
 unfoldable pub case : List ℕ
@@ -23,7 +23,7 @@ unfolding case A B numberAt number
 case-sums = (refl, refl)
 
 pub case-passes : blockTest case 2 ≡ Verdict.Through
-unfolding case A B numberAt number packed mark width count size end unused numbers total sumA running sumB isBlockWidth allZero sizeTest markTest checkTest widthTest countTest fillTest roomTest blockTest
+unfolding case A B numberAt number packed mark width count wordBytes end unused numbers total sumA running sumB isBlockWidth allZero sizeTest markTest checkTest blockWidthTest countTest fillTest roomTest blockTest
 case-passes = refl
 
 -- width 16, block 1, two words
@@ -33,5 +33,5 @@ case-answer a r = answered case-passes r
 
 -- 512 and NaR
 pub case-words : (x y : ℕ) (after : List ℕ) → FillsResults case (x ∷ y ∷ []) after → after ≡ 0x5A00 ∷ 0x8000 ∷ []
-unfolding case FillsResults words width count size packed numberAt number
+unfolding case FillsResults words width count wordBytes packed numberAt number
 case-words x y after f = answered case-passes f

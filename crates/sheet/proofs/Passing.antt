@@ -13,7 +13,7 @@ use Rattle.bounds.proofs.Verdicts.{open-when, both, then-through}
 use Rattle.sheet.specs.declared.block.Block.{Block}
 use Rattle.sheet.specs.Layout.{mark, width, count, blockNumber, end, A, B, numbers}
 use Rattle.sheet.specs.Sums.{sumA, sumB}
-use Rattle.sheet.specs.Reads.{sizeTest, markTest, checkTest, widthTest, countTest, fillTest, blockTest, ReadsBlock}
+use Rattle.sheet.specs.Reads.{sizeTest, markTest, checkTest, blockWidthTest, countTest, fillTest, blockTest, ReadsBlock}
 use Rattle.sheet.proofs.Tests.{OneOfFour, is-width, a-differs}
 
 pub other-size : (block : List ℕ) (places : ℕ) → (length block ≡ 512 → ⊥) → Verdict.Refused Refusal.Size ≡ blockTest block places
@@ -28,7 +28,7 @@ pub other-A : (block : List ℕ) (places : ℕ) → length block ≡ 512 → mar
 unfolding blockTest sizeTest markTest
 other-A block places h m a = rw (eq-eqb (length block) 512 h, eq-eqb (mark block) 0x54 m, ← a-differs block a)
 
-pub in-order : (block : List ℕ) (places : ℕ) {m s w n f r v₁ v₂ v₃ v₄ v₅ : Verdict} → length block ≡ 512 → m ≡ markTest block → s ≡ checkTest block → v₁ ≡ (m then s) → w ≡ widthTest block → v₂ ≡ (v₁ then w) → n ≡ countTest block → v₃ ≡ (v₂ then n) → f ≡ fillTest block → v₄ ≡ (v₃ then f) → r ≡ roomTest (count block) places → v₅ ≡ (v₄ then r) → v₅ ≡ blockTest block places
+pub in-order : (block : List ℕ) (places : ℕ) {m s w n f r v₁ v₂ v₃ v₄ v₅ : Verdict} → length block ≡ 512 → m ≡ markTest block → s ≡ checkTest block → v₁ ≡ (m then s) → w ≡ blockWidthTest block → v₂ ≡ (v₁ then w) → n ≡ countTest block → v₃ ≡ (v₂ then n) → f ≡ fillTest block → v₄ ≡ (v₃ then f) → r ≡ roomTest (count block) places → v₅ ≡ (v₄ then r) → v₅ ≡ blockTest block places
 unfolding blockTest sizeTest
 in-order block places h hm hs h₁ hw h₂ hn h₃ hf h₄ hr h₅ = rw (eq-eqb (length block) 512 h) (after (after (after (after (after hm hs h₁) hw h₂) hn h₃) hf h₄) hr h₅)
   where
@@ -46,12 +46,12 @@ pub record Passes (block : List ℕ) (places : ℕ) : Type 0 where
   pub room : count block ≤ places
 
 pub passes : (block : List ℕ) (places : ℕ) → blockTest block places ≡ Verdict.Through → Passes block places
-unfolding blockTest sizeTest markTest checkTest widthTest countTest fillTest roomTest
+unfolding blockTest sizeTest markTest checkTest blockWidthTest countTest fillTest roomTest
 passes block places h =
-    let to-fill = then-through (sizeTest block then markTest block then checkTest block then widthTest block then countTest block then fillTest block) (roomTest (count block) places) h in
-    let to-count = then-through (sizeTest block then markTest block then checkTest block then widthTest block then countTest block) (fillTest block) (to-fill .0) in
-    let to-width = then-through (sizeTest block then markTest block then checkTest block then widthTest block) (countTest block) (to-count .0) in
-    let to-check = then-through (sizeTest block then markTest block then checkTest block) (widthTest block) (to-width .0) in
+    let to-fill = then-through (sizeTest block then markTest block then checkTest block then blockWidthTest block then countTest block then fillTest block) (roomTest (count block) places) h in
+    let to-count = then-through (sizeTest block then markTest block then checkTest block then blockWidthTest block then countTest block) (fillTest block) (to-fill .0) in
+    let to-width = then-through (sizeTest block then markTest block then checkTest block then blockWidthTest block) (countTest block) (to-count .0) in
+    let to-check = then-through (sizeTest block then markTest block then checkTest block) (blockWidthTest block) (to-width .0) in
     let to-mark = then-through (sizeTest block then markTest block) (checkTest block) (to-check .0) in
     let to-size = then-through (sizeTest block) (markTest block) (to-mark .0) in
     let sums = both (eqb (sumA (numbers block)) (A block)) (eqb (sumB (numbers block)) (B block)) (open-when _ Refusal.Check (to-mark .1)) in

@@ -11,7 +11,7 @@ use Rattle.bounds.specs.declared.refusal.Verdict.{Verdict}
 use Rattle.bounds.specs.Refusals.{IsWord}
 use Rattle.bounds.proofs.Verdicts.{answered}
 use Rattle.sheet.specs.declared.block.Block.{Block}
-use Rattle.sheet.specs.Layout.{AreBytes, numberAt, width, count, blockNumber, size, words}
+use Rattle.sheet.specs.Layout.{AreBytes, numberAt, width, count, blockNumber, wordBytes, words}
 use Rattle.sheet.specs.Reads.{blockTest, ReadsBlock, FillsResults}
 use Rattle.sheet.proofs.LittleEndian.{numberAt-below}
 use Rattle.sheet.proofs.Packing.{packed-length, words-at}
@@ -21,7 +21,7 @@ use Rattle.sheet.proofs.Tests.{OneOfFour}
 
 pub words-length : (block : List ℕ) → length (words block) ≡ count block
 unfolding words
-words-length block = packed-length (size block) (count block) (drop 8 block)
+words-length block = packed-length (wordBytes block) (count block) (drop 8 block)
 
 -- a block was read
 module _ (block before after : List ℕ) (w i n : ℕ) (r : ReadsBlock block (length before) (Block.Read w i n)) (f : FillsResults block before after) where
@@ -37,11 +37,11 @@ module _ (block before after : List ℕ) (w i n : ℕ) (r : ReadsBlock block (le
 
   -- the j-th result is the word at its place
   pub result-at : (j : ℕ) → j < n → getD after j 0 ≡ numberAt (w / 8) (8 + w / 8 * j) block
-  unfolding words size
+  unfolding words wordBytes
   result-at j h =
       ap (λ (l : List ℕ). getD l j 0) holds
       ∙ List·getD-append (words block) (drop n before) 0 j (subst (λ (k : ℕ). j < k) (sym how-many) h)
-      ∙ words-at (size block) (count block) block j (subst (λ (k : ℕ). j < k) (read .2) h)
+      ∙ words-at (wordBytes block) (count block) block j (subst (λ (k : ℕ). j < k) (read .2) h)
       ∙ ap (λ (k : ℕ). numberAt (k / 8) (8 + k / 8 * j) block) (sym (read .1))
 
   -- the remainder is kept

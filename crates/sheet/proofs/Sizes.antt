@@ -5,12 +5,12 @@ use Prim.Native.Nat.{ℕ, _+_, _*_, _/_, _≤_}
 use native.Mathlib.Omega.{arith}
 use lib.Dec.{lit≤}
 use lib.ListN.{length, drop}
-use Rattle.sheet.specs.Layout.{IsWordSize, one, two, four, eight, packed, width, count, size, words, end}
+use Rattle.sheet.specs.Layout.{IsWordBytes, one, two, four, eight, packed, width, count, wordBytes, words, end}
 use Rattle.sheet.proofs.Passing.{Passes}
 use Rattle.sheet.proofs.Tests.{OneOfFour, each-width}
 
-sized : (n : ℕ) → OneOfFour n → IsWordSize (n / 8)
-sized = each-width (λ n. IsWordSize (n / 8)) one two four eight
+sized : (n : ℕ) → OneOfFour n → IsWordBytes (n / 8)
+sized = each-width (λ n. IsWordBytes (n / 8)) one two four eight
 
 pub whole-bytes : (n : ℕ) → OneOfFour n → 8 * (n / 8) ≡ n
 whole-bytes = each-width (λ n. 8 * (n / 8) ≡ n) refl refl refl refl
@@ -19,19 +19,19 @@ pub width-of-words : (n : ℕ) → OneOfFour n → (2 ≤ n) × (n ≤ 64)
 width-of-words = each-width (λ n. (2 ≤ n) × (n ≤ 64)) (lit≤ tt, lit≤ tt) (lit≤ tt, lit≤ tt) (lit≤ tt, lit≤ tt) (lit≤ tt, lit≤ tt)
 
 -- where three sizes are shut out, the fourth is left
-pub eight-left : (n : ℕ) → IsWordSize n → (n ≡ 1 → ⊥) → (n ≡ 2 → ⊥) → (n ≡ 4 → ⊥) → n ≡ 8
+pub eight-left : (n : ℕ) → IsWordBytes n → (n ≡ 1 → ⊥) → (n ≡ 2 → ⊥) → (n ≡ 4 → ⊥) → n ≡ 8
 eight-left n one f g h = absurd (f refl)
 eight-left n two f g h = absurd (g refl)
 eight-left n four f g h = absurd (h refl)
 eight-left n eight f g h = refl
 
-module _ (block : List ℕ) {s n : ℕ} (hs : s ≡ size block) (hn : n ≡ count block) where
+module _ (block : List ℕ) {s n : ℕ} (hs : s ≡ wordBytes block) (hn : n ≡ count block) where
   -- what unpacking asks of its size and count
-  pub unpackable : (places : ℕ) → Passes block places → IsWordSize s × (8 + s * n ≤ length block) × (n ≤ places)
-  unfolding size end
+  pub unpackable : (places : ℕ) → Passes block places → IsWordBytes s × (8 + s * n ≤ length block) × (n ≤ places)
+  unfolding wordBytes end
   unpackable places p =
       let inside : 8 + s * n ≤ 504 = subst₂ (λ (x y : ℕ). 8 + x * y ≤ 504) (sym hs) (sym hn) (p .inside) in
-      (subst IsWordSize (sym hs) (sized (width block) (p .wide)), omega (arith, p .bytes), subst (λ (x : ℕ). x ≤ places) (sym hn) (p .room))
+      (subst IsWordBytes (sym hs) (sized (width block) (p .wide)), omega (arith, p .bytes), subst (λ (x : ℕ). x ≤ places) (sym hn) (p .room))
 
   pub filled : (before after : List ℕ) → after ≡ packed s n (drop 8 block) ++ drop n before → after ≡ words block ++ drop (count block) before
   unfolding words

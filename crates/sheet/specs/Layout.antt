@@ -23,11 +23,11 @@ packed k zero bytes = []
 packed k (suc n) bytes = number (take k bytes) ∷ packed k n (drop k bytes)
 
 -- the bytes that a word of width 8, 16, 32 or 64 has; only private functions' contracts cite it
-pub data IsWordSize : ℕ → Type 0 where
-  one : IsWordSize 1
-  two : IsWordSize 2
-  four : IsWordSize 4
-  eight : IsWordSize 8
+pub data IsWordBytes : ℕ → Type 0 where
+  one : IsWordBytes 1
+  two : IsWordBytes 2
+  four : IsWordBytes 4
+  eight : IsWordBytes 8
 
 module _ (block : List ℕ) where
   -- Byte 0: 0x54.
@@ -48,15 +48,15 @@ module _ (block : List ℕ) where
 
   -- Bytes 8 to 503: words, packed from byte 8, the rest zero.
   -- the bytes that a word has
-  unfoldable pub size : ℕ
-  size = width / 8
+  unfoldable pub wordBytes : ℕ
+  wordBytes = width / 8
 
   unfoldable pub words : List ℕ
-  words = packed size count (drop 8 block)
+  words = packed wordBytes count (drop 8 block)
 
   -- the first byte after them, and the rest
   unfoldable pub end : ℕ
-  end = 8 + size * count
+  end = 8 + wordBytes * count
 
   unfoldable pub unused : List ℕ
   unused = slice end 504 block

@@ -34,8 +34,8 @@ module _ (block : List ℕ) where
   checkTest = unless Check (eqb (sumA (numbers block)) (A block) && eqb (sumB (numbers block)) (B block))
 
   -- 1 WIDTH: a block's width isn't one of its four
-  unfoldable pub widthTest : Verdict
-  widthTest = unless Width (isBlockWidth (width block))
+  unfoldable pub blockWidthTest : Verdict
+  blockWidthTest = unless Width (isBlockWidth (width block))
 
   -- 10 COUNT: more words than the width has room for, up to byte 503
   unfoldable pub countTest : Verdict
@@ -47,7 +47,7 @@ module _ (block : List ℕ) where
 
   -- 6 ROOM comes last; the result slice has this many places
   unfoldable pub blockTest : ℕ → Verdict
-  blockTest places = sizeTest then markTest then checkTest then widthTest then countTest then fillTest then roomTest (count block) places
+  blockTest places = sizeTest then markTest then checkTest then blockWidthTest then countTest then fillTest then roomTest (count block) places
 
 -- ---- what the call answers, and what it leaves in the result slice
 unfoldable pub ReadsBlock : List ℕ → ℕ → Block → Type 0

@@ -1,7 +1,7 @@
 // Reading a sheet block of 512 bytes.
 use crate::fields::count_of;
-use crate::fields::size_of;
 use crate::fields::width_of;
+use crate::fields::word_bytes;
 use crate::numbers::four_bytes;
 use crate::testing::test;
 use crate::words::unpack;
@@ -25,7 +25,7 @@ pub fn read_block(block: &[u8], results: &mut [u64]) -> Block
         return Block::Refused(q);
     }
     let count = count_of(block);
-    unpack(block, size_of(block), count as usize, results);
+    unpack(block, word_bytes(block), count as usize, results);
     Block::Read {
         width: width_of(block),
         number: four_bytes(block, 4),

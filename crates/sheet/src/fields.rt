@@ -4,7 +4,7 @@ use crate::numbers::two_bytes;
 ghost use mathlib.Core.Path.{_≡_};
 ghost use Prim.Native.Nat.{_<_, _^_};
 ghost use lib.ListN.{length};
-ghost use Rattle.sheet.specs.Layout.{width, count, size, end};
+ghost use Rattle.sheet.specs.Layout.{width, count, wordBytes, end};
 
 pub(crate) fn width_of(block: &[u8]) -> u32
     requires { ⌜ length (now block) ≡ 512 ⌝ }
@@ -21,9 +21,9 @@ pub(crate) fn count_of(block: &[u8]) -> u32
 }
 
 // The bytes that a word has.
-pub(crate) fn size_of(block: &[u8]) -> usize
+pub(crate) fn word_bytes(block: &[u8]) -> usize
     requires { ⌜ length (now block) ≡ 512 ⌝ }
-    ensures { λ r. ⌜ (r ≡ size (now (block .entry))) × (r < 2 ^ 8) ⌝ }
+    ensures { λ r. ⌜ (r ≡ wordBytes (now (block .entry))) × (r < 2 ^ 8) ⌝ }
 {
     (width_of(block) / 8) as usize
 }
@@ -33,5 +33,5 @@ pub(crate) fn end_of(block: &[u8]) -> usize
     requires { ⌜ length (now block) ≡ 512 ⌝ }
     ensures { λ r. ⌜ r ≡ end (now (block .entry)) ⌝ }
 {
-    8 + size_of(block) * count_of(block) as usize
+    8 + word_bytes(block) * count_of(block) as usize
 }

@@ -7,12 +7,12 @@ use crate::numbers::one_byte;
 use crate::sums::sums_of;
 use bounds::refusal::Refusal;
 use bounds::refusal::Verdict;
+use bounds::room::test_room;
 ghost use mathlib.Core.Path.{_≡_};
 ghost use lib.ListN.{length};
-ghost use Rattle.bounds.specs.Refusals.{roomTest};
-ghost use Rattle.sheet.specs.Layout.{count, unused};
+ghost use Rattle.sheet.specs.Layout.{unused};
 ghost use Rattle.sheet.specs.Sums.{total};
-ghost use Rattle.sheet.specs.Reads.{markTest, checkTest, widthTest, countTest, fillTest, blockTest};
+ghost use Rattle.sheet.specs.Reads.{markTest, checkTest, blockWidthTest, countTest, fillTest, blockTest};
 
 pub(crate) fn test(block: &[u8], places: usize) -> Verdict
     ensures { λ v. ⌜ v ≡ blockTest (now (block .entry)) places ⌝ }
@@ -25,7 +25,7 @@ pub(crate) fn test(block: &[u8], places: usize) -> Verdict
         .then(test_width(block))
         .then(test_count(block))
         .then(test_fill(block))
-        .then(test_room(block, places))
+        .then(test_room(count_of(block) as usize, places))
 }
 
 fn test_mark(block: &[u8]) -> Verdict
@@ -54,7 +54,7 @@ fn test_sums(block: &[u8]) -> Verdict
 
 fn test_width(block: &[u8]) -> Verdict
     requires { ⌜ length (now block) ≡ 512 ⌝ }
-    ensures { λ v. ⌜ v ≡ widthTest (now (block .entry)) ⌝ }
+    ensures { λ v. ⌜ v ≡ blockWidthTest (now (block .entry)) ⌝ }
 {
     match width_of(block) {
         8 | 16 | 32 | 64 => Verdict::Through,
@@ -80,16 +80,6 @@ fn test_fill(block: &[u8]) -> Verdict
         return Verdict::Through;
     }
     Verdict::Refused(Refusal::Fill)
-}
-
-fn test_room(block: &[u8], places: usize) -> Verdict
-    requires { ⌜ length (now block) ≡ 512 ⌝ }
-    ensures { λ v. ⌜ v ≡ roomTest (count (now (block .entry))) places ⌝ }
-{
-    if count_of(block) as usize <= places {
-        return Verdict::Through;
-    }
-    Verdict::Refused(Refusal::Room)
 }
 
 // The unused bytes are all zero exactly if their sum is.

@@ -7,10 +7,10 @@ ghost use mathlib.Core.Path.{_≡_};
 ghost use mathlib.Core.List.{_++_};
 ghost use Prim.Native.Nat.{_+_, _*_, _≤_};
 ghost use lib.ListN.{length, drop};
-ghost use Rattle.sheet.specs.Layout.{numberAt, packed, IsWordSize};
+ghost use Rattle.sheet.specs.Layout.{numberAt, packed, IsWordBytes};
 
 pub(crate) fn unpack(block: &[u8], size: usize, count: usize, results: &mut [u64])
-    requires { ⌜ IsWordSize size × (8 + size * count ≤ length (now block)) × (count ≤ length (now results)) ⌝ }
+    requires { ⌜ IsWordBytes size × (8 + size * count ≤ length (now block)) × (count ≤ length (now results)) ⌝ }
     ensures { λ _. ⌜ now (results .exit) ≡ packed size count (drop 8 (now (block .entry))) ++ drop count (now (results .entry)) ⌝ }
 {
     let mut i = 0;
@@ -22,7 +22,7 @@ pub(crate) fn unpack(block: &[u8], size: usize, count: usize, results: &mut [u64
 
 // The size is the same in every turn, so the compiler takes the choice out of the loop.
 fn word_at(block: &[u8], size: usize, at: usize) -> u64
-    requires { ⌜ IsWordSize size × (at + size ≤ length (now block)) ⌝ }
+    requires { ⌜ IsWordBytes size × (at + size ≤ length (now block)) ⌝ }
     ensures { λ r. ⌜ r ≡ numberAt size at (now (block .entry)) ⌝ }
 {
     match size {

@@ -12,7 +12,7 @@ use Rattle.bounds.specs.declared.answer.Answer.{Answer}
 use Rattle.word.specs.declared.order.Comparison.{Comparison}
 use Rattle.word.specs.declared.reading.Reading.{Reading}
 use Rattle.bounds.specs.declared.width.Limit.{Limit}
-use Rattle.write.specs.declared.value.Rule.{Rule}
+use Rattle.round.specs.declared.value.Rule.{Rule}
 use Rattle.whole.specs.declared.taking.Taking.{Taking}
 use Rattle.whole.specs.declared.taking.Whole.{Whole}
 use Rattle.binary64.specs.declared.taking.Binary64.{Binary64}
@@ -44,7 +44,7 @@ wordHanded (Answer.Refused q) = record { refusal = numberOf q; word = 0 }
 
 abbrev pub readingHanded : Reading → HandedReading
 readingHanded Reading.Zero = record { refusal = 0; kind = 0; negative = false; h = pos 0; m = 0; p = 0 }
-readingHanded Reading.NotReal = record { refusal = 0; kind = 1; negative = false; h = pos 0; m = 0; p = 0 }
+readingHanded Reading.Nar = record { refusal = 0; kind = 1; negative = false; h = pos 0; m = 0; p = 0 }
 readingHanded (Reading.Number negative h m p) = record { refusal = 0; kind = 2; negative = negative; h = h; m = m; p = p }
 readingHanded (Reading.Refused q) = record { refusal = numberOf q; kind = 0; negative = false; h = pos 0; m = 0; p = 0 }
 
@@ -62,7 +62,7 @@ wholeHanded (Whole.Refused q) = record { refusal = numberOf q; whole = pos 0 }
 
 abbrev pub numberHanded : Binary64 → HandedNumber
 numberHanded (Binary64.Number x) = record { refusal = 0; real = true; number = x }
-numberHanded Binary64.NotReal = record { refusal = 0; real = false; number = ofBits binary64 0 }
+numberHanded Binary64.Nar = record { refusal = 0; real = false; number = ofBits binary64 0 }
 numberHanded (Binary64.Refused q) = record { refusal = numberOf q; real = false; number = ofBits binary64 0 }
 
 abbrev pub columnHanded : Column → HandedColumn

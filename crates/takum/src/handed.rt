@@ -94,7 +94,7 @@ pub(crate) fn hand_reading(answer: Reading) -> HandedReading
             m: 0,
             p: 0,
         },
-        Reading::NotReal => HandedReading {
+        Reading::Nar => HandedReading {
             refusal: 0,
             kind: 1,
             negative: false,
@@ -166,7 +166,7 @@ pub(crate) fn hand_number(answer: Binary64) -> HandedNumber
             real: true,
             number,
         },
-        Binary64::NotReal => HandedNumber {
+        Binary64::Nar => HandedNumber {
             refusal: 0,
             real: false,
             number: 0.0,

@@ -13,7 +13,7 @@ use Rattle.word.specs.Takum.{real}
 use Rattle.word.specs.Reads.{signedSize}
 use Rattle.whole.specs.declared.taking.Taking.{Taking}
 use Rattle.whole.specs.declared.taking.Whole.{Whole}
-use Rattle.whole.specs.Wholes.{IsWholePart, overTest, inexactTest, IsTaken}
+use Rattle.whole.specs.Wholes.{IsWholePart, overTest, inexactTest, IsTakenWhole}
 use Rattle.whole.specs.Parts.{greatestSize, byRule}
 
 -- ---- the range
@@ -30,12 +30,12 @@ outside true zero h = absurd (omega (arith, h))
 outside true (suc i) h = rw (lt-leb (suc i) (2 ^ 63) h)
 
 -- ---- the rule
-pub taken-inside : (rule : Taking) (z x : ℤ) (b : Bool) → IsWholePart z x → overTest x ≡ Verdict.Through → b ≡ eqb (natAbs x * 2 ^ 307) (natAbs z) → IsTaken rule (real z) (byRule rule b x)
-unfolding IsTaken byRule inexactTest
+pub taken-inside : (rule : Taking) (z x : ℤ) (b : Bool) → IsWholePart z x → overTest x ≡ Verdict.Through → b ≡ eqb (natAbs x * 2 ^ 307) (natAbs z) → IsTakenWhole rule (real z) (byRule rule b x)
+unfolding IsTakenWhole byRule inexactTest
 taken-inside Taking.Cut z x b part h q = (x, part, through (ap (λ (v : Verdict). v then Verdict.Through) h) refl)
 taken-inside Taking.Strict z x true part h q = (x, part, through (rw (h, ← q)) refl)
 taken-inside Taking.Strict z x false part h q = (x, part, refused {q = Refusal.Inexact} (rw (h, ← q)) refl)
 
-pub taken-over : (rule : Taking) (z x : ℤ) → IsWholePart z x → overTest x ≡ Verdict.Refused Refusal.Over → IsTaken rule (real z) (Whole.Refused Refusal.Over)
-unfolding IsTaken
+pub taken-over : (rule : Taking) (z x : ℤ) → IsWholePart z x → overTest x ≡ Verdict.Refused Refusal.Over → IsTakenWhole rule (real z) (Whole.Refused Refusal.Over)
+unfolding IsTakenWhole
 taken-over rule z x part h = (x, part, refused (ap (λ (v : Verdict). v then inexactTest rule z x) h) refl)

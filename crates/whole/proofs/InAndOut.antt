@@ -14,12 +14,13 @@ use Rattle.word.specs.Reads.{signedSize}
 use Rattle.word.proofs.Values.{real-inj}
 use Rattle.bounds.proofs.Answers.{GivesAWord}
 use Rattle.bounds.proofs.Verdicts.{then-through, open-when, width-fits, word-passes, answered}
-use Rattle.write.specs.declared.value.Rule.{Rule}
-use Rattle.write.specs.Writes.{isNegative, IsWritten}
-use Rattle.write.proofs.Rounding.{exact-written}
+use Rattle.round.specs.declared.value.Rule.{Rule}
+use Rattle.write.specs.Writes.{isNegative}
+use Rattle.round.specs.Nearest.{IsWritten}
+use Rattle.round.proofs.Rounding.{exact-written}
 use Rattle.whole.specs.declared.taking.Taking.{Taking}
 use Rattle.whole.specs.declared.taking.Whole.{Whole}
-use Rattle.whole.specs.Wholes.{IsWholePart, overTest, inexactTest, IsTaken, WritesWhole, TakesWhole}
+use Rattle.whole.specs.Wholes.{IsWholePart, overTest, inexactTest, IsTakenWhole, WritesWhole, TakesWhole}
 use Rattle.whole.proofs.OneOutcome.{taken-one}
 use Rattle.whole.proofs.TakenOut.{taken-out}
 use Rattle.whole.proofs.WholeParts.{one-whole-part}
@@ -59,7 +60,7 @@ strictly-taken n w x y =
 -- a word that has the value of a whole number gives that one and no other, by either rule
 pub written-comes-back : (n : ℕ) (x : ℤ) (w : ℕ) (rule : Taking) (a : Whole) → overTest x ≡ Verdict.Through → Written n x w → TakesWhole n rule w a → a ≡ Whole.Is x
 unfolding TakesWhole
-written-comes-back n x w rule a inside k t = taken-one rule (real (valueOf x)) a (Whole.Is x) (subst (λ (t : Takum). IsTaken rule t a) (k .means) (answered (word-passes n w (k .word)) t)) (taken-as-itself rule x inside)
+written-comes-back n x w rule a inside k t = taken-one rule (real (valueOf x)) a (Whole.Is x) (subst (λ (t : Takum). IsTakenWhole rule t a) (k .means) (answered (word-passes n w (k .word)) t)) (taken-as-itself rule x inside)
 
 pub taken-as-written : (n : ℕ) (x y : ℤ) (w : ℕ) (rule : Taking) → Written n x w → TakesWhole n rule w (Whole.Is y) → y ≡ x
 taken-as-written n x y w rule k t =

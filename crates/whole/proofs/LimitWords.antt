@@ -18,10 +18,11 @@ use Rattle.word.specs.Sizes.{withoutSign}
 use Rattle.word.specs.Takum.{p, F, c}
 use Rattle.word.proofs.Sizes.{size}
 use Rattle.word.proofs.Values.{grown-suc}
-use Rattle.write.specs.Writes.{HasValue}
-use Rattle.write.proofs.Places.{wordOf, Place, has-value, place-of}
-use Rattle.write.proofs.Rules.{zero-value}
-use Rattle.write.proofs.Sized.{has-form, nar-shifted}
+use Rattle.round.specs.Nearest.{HasValue}
+use Rattle.round.proofs.Places.{wordOf, Place, has-value, place-of}
+use Rattle.round.proofs.Rules.{zero-value}
+use Rattle.round.proofs.Sized.{has-form}
+use Rattle.word.proofs.Tops.{nar-shifted}
 use Rattle.whole.specs.Limits as promise
 use Rattle.whole.proofs.LimitBinades.{beginning, WholeBinade, whole-binade}
 use Rattle.whole.proofs.LimitStrings.{wholeBits, whole-some, whole-below, whole-size}

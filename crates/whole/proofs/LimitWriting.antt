@@ -5,9 +5,9 @@ use Prim.Native.Nat.{ℕ, _*_, _^_, _≤_}
 use native.Mathlib.Nat.{mul-one, zero-lt-suc}
 use Rattle.bounds.specs.declared.answer.Answer.{Answer}
 use Rattle.bounds.specs.Widths.{IsLimit}
-use Rattle.write.specs.declared.value.Rule.{Rule}
-use Rattle.write.specs.Writes.{HasValue, IsWritten}
-use Rattle.write.proofs.Rounding.{exact-written}
+use Rattle.round.specs.declared.value.Rule.{Rule}
+use Rattle.round.specs.Nearest.{HasValue, IsWritten}
+use Rattle.round.proofs.Rounding.{exact-written}
 use Rattle.whole.specs.Limits as promise
 use Rattle.whole.proofs.LimitWords.{every-whole-number-up-to-the-limit-has-a-word}
 

@@ -7,12 +7,12 @@ use Rattle.bounds.specs.declared.answer.Answer.{Answer}
 use Rattle.bounds.specs.Refusals.{_then_, Decided, through, refused}
 use Rattle.word.specs.Takum.{Takum, real, NaR, takum}
 use Rattle.bounds.proofs.Verdicts.{width-through, answered, refused-as, decided-one}
-use Rattle.write.specs.declared.value.Rule.{Rule}
+use Rattle.round.specs.declared.value.Rule.{Rule}
 use Rattle.write.specs.Writes.{isNegative}
-use Rattle.write.proofs.Rounding.{written-one}
+use Rattle.round.proofs.Rounding.{written-one}
 use Rattle.whole.specs.declared.taking.Taking.{Taking}
 use Rattle.whole.specs.declared.taking.Whole.{Whole}
-use Rattle.whole.specs.Wholes.{overTest, inexactTest, IsTaken, WritesWhole, TakesWhole}
+use Rattle.whole.specs.Wholes.{overTest, inexactTest, IsTakenWhole, WritesWhole, TakesWhole}
 use Rattle.whole.proofs.WholeParts.{one-whole-part}
 
 pub writes-whole-one : (n : ℕ) (rule : Rule) (x : ℤ) (a b : Answer) → WritesWhole n rule x a → WritesWhole n rule x b → a ≡ b
@@ -22,8 +22,8 @@ writes-whole-one n rule x a b (through h y) z =
     written-one n (t .0) (t .1) rule (isNegative x) (natAbs x * 2 ^ 307) 1 a b (zero-lt-suc 0) y (answered h z)
 writes-whole-one n rule x a b (refused h y) z = y ∙ sym (refused-as _ h z)
 
-pub taken-one : (rule : Taking) (t : Takum) (a b : Whole) → IsTaken rule t a → IsTaken rule t b → a ≡ b
-unfolding IsTaken
+pub taken-one : (rule : Taking) (t : Takum) (a b : Whole) → IsTakenWhole rule t a → IsTakenWhole rule t b → a ≡ b
+unfolding IsTakenWhole
 taken-one rule NaR a b p q = p ∙ sym q
 taken-one rule (real z) a b (x, part, p) (y, other, q) =
     decided-one Whole.Refused (λ w. w ≡ Whole.Is x) (λ v w r s. r ∙ sym s) a b p
@@ -31,4 +31,4 @@ taken-one rule (real z) a b (x, part, p) (y, other, q) =
 
 pub takes-whole-one : (n : ℕ) (rule : Taking) (w : ℕ) (a b : Whole) → TakesWhole n rule w a → TakesWhole n rule w b → a ≡ b
 unfolding TakesWhole
-takes-whole-one n rule w = decided-one Whole.Refused (IsTaken rule (takum n w)) (taken-one rule (takum n w))
+takes-whole-one n rule w = decided-one Whole.Refused (IsTakenWhole rule (takum n w)) (taken-one rule (takum n w))

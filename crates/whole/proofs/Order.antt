@@ -8,7 +8,7 @@ use Rattle.word.specs.Reads.{signedSize}
 use Rattle.word.proofs.Signed.{order-above}
 use Rattle.word.proofs.Values.{order-of-values}
 use Rattle.write.specs.Writes.{isNegative}
-use Rattle.write.proofs.Order.{NotGreater, both-positive, both-negative, apart, positive-sizes, negative-sizes}
+use Rattle.round.proofs.Order.{NotGreater, both-positive, both-negative, apart, positive-sizes, negative-sizes}
 use Rattle.whole.specs.declared.taking.Taking.{Taking}
 use Rattle.whole.specs.declared.taking.Whole.{Whole}
 use Rattle.whole.specs.Wholes.{IsWholePart, TakesWhole}

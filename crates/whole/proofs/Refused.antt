@@ -17,7 +17,7 @@ use Rattle.bounds.proofs.Verdicts.{word-passes, answered}
 use Rattle.write.specs.Writes.{isNegative}
 use Rattle.whole.specs.declared.taking.Taking.{Taking}
 use Rattle.whole.specs.declared.taking.Whole.{Whole}
-use Rattle.whole.specs.Wholes.{IsWholePart, overTest, IsTaken, TakesWhole}
+use Rattle.whole.specs.Wholes.{IsWholePart, overTest, IsTakenWhole, TakesWhole}
 use Rattle.whole.specs.Parts.{byRule}
 use Rattle.whole.proofs.OneOutcome.{taken-one}
 use Rattle.whole.proofs.Answers.{taken-inside, taken-over}
@@ -51,7 +51,7 @@ rule-refuses Taking.Strict true x q h = let e : _≡_ {A = ℕ} 0 1 = cc in absu
 rule-refuses Taking.Strict false x q h = (cc, refl, refl)
 
 -- ---- a value with its whole part
-module _ (rule : Taking) (z x : ℤ) (part : IsWholePart z x) (a : Whole) (is : IsTaken rule (real z) a) where
+module _ (rule : Taking) (z x : ℤ) (part : IsWholePart z x) (a : Whole) (is : IsTakenWhole rule (real z) a) where
   answer-inside : (b : Bool) → overTest x ≡ Verdict.Through → eqb (natAbs x * 2 ^ 307) (natAbs z) ≡ b → a ≡ byRule rule b x
   answer-inside b h q = taken-one rule (real z) a (byRule rule b x) is (taken-inside rule z x b part h (sym q))
 
@@ -78,22 +78,22 @@ module _ (rule : Taking) (z x : ℤ) (part : IsWholePart z x) (a : Whole) (is : 
 -- ---- a word
 module _ (n : ℕ) (rule : Taking) (w : ℕ) (a : Whole) (i : IsWord n w) (is : TakesWhole n rule w a) where
   -- what the laws above ask
-  pub meaning-taken : (t : Takum) → takum n w ≡ t → IsTaken rule t a
+  pub meaning-taken : (t : Takum) → takum n w ≡ t → IsTakenWhole rule t a
   unfolding TakesWhole
-  meaning-taken t q = subst (λ (t : Takum). IsTaken rule t a) q (answered (word-passes n w i) is)
+  meaning-taken t q = subst (λ (t : Takum). IsTakenWhole rule t a) q (answered (word-passes n w i) is)
 
-  pub NaR-is-refused : takum n w ≡ NaR → a ≡ Whole.Refused Refusal.NotReal
-  unfolding IsTaken
+  pub NaR-is-refused : takum n w ≡ NaR → a ≡ Whole.Refused Refusal.Nar
+  unfolding IsTakenWhole
   NaR-is-refused q = meaning-taken NaR q
 
-  pub refused-is-NaR : a ≡ Whole.Refused Refusal.NotReal → takum n w ≡ NaR
-  unfolding IsTaken
+  pub refused-is-NaR : a ≡ Whole.Refused Refusal.Nar → takum n w ≡ NaR
+  unfolding IsTakenWhole
   refused-is-NaR q = by (takum n w) (meaning-taken (takum n w) refl)
     where
-      neither : {P Q R : Type 0} → ((Refusal.NotReal ≡ Refusal.Over) × P) ⊎ ((Refusal.NotReal ≡ Refusal.Inexact) × Q × R) → ⊥
+      neither : {P Q R : Type 0} → ((Refusal.Nar ≡ Refusal.Over) × P) ⊎ ((Refusal.Nar ≡ Refusal.Inexact) × Q × R) → ⊥
       neither (inl x) = let p = x .0 in let e : _≡_ {A = ℕ} 0 1 = cc in omega arith
       neither (inr x) = let p = x .0 in let e : _≡_ {A = ℕ} 0 1 = cc in omega arith
 
-      by : (t : Takum) → IsTaken rule t a → t ≡ NaR
+      by : (t : Takum) → IsTakenWhole rule t a → t ≡ NaR
       by NaR x = refl
-      by (real z) (x, part, d) = absurd (neither (refused-only-for rule z x part a (x, part, d) Refusal.NotReal q))
+      by (real z) (x, part, d) = absurd (neither (refused-only-for rule z x part a (x, part, d) Refusal.Nar q))

@@ -8,7 +8,7 @@ use Rattle.word.specs.Takum.{Takum, real, NaR, takum}
 use Rattle.bounds.proofs.Verdicts.{word-through}
 use Rattle.whole.specs.declared.taking.Taking.{Taking}
 use Rattle.whole.specs.declared.taking.Whole.{Whole}
-use Rattle.whole.specs.Wholes.{IsWholePart, overTest, inexactTest, IsTaken, TakesWhole}
+use Rattle.whole.specs.Wholes.{IsWholePart, overTest, inexactTest, IsTakenWhole, TakesWhole}
 
 pub record TakenOut (n : ℕ) (rule : Taking) (w : ℕ) (x : ℤ) : Type 0 where
   pub word : IsWord n w
@@ -27,11 +27,11 @@ whole-of (Whole.Is x) other = x
 whole-of (Whole.Refused q) other = other
 
 pub taken-out : (n : ℕ) (rule : Taking) (w : ℕ) (x : ℤ) → TakesWhole n rule w (Whole.Is x) → TakenOut n rule w x
-unfolding TakesWhole IsTaken gives-whole whole-of
+unfolding TakesWhole IsTakenWhole gives-whole whole-of
 taken-out n rule w x (refused h q) = absurd (subst gives-whole q tt)
 taken-out n rule w x (through h y) = by (takum n w) refl y
   where
-    by : (t : Takum) → takum n w ≡ t → IsTaken rule t (Whole.Is x) → TakenOut n rule w x
+    by : (t : Takum) → takum n w ≡ t → IsTakenWhole rule t (Whole.Is x) → TakenOut n rule w x
     by NaR e q = absurd (subst gives-whole q tt)
     by (real z) e (y, part, refused v q) = absurd (subst gives-whole q tt)
     by (real z) e (y, part, through v q) =

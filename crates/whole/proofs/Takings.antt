@@ -15,7 +15,7 @@ use Rattle.bounds.proofs.Powers.{pow-sum}
 use Rattle.word.proofs.Values.{absolute, no-sign}
 use Rattle.whole.specs.declared.taking.Taking.{Taking}
 use Rattle.whole.specs.declared.taking.Whole.{Whole}
-use Rattle.whole.specs.Wholes.{IsWholePart, IsTaken}
+use Rattle.whole.specs.Wholes.{IsWholePart, IsTakenWhole}
 use Rattle.whole.specs.Parts.{greatestSize, byRule, TakesSize}
 use Rattle.whole.proofs.Amounts.{amount, under-one}
 use Rattle.whole.proofs.Fractions.{not-above, next-above, nothing-lost}
@@ -35,7 +35,7 @@ most true = lit< tt
 module _ (rule : Taking) (s : Bool) (m : ℕ) (low : 2 ^ 63 ≤ m) where
   pub takes-under-one : m < 2 ^ 64 → (i : ℕ) → TakesSize rule s (negsuc i) m (byRule rule false (pos 0))
   unfolding TakesSize signedSize
-  takes-under-one high i t v means counted = subst (λ (t : Takum). IsTaken rule t (byRule rule false (pos 0))) (sym means) (taken-inside rule (signedSize s v) (pos 0) false part (inside false 0 zero-le) nothing)
+  takes-under-one high i t v means counted = subst (λ (t : Takum). IsTakenWhole rule t (byRule rule false (pos 0))) (sym means) (taken-inside rule (signedSize s v) (pos 0) false part (inside false 0 zero-le) nothing)
     where
       small : (0 < v) × (v < 2 ^ 307)
       small = under-one i m v low high counted
@@ -48,7 +48,7 @@ module _ (rule : Taking) (s : Bool) (m : ℕ) (low : 2 ^ 63 ≤ m) where
 
   pub takes-past : (i : ℕ) → 63 < i → TakesSize rule s (pos i) m (Whole.Refused Refusal.Over)
   unfolding TakesSize
-  takes-past i h t v means counted = subst (λ (t : Takum). IsTaken rule t (Whole.Refused Refusal.Over)) (sym means) (taken-over rule (signedSize s v) (signedSize s size) part (outside s size large))
+  takes-past i h t v means counted = subst (λ (t : Takum). IsTakenWhole rule t (Whole.Refused Refusal.Over)) (sym means) (taken-over rule (signedSize s v) (signedSize s size) part (outside s size large))
     where
       size : ℕ
       size = m * 2 ^ (i - 63)
@@ -78,13 +78,13 @@ module _ (rule : Taking) (s : Bool) (m : ℕ) (low : 2 ^ 63 ≤ m) where
     pub takes-over : greatestSize s < kept m i → TakesSize rule s (pos i) m (Whole.Refused Refusal.Over)
     unfolding TakesSize
     takes-over large t v means counted =
-        subst (λ (t : Takum). IsTaken rule t (Whole.Refused Refusal.Over)) (sym means)
+        subst (λ (t : Takum). IsTakenWhole rule t (Whole.Refused Refusal.Over)) (sym means)
         (taken-over rule (signedSize s v) (signedSize s (kept m i)) (part-of v (amount i m v counted)) (outside s (kept m i) large))
 
     pub takes-inside : kept m i ≤ greatestSize s → TakesSize rule s (pos i) m (byRule rule (eqb (kept m i * 2 ^ (63 - i)) m) (signedSize s (kept m i)))
     unfolding TakesSize
     takes-inside small t v means counted =
-        subst (λ (t : Takum). IsTaken rule t (byRule rule (eqb (kept m i * 2 ^ (63 - i)) m) (signedSize s (kept m i)))) (sym means)
+        subst (λ (t : Takum). IsTakenWhole rule t (byRule rule (eqb (kept m i * 2 ^ (63 - i)) m) (signedSize s (kept m i)))) (sym means)
         (taken-inside rule (signedSize s v) (signedSize s (kept m i)) (eqb (kept m i * 2 ^ (63 - i)) m) (part-of v is) (inside s (kept m i) small) exactly)
       where
         is : v ≡ m * 2 ^ (i + 244)

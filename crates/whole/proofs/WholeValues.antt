@@ -14,7 +14,7 @@ use Rattle.write.specs.Writes.{isNegative}
 use Rattle.write.proofs.Moves.{rejoined}
 use Rattle.whole.specs.declared.taking.Taking.{Taking}
 use Rattle.whole.specs.declared.taking.Whole.{Whole}
-use Rattle.whole.specs.Wholes.{IsWholePart, overTest, IsTaken}
+use Rattle.whole.specs.Wholes.{IsWholePart, overTest, IsTakenWhole}
 use Rattle.whole.specs.Parts.{byRule}
 use Rattle.whole.proofs.WholeParts.{whole-part}
 use Rattle.whole.proofs.Answers.{taken-inside}
@@ -43,6 +43,6 @@ unfolding byRule
 exactly Taking.Cut x = refl
 exactly Taking.Strict x = refl
 
-pub taken-as-itself : (rule : Taking) (x : ℤ) → overTest x ≡ Verdict.Through → IsTaken rule (real (valueOf x)) (Whole.Is x)
+pub taken-as-itself : (rule : Taking) (x : ℤ) → overTest x ≡ Verdict.Through → IsTakenWhole rule (real (valueOf x)) (Whole.Is x)
 unfolding valueOf
-taken-as-itself rule x h = subst (IsTaken rule (real (valueOf x))) (exactly rule x) (taken-inside rule (valueOf x) x true (is-its-whole-part x) h (sym (eq-eqb (natAbs x * 2 ^ 307) (natAbs (valueOf x)) (sym (absolute (isNegative x) (natAbs x * 2 ^ 307))))))
+taken-as-itself rule x h = subst (IsTakenWhole rule (real (valueOf x))) (exactly rule x) (taken-inside rule (valueOf x) x true (is-its-whole-part x) h (sym (eq-eqb (natAbs x * 2 ^ 307) (natAbs (valueOf x)) (sym (absolute (isNegative x) (natAbs x * 2 ^ 307))))))

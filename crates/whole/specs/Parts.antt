@@ -8,7 +8,7 @@ use Rattle.word.specs.Takum.{Takum, real}
 use Rattle.word.specs.Reads.{IsSize, signedSize}
 use Rattle.whole.specs.declared.taking.Taking.{Taking}
 use Rattle.whole.specs.declared.taking.Whole.{Whole}
-use Rattle.whole.specs.Wholes.{IsTaken}
+use Rattle.whole.specs.Wholes.{IsTakenWhole}
 
 -- the greatest size of a signed 64-bit number
 unfoldable pub greatestSize : Bool → ℕ
@@ -21,4 +21,4 @@ byRule Taking.Strict exactly x = cond exactly (Whole.Is x) (Whole.Refused Refusa
 
 -- what is taken out of every word whose value has this sign and the size m * 2^(h - 63)
 unfoldable pub TakesSize : Taking → Bool → ℤ → ℕ → Whole → Type 0
-TakesSize rule negative h m a = (t : Takum) (v : ℕ) → t ≡ real (signedSize negative v) → IsSize m (h -ℤ pos 63) v → IsTaken rule t a
+TakesSize rule negative h m a = (t : Takum) (v : ℕ) → t ≡ real (signedSize negative v) → IsSize m (h -ℤ pos 63) v → IsTakenWhole rule t a

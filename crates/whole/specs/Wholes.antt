@@ -9,8 +9,9 @@ use Rattle.bounds.specs.declared.refusal.Verdict.{Verdict}
 use Rattle.word.specs.Takum.{Takum, real, NaR, takum}
 use Rattle.word.specs.Reads.{signedSize}
 use Rattle.bounds.specs.Refusals.{unless, widthTest, wordTest, _then_, Decided}
-use Rattle.write.specs.declared.value.Rule.{Rule}
-use Rattle.write.specs.Writes.{IsWritten, isNegative}
+use Rattle.round.specs.declared.value.Rule.{Rule}
+use Rattle.round.specs.Nearest.{IsWritten}
+use Rattle.write.specs.Writes.{isNegative}
 use Rattle.whole.specs.declared.taking.Taking.{Taking}
 use Rattle.whole.specs.declared.taking.Whole.{Whole}
 
@@ -31,9 +32,9 @@ inexactTest Taking.Cut z x = Verdict.Through
 inexactTest Taking.Strict z x = unless Refusal.Inexact (eqb (natAbs x * 2 ^ 307) (natAbs z))
 
 -- what the rule gives for what a word means: NAR, then OVER, then INEXACT
-unfoldable pub IsTaken : Taking → Takum → Whole → Type 0
-IsTaken rule NaR a = a ≡ Whole.Refused Refusal.NotReal
-IsTaken rule (real z) a = (x : ℤ) × IsWholePart z x × Decided (overTest x then inexactTest rule z x) (λ q. a ≡ Whole.Refused q) (a ≡ Whole.Is x)
+unfoldable pub IsTakenWhole : Taking → Takum → Whole → Type 0
+IsTakenWhole rule NaR a = a ≡ Whole.Refused Refusal.Nar
+IsTakenWhole rule (real z) a = (x : ℤ) × IsWholePart z x × Decided (overTest x then inexactTest rule z x) (λ q. a ≡ Whole.Refused q) (a ≡ Whole.Is x)
 
 -- ---- what the calls answer
 -- WIDTH, then INEXACT; the whole number x is the value x * 2^307 * 2^-307
@@ -42,4 +43,4 @@ WritesWhole n rule x r = Decided (widthTest n) (λ q. r ≡ Answer.Refused q) (I
 
 -- WIDTH, then STRAY, then NAR, OVER and INEXACT
 unfoldable pub TakesWhole : ℕ → Taking → ℕ → Whole → Type 0
-TakesWhole n rule w a = Decided (wordTest n w) (λ q. a ≡ Whole.Refused q) (IsTaken rule (takum n w) a)
+TakesWhole n rule w a = Decided (wordTest n w) (λ q. a ≡ Whole.Refused q) (IsTakenWhole rule (takum n w) a)

@@ -1,8 +1,9 @@
 // A whole number out: the whole part of what a word means, cut or strict.
 use bounds::refusal::Refusal;
-use bounds::refusal::Verdict;
 use bounds::width::Width;
-use word::size::size_of;
+use word::size::Size;
+use word::size::WordSize;
+use word::size::read_size;
 ghost use mathlib.Core.Path.{_≡_};
 ghost use Prim.Native.Nat.{_^_, _≤_, _<_};
 ghost use lib.IntN.{pos};
@@ -25,18 +26,22 @@ pub enum Whole {
 pub fn take_whole(width: Width, rule: Taking, word: u64) -> Whole
     ensures { λ a. ⌜ TakesWhole (width .bits) rule word a ⌝ }
 {
-    let verdict = width.test_word(word);
-    if let Verdict::Refused(q) = verdict {
-        return Whole::Refused(q);
+    match read_size(width, word) {
+        WordSize::Zero => by_rule(rule, true, 0),
+        WordSize::Nar => Whole::Refused(Refusal::Nar),
+        WordSize::Number(size) => take_number(rule, size),
+        WordSize::Refused(q) => Whole::Refused(q),
     }
-    let string = word << (64 - width.bits);
-    if string == 1 << 63 {
-        return Whole::Refused(Refusal::NotReal);
-    }
-    let size = size_of(string);
-    // Below one the whole part is zero, and only zero itself has no fraction.
+}
+
+// The whole part of a number.
+fn take_number(rule: Taking, size: Size) -> Whole
+    requires { ⌜ 2 ^ 63 ≤ size .m ⌝ }
+    ensures { λ a. ⌜ TakesSize rule (size .negative) (size .h) (size .m) a ⌝ }
+{
+    // Below one the whole part is zero, and something is left beside it.
     if size.h < 0 {
-        return by_rule(rule, word == 0, 0);
+        return by_rule(rule, false, 0);
     }
     take_size(rule, size.negative, size.h as u32, size.m)
 }

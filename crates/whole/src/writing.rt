@@ -1,7 +1,7 @@
 // A whole number in: written as a word, rounded or strict.
 use bounds::answer::Answer;
 use bounds::width::Width;
-use write::value::Rule;
+use round::value::Rule;
 use write::value::Value;
 use write::writing::write;
 ghost use mathlib.Core.Path.{_≡_};

@@ -139,15 +139,15 @@ module _ (t : Takum) (k : ℕ) where
   pub reading-one : (a b : Reading) → IsReading t k a → IsReading t k b → a ≡ b
   unfolding IsReading
   reading-one Reading.Zero Reading.Zero x y = refl
-  reading-one Reading.Zero Reading.NotReal x y = absurd (not-NaR (pos 0) (sym x ∙ y))
+  reading-one Reading.Zero Reading.Nar x y = absurd (not-NaR (pos 0) (sym x ∙ y))
   reading-one Reading.Zero (Reading.Number s h m p) x y = absurd (number-not-zero s h m p y x)
   reading-one Reading.Zero (Reading.Refused q) x y = absurd y
-  reading-one Reading.NotReal Reading.Zero x y = absurd (not-NaR (pos 0) (sym y ∙ x))
-  reading-one Reading.NotReal Reading.NotReal x y = refl
-  reading-one Reading.NotReal (Reading.Number s h m p) x y = absurd (number-not-NaR s h m p y x)
-  reading-one Reading.NotReal (Reading.Refused q) x y = absurd y
+  reading-one Reading.Nar Reading.Zero x y = absurd (not-NaR (pos 0) (sym y ∙ x))
+  reading-one Reading.Nar Reading.Nar x y = refl
+  reading-one Reading.Nar (Reading.Number s h m p) x y = absurd (number-not-NaR s h m p y x)
+  reading-one Reading.Nar (Reading.Refused q) x y = absurd y
   reading-one (Reading.Number s h m p) Reading.Zero x y = absurd (number-not-zero s h m p x y)
-  reading-one (Reading.Number s h m p) Reading.NotReal x y = absurd (number-not-NaR s h m p x y)
+  reading-one (Reading.Number s h m p) Reading.Nar x y = absurd (number-not-NaR s h m p x y)
   reading-one (Reading.Number s h m p) (Reading.Number s' h' m' p') x y = numbers-one s s' h h' m m' p p' x y
   reading-one (Reading.Number s h m p) (Reading.Refused q) x y = absurd y
   reading-one (Reading.Refused q) b x y = absurd x
@@ -156,6 +156,6 @@ module _ (t : Takum) (k : ℕ) where
 pub meaning-one : (t u : Takum) (k l : ℕ) (a : Reading) → IsReading t k a → IsReading u l a → t ≡ u
 unfolding IsReading
 meaning-one t u k l Reading.Zero x y = x ∙ sym y
-meaning-one t u k l Reading.NotReal x y = x ∙ sym y
+meaning-one t u k l Reading.Nar x y = x ∙ sym y
 meaning-one t u k l (Reading.Number s h m p) x y = x .means ∙ ap (λ (v : ℕ). real (signedSize s v)) (value-one m (h -ℤ pos p) (x .v) (y .v) (x .size) (y .size)) ∙ sym (y .means)
 meaning-one t u k l (Reading.Refused q) x y = absurd x

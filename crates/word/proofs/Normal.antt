@@ -1,14 +1,16 @@
 -- The size in the normal form is a reading with 63 fraction bits: what a word means has one, and its exponent is from -255 to 254. Assumes nothing.
 use mathlib.Core.Path.{_≡_, refl, sym, ap, _∙_, subst}
 use Prim.Native.Nat.{ℕ, _+_, _-_, _*_, _^_, _≤_}
+use native.Mathlib.Omega.{arith}
 use lib.Dec.{ltb}
 use lib.IntN.{ℤ, pos}
 use lib.Signed.{mag}
-use Rattle.bounds.specs.Refusals.{IsWord}
+use Rattle.bounds.specs.declared.refusal.Verdict.{Verdict}
+use Rattle.bounds.specs.Refusals.{wordTest, IsWord, through, refused}
 use Rattle.word.specs.declared.reading.Reading.{Reading}
 use Rattle.word.specs.declared.size.Size.{Size}
 use Rattle.word.specs.declared.size.WordSize.{WordSize}
-use Rattle.word.specs.Takum.{Takum, takum, p, F, c}
+use Rattle.word.specs.Takum.{Takum, real, NaR, takum, p, F, c}
 use Rattle.word.specs.Reads.{IsNumber, IsReading}
 use Rattle.word.specs.Sizes.{withoutSign, IsWordSize, ReadsSize}
 use Rattle.bounds.proofs.Verdicts.{decided-one}
@@ -20,13 +22,13 @@ use Rattle.word.proofs.Binades.{reading-one, number-not-zero, number-no
 -- there and back
 reading : WordSize → Reading
 reading WordSize.Zero = Reading.Zero
-reading WordSize.Nar = Reading.NotReal
+reading WordSize.Nar = Reading.Nar
 reading (WordSize.Number s) = Reading.Number (s .negative) (s .h) (s .m) 63
 reading (WordSize.Refused q) = Reading.Refused q
 
 sizeOf : Reading → WordSize
 sizeOf Reading.Zero = WordSize.Zero
-sizeOf Reading.NotReal = WordSize.Nar
+sizeOf Reading.Nar = WordSize.Nar
 sizeOf (Reading.Number negative h m p) = WordSize.Number (record { negative = negative; h = h; m = m })
 sizeOf (Reading.Refused q) = WordSize.Refused q
 
@@ -52,6 +54,24 @@ word-size-one t a b x y = sym (back a) ∙ ap sizeOf (reading-one t 63 (reading 
 pub reads-size-one : (n w : ℕ) (a b : WordSize) → ReadsSize n w a → ReadsSize n w b → a ≡ b
 unfolding ReadsSize
 reads-size-one n w a b = decided-one WordSize.Refused (IsWordSize (takum n w)) (word-size-one (takum n w)) a b
+
+-- what an answer of `read_size` tells of the word
+unfoldable pub Tells : ℕ → ℕ → WordSize → Type 0
+Tells n w WordSize.Zero = (wordTest n w ≡ Verdict.Through) × (takum n w ≡ real (pos 0))
+Tells n w WordSize.Nar = (wordTest n w ≡ Verdict.Through) × (takum n w ≡ NaR)
+Tells n w (WordSize.Number s) = (wordTest n w ≡ Verdict.Through) × IsNumber (takum n w) 63 (s .negative) (s .h) (s .m) 63
+Tells n w (WordSize.Refused q) = wordTest n w ≡ Verdict.Refused q
+
+pub tells : (n w : ℕ) (a : WordSize) → ReadsSize n w a → Tells n w a
+unfolding ReadsSize IsWordSize Tells
+tells n w WordSize.Zero (through h x) = (h, x)
+tells n w WordSize.Zero (refused h x) = let z : _≡_ {A = ℕ} 0 1 = cc in absurd (omega arith)
+tells n w WordSize.Nar (through h x) = (h, x)
+tells n w WordSize.Nar (refused h x) = let z : _≡_ {A = ℕ} 0 1 = cc in absurd (omega arith)
+tells n w (WordSize.Number s) (through h x) = (h, x)
+tells n w (WordSize.Number s) (refused h x) = let z : _≡_ {A = ℕ} 0 1 = cc in absurd (omega arith)
+tells n w (WordSize.Refused q) (through h x) = absurd x
+tells n w (WordSize.Refused q) (refused h x) = cc
 
 -- the exponent is a characteristic
 exponent : WordSize → ℤ

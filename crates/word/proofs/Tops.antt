@@ -1,20 +1,19 @@
 -- A word at the top of 64 bits: the string without its sign has the word's size in the normal form. Assumes nothing.
 use mathlib.Core.Path.{_≡_, refl, sym, ap, ap₂, _∙_, subst, subst₂}
-use mathlib.Core.Bool.{Bool, true, false, cond}
-use Prim.Native.Nat.{ℕ, zero, _+_, _-_, _*_, _%_, _^_, _≤_, _<_}
-use native.Mathlib.Nat.{add-mul, mul-comm, mul-one, mul-sub, mul-le-mul-right, mul-lt-mul-of-pos-right, div-eq-of-lt, eq-of-mul-eq-mul-right, le-of-lt, le-of-eq, lt-of-lt-of-le}
+use mathlib.Core.Bool.{Bool, false}
+use Prim.Native.Nat.{ℕ, _+_, _-_, _*_, _%_, _^_, _≤_, _<_}
+use native.Mathlib.Nat.{add-mul, mul-comm, mul-one, mul-sub, mul-lt-mul-of-pos-right, div-eq-of-lt, eq-of-mul-eq-mul-right, le-of-lt, le-of-eq, lt-of-lt-of-le}
 use native.Mathlib.Omega.{arith}
 use borrow.Author.Tests.{lt-ltb, le-ltb}
 use lib.Dec.{ltb, lit≤}
 use lib.IntN.{ℤ, pos, negℤ, natAbs, _-ℤ_}
 use lib.Pow.{pow-pos, shl-exact}
-use lib.Signed.{mag}
 use Rattle.bounds.specs.Refusals.{IsWord}
 use Rattle.word.specs.declared.size.Size.{Size}
 use Rattle.word.specs.Takum.{real, S, p, F, c, value, takum}
 use Rattle.word.specs.Reads.{IsSize, signedSize, IsNumber}
 use Rattle.word.specs.Sizes.{withoutSign, Sizes}
-use Rattle.bounds.proofs.Powers.{pow-sum, shl-below, twice}
+use Rattle.bounds.proofs.Powers.{pow-sum, shl-below}
 use Rattle.word.proofs.Sizes.{size}
 use Rattle.word.proofs.Meaning.{string-positive}
 use Rattle.word.proofs.Words.{Lies, at-zero, above, at-NaR, under, lies, takum-positive, takum-negative}

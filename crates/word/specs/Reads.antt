@@ -36,7 +36,7 @@ pub record IsNumber (meaning : Takum) (fraction-bits : ℕ) (negative : Bool) (h
 
 unfoldable pub IsReading : Takum → ℕ → Reading → Type 0
 IsReading meaning fraction-bits Reading.Zero = meaning ≡ real (pos 0)
-IsReading meaning fraction-bits Reading.NotReal = meaning ≡ NaR
+IsReading meaning fraction-bits Reading.Nar = meaning ≡ NaR
 IsReading meaning fraction-bits (Reading.Number negative h m p) = IsNumber meaning fraction-bits negative h m p
 IsReading meaning fraction-bits (Reading.Refused q) = ⊥
 

@@ -14,7 +14,7 @@ ghost use Rattle.word.specs.Reads.{IsReading, Reads};
 // A number is its sign and the size m * 2^(h - p), with 2^p <= m < 2^(p + 1).
 pub enum Reading {
     Zero,
-    NotReal,
+    Nar,
     Number {
         negative: bool,
         h: i32,
@@ -37,7 +37,7 @@ pub fn read(width: Width, word: u64) -> Reading
         return Reading::Zero;
     }
     if word == power_of_two(n - 1) {
-        return Reading::NotReal;
+        return Reading::Nar;
     }
     if n < 12 {
         return number(12, word << (12 - n));

@@ -16,9 +16,10 @@ use Rattle.bounds.proofs.Verdicts.{move-passes, move-through, width-through, an
 use Rattle.word.proofs.Values.{NaR-word}
 use Rattle.word.proofs.Words.{takum-NaR, zeros-appended}
 use Rattle.bounds.proofs.Powers.{pow-sum, shl-below}
-use Rattle.write.specs.declared.value.Rule.{Rule}
-use Rattle.write.specs.Writes.{IsExact, IsWritten, isNegative, IsMoved, Moves}
-use Rattle.write.proofs.Rounding.{exact-written, rounded-exists}
+use Rattle.round.specs.declared.value.Rule.{Rule}
+use Rattle.round.specs.Nearest.{IsExact, IsWritten}
+use Rattle.write.specs.Writes.{isNegative, IsMoved, Moves}
+use Rattle.round.proofs.Rounding.{exact-written, rounded-exists}
 
 -- a whole number is its sign and its size
 pub rejoined : (z : ℤ) → signedSize (isNegative z) (natAbs z) ≡ z

@@ -8,11 +8,11 @@ use Rattle.word.specs.Takum.{Takum, real, NaR, takum}
 use Rattle.word.specs.Reads.{num, den}
 use Rattle.bounds.specs.Refusals.{through, refused}
 use Rattle.bounds.proofs.Verdicts.{width-through, move-through, answered, refused-as}
-use Rattle.write.specs.declared.value.Rule.{Rule}
+use Rattle.round.specs.declared.value.Rule.{Rule}
 use Rattle.write.specs.declared.value.Value.{Value}
 use Rattle.write.specs.Writes.{isNegative, IsMoved, Writes, Moves}
-use Rattle.write.proofs.Exponents.{unit-some}
-use Rattle.write.proofs.Rounding.{written-one}
+use Rattle.word.proofs.Units.{unit-some}
+use Rattle.round.proofs.Rounding.{written-one}
 
 pub writes-one : (n : ℕ) (rule : Rule) (v : Value) (a b : Answer) → Writes n rule v a → Writes n rule v b → a ≡ b
 unfolding Writes

@@ -1,5 +1,4 @@
 // Writing a value as a word, and moving a word to another width, rounded or strict.
 pub mod moving;
-mod size;
 pub mod value;
 pub mod writing;

@@ -1,31 +1,39 @@
 // Moving a word to another width: it is read at the one and written at the other.
-use crate::value::Rule;
-use crate::writing::by_rule;
-use crate::writing::rounded;
 use bounds::answer::Answer;
 use bounds::refusal::Verdict;
 use bounds::width::Width;
-use word::size::size_of;
+use round::value::LongValue;
+use round::value::Rule;
+use round::writing::write_long;
+use word::size::Size;
+use word::size::WordSize;
+use word::size::read_size;
+ghost use Prim.Native.Nat.{_≤_};
+ghost use lib.Signed.{mag};
 ghost use Rattle.write.specs.Writes.{Moves};
 
 // The word of the target width for what the word of the source width means; NaR gives NaR.
 pub fn move_word(from: Width, to: Width, rule: Rule, word: u64) -> Answer
     ensures { λ r. ⌜ Moves (from .bits) (to .bits) rule word r ⌝ }
 {
-    // Both widths are refused alike, so the source's may be tested with the word.
-    let verdict = to.test().then(from.test_word(word));
+    // Both widths are refused alike, so the target's may be tested first.
+    let verdict = to.test();
     if let Verdict::Refused(q) = verdict {
         return Answer::Refused(q);
     }
-    if word == 0 {
-        return Answer::Word(0);
+    match read_size(from, word) {
+        WordSize::Refused(q) => Answer::Refused(q),
+        WordSize::Zero => Answer::Word(0),
+        WordSize::Nar => to.nar(),
+        WordSize::Number(size) => write_long(
+            to,
+            rule,
+            LongValue {
+                negative: size.negative,
+                high: 0,
+                low: size.m,
+                k: size.h - 63,
+            },
+        ),
     }
-    let string = word << (64 - from.bits);
-    if string == 1 << 63 {
-        return to.nar();
-    }
-    let size = size_of(string);
-    let h = size.h as i64;
-    let nearest = rounded(to.bits, size.negative, h, size.m);
-    by_rule(to, rule, h, size.m, nearest)
 }

@@ -11,7 +11,7 @@ static const char *name_of(uint32_t refusal) {
     switch (refusal) {
     case TAKUM_WIDTH: return "WIDTH";
     case TAKUM_STRAY: return "STRAY";
-    case TAKUM_NOT_REAL: return "NAR";
+    case TAKUM_NAR: return "NAR";
     case TAKUM_INEXACT: return "INEXACT";
     case TAKUM_OVER: return "OVER";
     case TAKUM_ROOM: return "ROOM";
@@ -104,12 +104,12 @@ void of_read(given *from, answer *to) {
     if (put_refusal(to, got.refusal, parts_are_zero && got.kind == 0)) {
         return;
     }
-    if (got.kind == TAKUM_NUMBER) {
+    if (got.kind == TAKUM_KIND_NUMBER) {
         put_signed(to, got.negative ? "number minus " : "number plus ", got.h);
         put_number(to, " ", got.m);
         put_number(to, " ", got.p);
-    } else if (got.kind == TAKUM_ZERO || got.kind == TAKUM_NAR) {
-        put(to, got.kind == TAKUM_NAR ? "nar" : "zero");
+    } else if (got.kind == TAKUM_KIND_ZERO || got.kind == TAKUM_KIND_NAR) {
+        put(to, got.kind == TAKUM_KIND_NAR ? "nar" : "zero");
         put(to, parts_are_zero ? "" : " beside fields that are not zero");
     } else {
         put_number(to, "kind ", got.kind);

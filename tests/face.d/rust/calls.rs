@@ -64,7 +64,7 @@ pub fn read(given: &mut Given, to: &mut String) {
     let answer = same(to, calls::read(n, word), takum(n, word).map(Takum::read));
     put(to, answer, |to, reading| match reading {
         Reading::Zero => write!(to, "zero"),
-        Reading::NotReal => write!(to, "nar"),
+        Reading::Nar => write!(to, "nar"),
         Reading::Number { negative, h, m, p } => write!(to, "number {} {h} {m} {p}", if negative { "minus" } else { "plus" }),
     });
 }

@@ -94,7 +94,7 @@ fn name_of(refusal: Refusal) -> &'static str {
     match refusal {
         Refusal::Width => "WIDTH",
         Refusal::Stray => "STRAY",
-        Refusal::NotReal => "NAR",
+        Refusal::Nar => "NAR",
         Refusal::Inexact => "INEXACT",
         Refusal::Over => "OVER",
         Refusal::Room => "ROOM",

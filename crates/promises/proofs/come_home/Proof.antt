@@ -11,7 +11,7 @@ use lib.ListN.{length, getD, drop, drop-of-length-le}
 use lib.Seq.{drop-cons}
 use Rattle.bounds.specs.declared.answer.Answer.{Answer}
 use Rattle.bounds.specs.declared.refusal.Refusal.{Refusal}
-use Rattle.write.specs.declared.value.Rule.{Rule}
+use Rattle.round.specs.declared.value.Rule.{Rule}
 use Rattle.write.specs.Writes.{Moves}
 use Rattle.promises.specs.Writing.{Goes}
 use Rattle.promises.proofs.Writing.{goes-home}

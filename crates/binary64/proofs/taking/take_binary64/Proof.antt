@@ -1,78 +1,58 @@
 -- `take_binary64` meets its contract: the refusals, zero and NaR, and the size of any other word with its exponent raised. Assumes nothing.
 use mathlib.Core.Path.{_≡_, refl, sym, ap, ap₂, _∙_, subst, subst₂}
-use mathlib.Core.Bool.{Bool}
-use Prim.Native.Nat.{ℕ, _+_, _-_, _*_, _/_, _%_, _^_, _≤_}
-use native.Mathlib.Nat.{le-trans, pos-of-ne-zero, mod-lt}
+use mathlib.Core.Bool.{Bool, true, false}
+use Prim.Native.Nat.{ℕ, _+_, _*_, _^_, _≤_}
+use native.Mathlib.Nat.{le-trans}
 use native.Mathlib.Omega.{arith}
 use borrow.Author.Needs.{needs, sfits-of}
 use lib.Dec.{T, eqb, lit≤}
 use lib.IntN.{ℤ, pos, natAbs, _+ℤ_}
 use lib.Pow.{pow-pos}
-use lib.Signed.{nonNeg, mag}
+use lib.Signed.{nonNeg}
 use lib.Ieee.{Float, binary64, fits}
 use lib.Ieee.Exact.{HasValue}
 use lib.Ieee.Nearest.{closest}
 use mir.Facts.{toZ-ofZ}
 use mir.Syntax.{w32}
-use mir.Val.{SFits, toZ, ofZ}
+use mir.Val.{SFits, toZ, ofZ, boolByte}
 use Rattle.bounds.specs.declared.refusal.Verdict.{Verdict}
 use Rattle.word.specs.declared.size.Size.{Size}
-use Rattle.bounds.specs.Refusals.{wordTest, IsWord, through, refused}
+use Rattle.word.specs.declared.size.WordSize.{WordSize}
+use Rattle.bounds.specs.Refusals.{wordTest, through, refused}
 use Rattle.word.specs.Takum.{Takum, takum}
 use Rattle.word.specs.Reads.{IsNumber}
-use Rattle.word.proofs.Numbers.{characteristic-of-string}
 use Rattle.bounds.proofs.Verdicts.{word-through}
-use Rattle.word.proofs.Words.{takum-zero, takum-NaR}
-use Rattle.write.proofs.Sized.{NaR-at-top, word-sized}
+use Rattle.word.proofs.Normal.{Tells, tells, exponent-small}
 use Rattle.binary64.specs.declared.taking.Binary64.{Binary64}
-use Rattle.binary64.specs.Takes.{IsTaken, TakesBinary64}
+use Rattle.binary64.specs.Takes.{IsTakenBinary64, TakesBinary64}
 use Rattle.binary64.proofs.Closest.{closest-range}
 use Rattle.binary64.proofs.Leading.{rounded-once}
 use Rattle.binary64.proofs.Raised.{raise-less}
-use Rattle.binary64.proofs.Signs.{sign-digit}
 use Rattle.binary64.proofs.Taken.{zero-taken, number-taken}
 use Rattle.binary64.proofs.taking.take_binary64.Statement.{statement}
 use Rattle.binary64.proofs.taking.take_binary64.Tie as tie
 
--- what the verdict tells of the word
-told : (c : tie.After-test-word) {u : Verdict} → c .test-word .result ≡ u → wordTest (c .before .args .width .bits) (c .before .args .word) ≡ u
-told c h = sym (c .test-word .ensures) ∙ h
+-- what the word's size tells
+told : (c : tie.After-read-size) {a : WordSize} → c .read-size .result ≡ a → Tells (c .before .args .width .bits) (c .before .args .word) a
+told c q = subst (Tells _ _) q (tells _ _ _ (c .read-size .ensures))
 
--- a word that was let through
-module _ (g : tie.After-enum-told) where
-  abbrev n : ℕ
-  n = g .before .before .before .args .width .bits
-
-  abbrev word : ℕ
-  word = g .before .before .before .args .word
-
-  let-through : wordTest n word ≡ Verdict.Through
-  let-through = told (g .before .before) (g .enum-told .given .1)
-
-  is-word : IsWord n word
-  is-word = word-through n word let-through
-
--- a word that is neither zero nor NaR, its size, and its exponent as the machine raises it
-module _ (c : tie.After-struct-told) where
-  abbrev k : tie.After-size-of
-  k = c .before .before
-
-  abbrev g : tie.After-enum-told
-  g = k .before .before .before .before
+-- a number, its size, and its exponent as the machine raises it
+module _ (k : tie.After-struct-told) where
+  abbrev g : tie.After-read-size
+  g = k .before .before .before .before .before
 
   abbrev size : Size
-  size = k .size-of .result
+  size = k .before .before .before .size .given .0 .0
 
-  number : IsNumber (takum (n g) (word g)) 63 (size .negative) (size .h) (size .m) 63
-  number =
-      let x = word-sized (n g) (word g) (is-word g) (pos-of-ne-zero (k .before .before .before .if1 .left)) (k .before .if2 .left) size (k .size-of .ensures) in
-      record { v = x .0; means = x .1; size = x .3; count = refl; low = x .2; high = c .struct-told .given .1 .1 .0 .1 }
+  word : (wordTest (g .before .args .width .bits) (g .before .args .word) ≡ Verdict.Through) × IsNumber (takum (g .before .args .width .bits) (g .before .args .word)) 63 (size .negative) (size .h) (size .m) 63
+  unfolding Tells
+  word = told g (k .before .before .before .size .given .1)
 
   up : (j : ℕ) × (size .h +ℤ pos 971 ≡ pos (j + 11)) × (size .h +ℤ pos 1023 ≡ pos (j + 63)) × (704 ≤ j) × (j ≤ 1215)
-  up = raise-less (size .h) (subst (λ (z : ℤ). mag z ≤ 255) (sym (k .size-of .ensures .characteristic)) (le-trans (characteristic-of-string 64 _) (lit≤ tt)))
+  up = raise-less (size .h) (le-trans (exponent-small _ _ (word-through _ _ (word .0)) size (word .1)) (lit≤ tt))
 
   h-fits : SFits w32 (size .h)
-  h-fits = sfits-of (c .struct-told .given .1 .0 .1)
+  h-fits = sfits-of (k .struct-told .given .1 .0 .1)
 
   sum : toZ w32 (ofZ w32 (size .h)) +ℤ pos 971 ≡ pos (up .0 + 11)
   sum = ap (λ (z : ℤ). z +ℤ pos 971) (toZ-ofZ h-fits) ∙ up .1
@@ -86,51 +66,33 @@ module _ (c : tie.After-struct-told) where
   raised : natAbs (toZ w32 (ofZ w32 (toZ w32 (ofZ w32 (size .h)) +ℤ pos 971))) ≡ up .0 + 11
   raised = ap natAbs held
 
-  -- the sign as the machine cuts it off the string
-  negative : eqb (word g * 2 ^ (64 - n g) % 2 ^ 64 / 2 ^ 63) 1 ≡ size .negative
-  negative = sign-digit (word g * 2 ^ (64 - n g) % 2 ^ 64) (mod-lt (word g * 2 ^ (64 - n g)) (pow-pos 64)) (k .before .if2 .left) ∙ sym (k .size-of .ensures .sign)
-
-  taken : (x : Float) → T (fits binary64 x) → HasValue x (size .negative) (closest (size .m) (2 ^ 11) * 2 ^ (up .0 + 11)) (2 ^ 1023) → TakesBinary64 (n g) (word g) (Binary64.Number x)
+  taken : (x : Float) → T (fits binary64 x) → HasValue x (size .negative) (closest (size .m) (2 ^ 11) * 2 ^ (up .0 + 11)) (2 ^ 1023) → TakesBinary64 (g .before .args .width .bits) (g .before .args .word) (Binary64.Number x)
   unfolding TakesBinary64
   taken x f h =
-      through (let-through g)
-      (subst (λ (x : Float). IsTaken (takum (n g) (word g)) (Binary64.Number x)) (sym (rounded-once (size .negative) (size .m) (up .0) (number .low) (number .high) (omega (arith, up .4)) x f h)) (number-taken number (up .0) (up .2)))
+      let number = word .1 in
+      through (word .0)
+      (subst (λ (x : Float). IsTakenBinary64 (takum (g .before .args .width .bits) (g .before .args .word)) (Binary64.Number x)) (sym (rounded-once (size .negative) (size .m) (up .0) (number .low) (number .high) (omega (arith, up .4)) x f h)) (number-taken number (up .0) (up .2)))
 
-test-word-requires : tie.Need-test-word-requires
-test-word-requires c κs = search needs
+-- a sign as a number
+sign-small : (b : Bool) → boolByte b ≤ 1
+sign-small true = lit≤ tt
+sign-small false = lit≤ tt
 
-enum-known-verdict : tie.Need-enum-known-verdict
-enum-known-verdict c = search needs
+sign-back : (b : Bool) → eqb (boolByte b) 1 ≡ b
+sign-back true = refl
+sign-back false = refl
 
-returns : tie.Need-returns
-unfolding TakesBinary64
-returns c = refused (told (c .before .before .before) (c .before .verdict .given .1)) refl
+read-size-requires : tie.Need-read-size-requires
+read-size-requires c κs = search needs
 
 enum-told : tie.Need-enum-told
 enum-told c = search needs
 
-returns-2 : tie.Need-returns-2
-unfolding TakesBinary64
-returns-2 c = let g = c .before in
-    through (let-through g) (zero-taken _ (ap (takum (n g)) (c .if1 .taken) ∙ takum-zero (n g)))
+enum-told-2 : tie.Need-enum-told-2
+enum-told-2 c = search needs
 
-sub-string : tie.Need-sub-string
-sub-string c = is-word (c .before .before) .most
-
-cast-string : tie.Need-cast-string
-cast-string c = search needs
-
-shl-string : tie.Need-shl-string
-shl-string c = omega (arith, is-word (c .before .before) .least)
-
-returns-3 : tie.Need-returns-3
-unfolding TakesBinary64 IsTaken
-returns-3 c = let g = c .before .before .before in
-    through (let-through g)
-    (subst (λ (t : Takum). IsTaken t Binary64.NotReal) (sym (takum-NaR (n g) (word g) (is-word g .least) (is-word g .most) (NaR-at-top (n g) (word g) (is-word g) (c .if2 .taken)))) refl)
-
-size-of-requires : tie.Need-size-of-requires
-size-of-requires c κs = search needs
+enum-known-size : tie.Need-enum-known-size
+enum-known-size c = search needs
 
 add-j : tie.Need-add-j
 add-j c = subst (λ (z : ℤ). SFits w32 z) (sym (sum c)) (sum-fits c)
@@ -138,36 +100,56 @@ add-j c = subst (λ (z : ℤ). SFits w32 z) (sym (sum c)) (sum-fits c)
 cast-j : tie.Need-cast-j
 cast-j c = (subst (λ (z : ℤ). T (nonNeg z)) (sym (held c)) tt, record { fits = omega (arith, raised c, up c .4) })
 
+cast-number : tie.Need-cast-number
+cast-number c = search needs
+
 to-53-digits-requires : tie.Need-to-53-digits-requires
-to-53-digits-requires c κs = search needs
+to-53-digits-requires c κs = word (c .before) .1 .low
 
 number-requires : tie.Need-number-requires
 number-requires c κs =
-    let k = c .before in
-    let range = subst (λ (q : ℕ). (2 ^ 52 ≤ q) × (q ≤ 2 ^ 53)) (sym (c .to-53-digits .ensures)) (closest-range (size k .m) (2 ^ 11) (pow-pos 11) (number k .low) (number k .high)) in
-    (omega arith, range .1, omega (arith, raised k, up k .3), omega (arith, raised k, up k .4))
+    let k = c .before .before in
+    let number = word k .1 in
+    let range = subst (λ (q : ℕ). (2 ^ 52 ≤ q) × (q ≤ 2 ^ 53)) (sym (c .to-53-digits .ensures)) (closest-range (size k .m) (2 ^ 11) (pow-pos 11) (number .low) (number .high)) in
+    (sign-small (size k .negative), range .1, omega (arith, raised k, up k .3), omega (arith, raised k, up k .4))
+
+enum-known-q : tie.Need-enum-known-q
+enum-known-q c = search needs
+
+returns : tie.Need-returns
+unfolding TakesBinary64 Tells
+returns c = let x = told (c .before .before) (c .enum-told .given .1) in
+    through (x .0) (zero-taken _ (x .1))
+
+returns-2 : tie.Need-returns-2
+unfolding TakesBinary64 Tells IsTakenBinary64
+returns-2 c = let x = told (c .before .before) (c .enum-told2 .given .1) in
+    through (x .0) (subst (λ (t : Takum). IsTakenBinary64 t Binary64.Nar) (sym (x .1)) refl)
+
+returns-3 : tie.Need-returns-3
+returns-3 c = let k = c .before .before .before in
+    taken k (c .number .result) (subst T (sym (c .number .ok)) tt)
+    (subst₂ (λ (s : Bool) (a : ℕ). HasValue (c .number .result) s a (2 ^ 1023)) (sign-back (size k .negative)) (ap₂ (λ (q j : ℕ). q * 2 ^ j) (c .before .to-53-digits .ensures) (raised k)) (c .number .ensures))
 
 returns-4 : tie.Need-returns-4
-returns-4 c = let k = c .before .before in
-    taken k (c .number .result) (subst T (sym (c .number .ok)) tt)
-    (subst₂ (λ (s : Bool) (a : ℕ). HasValue (c .number .result) s a (2 ^ 1023)) (negative k) (ap₂ (λ (q j : ℕ). q * 2 ^ j) (c .before .to-53-digits .ensures) (raised k)) (c .number .ensures))
+unfolding TakesBinary64 Tells
+returns-4 c = refused (told (c .before .before .before) (c .before .q .given .1)) refl
 
 pub take-binary64-spec : {M : Type 1} → statement M
 take-binary64-spec =
     tie.close
     (tie.spec
-    test-word-requires
-    enum-known-verdict
-    returns
+    read-size-requires
     enum-told
-    returns-2
-    sub-string
-    cast-string
-    shl-string
-    returns-3
-    size-of-requires
+    enum-told-2
+    enum-known-size
     add-j
     cast-j
+    cast-number
     to-53-digits-requires
     number-requires
+    enum-known-q
+    returns
+    returns-2
+    returns-3
     returns-4)

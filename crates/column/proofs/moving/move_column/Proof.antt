@@ -8,7 +8,7 @@ use Rattle.bounds.specs.declared.refusal.Verdict.{Verdict}
 use Rattle.bounds.specs.Refusals.{widthTest, _then_, through, refused, roomTest}
 use Rattle.bounds.proofs.Verdicts.{told-three, then-through}
 use Rattle.column.specs.Columns.{MovesColumn, Holds}
-use Rattle.column.proofs.Rooms.{room-through}
+use Rattle.bounds.proofs.Rooms.{room-through}
 use Rattle.column.proofs.Outcomes.{every-word-movable, nothing-written}
 use Rattle.column.proofs.Walks.{all-tried}
 use Rattle.column.proofs.moving.move_column.Statement.{statement}

@@ -1,7 +1,7 @@
 -- `try_word` meets its contract: rounded, a word is refused only for a stray bit; strict, the move itself tells. Assumes nothing.
 use mathlib.Core.Path.{sym, subst}
 use borrow.Author.Needs.{needs}
-use Rattle.write.specs.declared.value.Rule.{Rule}
+use Rattle.round.specs.declared.value.Rule.{Rule}
 use Rattle.column.specs.Trials.{TriesWord}
 use Rattle.column.proofs.Trials.{rounded-tried, word-given, refusal-given}
 use Rattle.column.proofs.moving.try_word.Statement.{statement}

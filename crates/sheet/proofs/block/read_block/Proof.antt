@@ -37,14 +37,14 @@ enum-told c = search needs
 count-of-requires : tie.Need-count-of-requires
 count-of-requires c κs = passed c .bytes
 
-size-of-requires : tie.Need-size-of-requires
-size-of-requires c κs = passed (c .before) .bytes
+word-bytes-requires : tie.Need-word-bytes-requires
+word-bytes-requires c κs = passed (c .before) .bytes
 
 cast-unpack : tie.Need-cast-unpack
 cast-unpack c = search needs
 
 unpack-requires : tie.Need-unpack-requires
-unpack-requires c κs = unpackable _ (c .before .size-of .ensures .0) (c .before .before .count-of .ensures .0) _ (passed (c .before .before .before))
+unpack-requires c κs = unpackable _ (c .before .word-bytes .ensures .0) (c .before .before .count-of .ensures .0) _ (passed (c .before .before .before))
 
 width-of-requires : tie.Need-width-of-requires
 width-of-requires c κs = passed (c .before .before .before .before .before .before) .bytes
@@ -63,7 +63,7 @@ returns-2 c =
     let after-count = after-size .before in
     let h = told (after-count .before) in (
       through h (read-as _ (c .before .width-of .ensures .0) (c .four-bytes .ensures) (after-count .count-of .ensures .0)),
-      through h (filled _ (after-size .size-of .ensures .0) (after-count .count-of .ensures .0) _ _ (after-unpack .unpack .ensures)),
+      through h (filled _ (after-size .word-bytes .ensures .0) (after-count .count-of .ensures .0) _ _ (after-unpack .unpack .ensures)),
     )
 
 pub read-block-spec : {M : Type 1} → statement M
@@ -75,7 +75,7 @@ read-block-spec =
     returns
     enum-told
     count-of-requires
-    size-of-requires
+    word-bytes-requires
     cast-unpack
     unpack-requires
     width-of-requires

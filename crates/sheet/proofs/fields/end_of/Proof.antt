@@ -9,8 +9,8 @@ use lib.Dec.{lit<}
 use Rattle.sheet.proofs.fields.end_of.Statement.{statement}
 use Rattle.sheet.proofs.fields.end_of.Tie as tie
 
-size-of-requires : tie.Need-size-of-requires
-size-of-requires c κs = search needs
+word-bytes-requires : tie.Need-word-bytes-requires
+word-bytes-requires c κs = search needs
 
 count-of-requires : tie.Need-count-of-requires
 count-of-requires c κs = search needs
@@ -19,7 +19,7 @@ cast-result : tie.Need-cast-result
 cast-result c = search needs
 
 -- a size of one byte and a count of two are far from the ends of 64 bits
-small : (c : tie.After-count-of) → c .before .size-of .result * c .count-of .result < 2 ^ 32
+small : (c : tie.After-count-of) → c .before .word-bytes .result * c .count-of .result < 2 ^ 32
 small c = lt-of-le-of-lt (mul-le-mul {n₂ = 256} {m₂ = 65536} (omega arith) (omega arith)) (lit< tt)
 
 mul-result : tie.Need-mul-result
@@ -30,9 +30,9 @@ add-result c = record { fits = omega (arith, small c) }
 
 returns : tie.Need-returns
 unfolding end
-returns c = ap₂ (λ (s n : ℕ). 8 + s * n) (c .before .size-of .ensures .0) (c .count-of .ensures .0)
+returns c = ap₂ (λ (s n : ℕ). 8 + s * n) (c .before .word-bytes .ensures .0) (c .count-of .ensures .0)
 
 pub end-of-spec : {M : Type 1} → statement M
 end-of-spec =
     tie.close
-    (tie.spec size-of-requires count-of-requires cast-result mul-result add-result returns)
+    (tie.spec word-bytes-requires count-of-requires cast-result mul-result add-result returns)

@@ -1,7 +1,7 @@
 -- `test_width` meets its contract. Assumes nothing.
 use mathlib.Core.Path.{sym, subst}
 use Rattle.bounds.specs.declared.refusal.Refusal.{Refusal}
-use Rattle.sheet.specs.Reads.{widthTest}
+use Rattle.sheet.specs.Reads.{blockWidthTest}
 use Rattle.sheet.proofs.Tests.{OneOfFour, holds, fails, width-is, width-isn't}
 use borrow.Author.Needs.{needs}
 use Rattle.sheet.proofs.testing.test_width.Statement.{statement}
@@ -11,11 +11,11 @@ width-of-requires : tie.Need-width-of-requires
 width-of-requires c κs = search needs
 
 returns : tie.Need-returns
-unfolding widthTest
+unfolding blockWidthTest
 returns c = holds Refusal.Width (width-is _ (subst OneOfFour (c .before .width-of .ensures .0) (c .match .keys1)))
 
 returns-2 : tie.Need-returns-2
-unfolding widthTest
+unfolding blockWidthTest
 returns-2 c = fails Refusal.Width (width-isn't _ (λ w. c .match .rest .1 (subst OneOfFour (sym (c .before .width-of .ensures .0)) w)))
 
 pub test-width-spec : {M : Type 1} → statement M

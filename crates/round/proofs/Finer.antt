@@ -1,0 +1,119 @@
+-- One size beside the multiples of two units, and what follows for words: none has a size that lies strictly between two neighbouring multiples
+-- of a unit, the lower one taking 64 bits or more. Assumes nothing.
+use mathlib.Core.Path.{_≡_, refl, sym, ap, _∙_, subst, subst₂}
+use mathlib.Core.Bool.{Bool}
+use mathlib.Core.Logic.{_⊎_, inl, inr, ⊎-elim}
+use Prim.Native.Nat.{ℕ, zero, suc, _+_, _-_, _*_, _^_, _≤_, _<_}
+use native.Mathlib.Nat.{mul-le-mul-right, mul-lt-mul-of-pos-right, lt-of-mul-lt-mul-right, mul-le-mul-left, mul-pos, mul-right-comm, mul-assoc, one-mul, two-pow-succ}
+use native.Mathlib.Omega.{arith}
+use lib.Dec.{lit≤}
+use lib.IntN.{ℤ, pos, negsuc, _+ℤ_, _-ℤ_, +ℤ-comm, -ℤ-+ℤ-cancel}
+use lib.Pow.{pow-pos}
+use Rattle.word.specs.Reads.{num, den, IsSize}
+use Rattle.word.proofs.Units.{unit-some, cross, aside, raise-size, lower-by}
+use Rattle.round.specs.declared.size.Rest.{Rest}
+use Rattle.round.specs.declared.size.Side.{Side}
+use Rattle.round.specs.Nearest.{IsExact}
+use Rattle.round.specs.Offers.{Amounts, IsOffered, Tells}
+use Rattle.round.specs.Jamming.{Between}
+use Rattle.round.proofs.Halves.{cancel}
+use Rattle.round.proofs.Signs.{exact-some}
+use Rattle.round.proofs.Sized.{form}
+
+-- both sides may be multiplied by the same number
+times : (s : Side) (d x y : ℕ) → zero < d → Tells s x y → Tells s (x * d) (y * d)
+unfolding Tells
+times Side.Under d x y h t = mul-lt-mul-of-pos-right t h
+times Side.Midway d x y h t = ap (λ (z : ℕ). z * d) t
+times Side.Over d x y h t = mul-lt-mul-of-pos-right t h
+
+-- ---- the units 2^k and 2^(k + t): y of the coarse ones are y * 2^t of the fine ones
+module _ (k : ℤ) (t a b : ℕ) where
+  coarse-unit : (y : ℕ) → y * (num (k +ℤ pos t +ℤ pos 307) * b) * den (k +ℤ pos 307) ≡ y * 2 ^ t * (num (k +ℤ pos 307) * b) * den (k +ℤ pos t +ℤ pos 307)
+  coarse-unit y =
+      let x = k +ℤ pos 307 in
+      subst (λ (z : ℤ). y * (num z * b) * den x ≡ y * 2 ^ t * (num x * b) * den z) (sym (aside k t))
+      (together y (num (x +ℤ pos t)) b (den x) ∙ ap (λ (z : ℕ). y * z * b) (cross x t) ∙ apart y (2 ^ t) (num x) (den (x +ℤ pos t)) b)
+    where
+      together : (y u b d : ℕ) → y * (u * b) * d ≡ y * (u * d) * b
+      together y u b d = omega arith
+
+      apart : (y p u d b : ℕ) → y * (p * u * d) * b ≡ y * p * (u * b) * d
+      apart y p u d b = omega arith
+
+  swap : (c x y : ℕ) → c * (a * x) * y ≡ c * (a * y) * x
+  swap c x y = omega arith
+
+  -- so c times the size lies on the same side of both
+  pub coarser : (s : Side) (c y : ℕ) → Tells s (c * (a * den (k +ℤ pos 307))) (y * 2 ^ t * (num (k +ℤ pos 307) * b)) → Tells s (c * (a * den (k +ℤ pos t +ℤ pos 307))) (y * (num (k +ℤ pos t +ℤ pos 307) * b))
+  coarser s c y h =
+      let d = den (k +ℤ pos 307) in
+      let d' = den (k +ℤ pos t +ℤ pos 307) in
+      cancel s d (c * (a * d')) (y * (num (k +ℤ pos t +ℤ pos 307) * b)) (unit-some (k +ℤ pos 307) .1)
+      (subst₂ (Tells s) (swap c d d') (sym (coarse-unit y)) (times s d' (c * (a * d)) (y * 2 ^ t * (num (k +ℤ pos 307) * b)) (unit-some (k +ℤ pos t +ℤ pos 307) .1) h))
+
+  pub finer : (s : Side) (c y : ℕ) → Tells s (c * (a * den (k +ℤ pos t +ℤ pos 307))) (y * (num (k +ℤ pos t +ℤ pos 307) * b)) → Tells s (c * (a * den (k +ℤ pos 307))) (y * 2 ^ t * (num (k +ℤ pos 307) * b))
+  finer s c y h =
+      let d = den (k +ℤ pos 307) in
+      let d' = den (k +ℤ pos t +ℤ pos 307) in
+      cancel s d' (c * (a * d)) (y * 2 ^ t * (num (k +ℤ pos 307) * b)) (unit-some (k +ℤ pos t +ℤ pos 307) .1)
+      (subst₂ (Tells s) (swap c d' d) (coarse-unit y) (times s d (c * (a * d')) (y * (num (k +ℤ pos t +ℤ pos 307) * b)) (unit-some (k +ℤ pos 307) .1) h))
+
+-- ---- two exponents: the one is the other with something added
+beside : (j k : ℤ) → ((t : ℕ) × (j ≡ k +ℤ pos t)) ⊎ ((t : ℕ) × (k ≡ j +ℤ pos (suc t)))
+beside j k = by (j -ℤ k) refl
+  where
+    back : (d : ℤ) → j -ℤ k ≡ d → j ≡ k +ℤ d
+    back d q = sym (-ℤ-+ℤ-cancel j k) ∙ ap (λ (z : ℤ). z +ℤ k) q ∙ +ℤ-comm d k
+
+    by : (d : ℤ) → j -ℤ k ≡ d → ((t : ℕ) × (j ≡ k +ℤ pos t)) ⊎ ((t : ℕ) × (k ≡ j +ℤ pos (suc t)))
+    by (pos t) q = inl (t, back (pos t) q)
+    by (negsuc t) q = inr (t, sym (ap (λ (z : ℤ). z +ℤ pos (suc t)) (back (negsuc t) q) ∙ -ℤ-+ℤ-cancel k (pos (suc t))))
+
+-- ---- a size of 64 bits is a multiple of the unit or lies below 2^63 of them
+module _ (M : ℕ) (j : ℤ) (z : ℕ) (small : M < 2 ^ 64) (is : IsSize M j z) (x : ℕ) (large : 2 ^ 63 ≤ x) (k : ℤ) (a b : ℕ) (some : zero < b) (same : z * b ≡ a) (between : Between x k a b) where
+  amount : (N : ℕ) (i : ℤ) → IsSize N i z → a * den (i +ℤ pos 307) ≡ N * (num (i +ℤ pos 307) * b)
+  unfolding IsSize
+  amount N i q =
+      ap (λ (y : ℕ). y * den (i +ℤ pos 307)) (sym same) ∙ mul-right-comm z b (den (i +ℤ pos 307)) ∙ ap (λ (y : ℕ). y * b) (sym q) ∙ mul-assoc N (num (i +ℤ pos 307)) b
+
+  multiple : (N : ℕ) → IsSize N k z → ⊥
+  multiple N q =
+      let unit = num (k +ℤ pos 307) * b in
+      let above : x < N = lt-of-mul-lt-mul-right unit (subst (λ (y : ℕ). x * unit < y) (amount N k q) (between .low)) in
+      let below : N < x + 1 = lt-of-mul-lt-mul-right unit (subst (λ (y : ℕ). y < (x + 1) * unit) (amount N k q) (between .high)) in
+      omega (arith, above, below)
+
+  lower : (t : ℕ) → k ≡ j +ℤ pos (suc t) → ⊥
+  unfolding Tells
+  lower t q =
+      let unit = num (j +ℤ pos 307) * b in
+      let above : x * 2 ^ suc t < M = lt-of-mul-lt-mul-right unit (subst (λ (y : ℕ). x * 2 ^ suc t * unit < y) (one-mul (a * den (j +ℤ pos 307)) ∙ amount M j is) (finer j (suc t) a b Side.Over 1 x (subst (λ (y : ℤ). x * (num (y +ℤ pos 307) * b) < 1 * (a * den (y +ℤ pos 307))) q (subst (λ (y : ℕ). x * (num (k +ℤ pos 307) * b) < y) (sym (one-mul (a * den (k +ℤ pos 307)))) (between .low))))) in
+      omega (arith, above, small, large, mul-le-mul-left x (pow-pos t), ap (λ (y : ℕ). x * y) (two-pow-succ t))
+
+  pub none-there : ⊥
+  none-there = ⊎-elim (λ (y : (t : ℕ) × (j ≡ k +ℤ pos t)). multiple (M * 2 ^ y .0) (raise-size M k (y .0) z (subst (λ (i : ℤ). IsSize M i z) (y .1) is))) (λ (y : (t : ℕ) × (k ≡ j +ℤ pos (suc t))). lower (y .0) (y .1)) (beside j k)
+
+-- ---- so no word lies between
+pub no-word-between : (n : ℕ) → 2 ≤ n → n ≤ 64 → (s : Bool) (x : ℕ) (k : ℤ) (a b : ℕ) → 2 ^ 63 ≤ x → 0 < a → 0 < b → Between x k a b → (w : ℕ) → IsExact n s a b w → ⊥
+no-word-between n lo hi s x k a b large nonzero some between w y =
+    let t = form n lo hi s (y .z) w (exact-some n lo hi a b nonzero some (y .z) (y .same)) (y .is) in
+    none-there (t .1) (t .0 -ℤ pos 63) (y .z) (t .3) (t .4) x large k a b some (y .same) between
+
+-- what is offered with 64 bits and something below the last of them lies between two such multiples
+below-unit : (m below : ℕ) (h : ℤ) (a b : ℕ) → 0 < below → below < 2 ^ 64 → 0 < b → IsOffered (m * 2 ^ 64 + below) Rest.Nothing (h -ℤ pos 127) a b → Between m (h -ℤ pos 63) a b
+unfolding IsOffered Amounts Tells
+below-unit m below h a b first last some offered =
+    let k = h -ℤ pos 127 in
+    let x = parts (2 ^ 64) (num (k +ℤ pos 307) * b) (a * den (k +ℤ pos 307)) last (mul-pos (unit-some (k +ℤ pos 307) .0) some) offered in
+    subst (λ (z : ℤ). Between m z a b) (lower-by h 63 127 (lit≤ tt))
+    (record {
+      low = subst (λ (y : ℕ). m * (num (k +ℤ pos 64 +ℤ pos 307) * b) < y) (one-mul (a * den (k +ℤ pos 64 +ℤ pos 307))) (coarser k 64 a b Side.Over 1 m (x .0));
+      high = subst (λ (y : ℕ). y < (m + 1) * (num (k +ℤ pos 64 +ℤ pos 307) * b)) (one-mul (a * den (k +ℤ pos 64 +ℤ pos 307))) (coarser k 64 a b Side.Under 1 (m + 1) (x .1));
+    })
+  where
+    parts : (p unit amount : ℕ) → below < p → 0 < unit → amount ≡ (m * p + below) * unit → (m * p * unit < 1 * amount) × (1 * amount < (m + 1) * p * unit)
+    parts p unit amount l u q = (omega (arith, q, u, mul-le-mul-right unit first), omega (arith, q, u, mul-le-mul-right unit l))
+
+pub no-finer-word : (n : ℕ) → 2 ≤ n → n ≤ 64 → (s : Bool) (m below : ℕ) (h : ℤ) (a b : ℕ) → 2 ^ 63 ≤ m → m < 2 ^ 64 → 0 < below → below < 2 ^ 64 → 0 < a → 0 < b → IsOffered (m * 2 ^ 64 + below) Rest.Nothing (h -ℤ pos 127) a b → (w : ℕ) → IsExact n s a b w → ⊥
+no-finer-word n lo hi s m below h a b full top first last nonzero some offered w x = no-word-between n lo hi s m (h -ℤ pos 63) a b full nonzero some (below-unit m below h a b first last some offered) w x

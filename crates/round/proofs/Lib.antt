@@ -1,0 +1,50 @@
+-- The laws of the hub, one idea a file, in reading order.
+
+-- ---- what the nearest word is
+-- the nearest of an increasing row of sizes, ties to the even place: there is one, and only one
+pub mod Nearest
+-- the nonzero words of one sign are such a row
+pub mod Places
+-- with the other sign it is the word of the same place; a word with exactly the value is the nearest
+pub mod Signs
+-- ---- how one function, the hub, finds it
+-- exponents raised by 255, so that none is negative
+pub mod Exponents
+-- an exact size, with a rest below its last unit, against a half and against a midpoint
+pub mod Halves
+-- the strings of one binade: their sizes are the significands one after the other
+pub mod Strings
+-- how the strings of a characteristic begin, by computed tests
+pub mod Starts
+-- the first bits of a size are the last string at or below it, and cut to n bits the last word
+pub mod Floors
+-- where the cut falls before the fraction, a word and the next are powers of two, at most 64 binades apart
+pub mod Coarse
+-- on which side of the midpoint of its two neighbours a size lies
+pub mod Sides
+-- so the hub gives the nearest positive word, past either end and inside
+pub mod Hub
+-- ---- one size in several units
+-- every size is offered as a fraction, and both parts of a fraction times one number are the same size
+pub mod Scales
+-- the normal form: the top bit moved to 2^63, and the exponent that makes up for it
+pub mod Normal
+-- the normal form of 128 bits: the first 64, and what lies below them
+pub mod Long
+-- the exponent of a size, as the machine adds it
+mod Held
+-- a word that has a size has it in this form
+pub mod Sized
+-- two sizes are the same exactly where their normal forms are
+pub mod Exact
+-- one size beside the multiples of two units; no word has a size that lies between two multiples of a unit past 64 bits
+pub mod Finer
+-- ---- what the two rules give
+-- the nearest word with its sign, and what each rule makes of it
+pub mod Rules
+-- there is one rounded word and at most one strict word, a word's own value gives it back, and the ends
+pub mod Rounding
+-- rounding keeps the order of values
+pub mod Order
+-- two outcomes that a contract allows are equal
+pub mod OneOutcome

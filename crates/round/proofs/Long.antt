@@ -1,0 +1,111 @@
+-- A long significand: its first 64 bits with the top one set, what lies below them, and the size that both are offered as. Assumes nothing.
+use mathlib.Core.Path.{_≡_, sym, ap, _∙_, subst, subst₂}
+use Prim.Native.Nat.{ℕ, zero, suc, _+_, _-_, _*_, _/_, _%_, _^_, _≤_, _<_}
+use native.Mathlib.Nat.{add-mul, mul-assoc, mul-comm, mul-right-comm, mul-lt-mul-of-pos-right, mul-le-mul-right, lt-of-mul-lt-mul-right, eq-of-mul-eq-mul-right, le-trans, le-of-eq, le-of-suc-le-suc, le-add-right, lt-of-lt-of-le, mod-lt, mul-pos}
+use native.Mathlib.Omega.{arith}
+use lib.Count.{leadingZeros}
+use lib.IntN.{ℤ, pos, _+ℤ_, _-ℤ_, +ℤ-negℤ-cancel}
+use lib.Pow.{shl-exact, shl-lt, shr-lt, split, pow-pos, pow-mono}
+use Rattle.word.specs.Reads.{num, den}
+use Rattle.bounds.proofs.Powers.{pow-sum, shl-below, shl-out, Log, leading-log}
+use Rattle.word.proofs.Units.{unit-some, cross, aside, lower-by}
+use Rattle.round.specs.declared.size.Rest.{Rest}
+use Rattle.round.specs.Offers.{Amounts, IsOffered, IsRest, topBits}
+use Rattle.round.proofs.Scales.{raise-offer}
+
+-- ---- what lies below the last unit is under a half of it, a half, or over
+module _ (m below x unit : ℕ) (some : zero < unit) (fits : below < 2 ^ 64) (is : x * 2 ^ 64 ≡ (m * 2 ^ 64 + below) * unit) where
+  parts : x * 2 ^ 64 ≡ m * unit * 2 ^ 64 + below * unit
+  parts = is ∙ add-mul (m * 2 ^ 64) below unit ∙ ap (λ (y : ℕ). y + below * unit) (mul-right-comm m (2 ^ 64) unit)
+
+  beyond : (y : ℕ) → y < below → y * unit < below * unit
+  beyond y h = mul-lt-mul-of-pos-right h some
+
+  short : (y : ℕ) → below < y → below * unit < y * unit
+  short y h = mul-lt-mul-of-pos-right h some
+
+  pub rest-amounts : (rest : Rest) → IsRest below rest → Amounts m rest x unit
+  unfolding IsRest Amounts
+  rest-amounts Rest.Nothing q = omega (arith, parts, ap (λ (y : ℕ). y * unit) q)
+  rest-amounts Rest.UnderHalf h = (omega (arith, parts, beyond 0 (h .0)), omega (arith, parts, short (2 ^ 63) (h .1)))
+  rest-amounts Rest.Half q = omega (arith, parts, ap (λ (y : ℕ). y * unit) q)
+  rest-amounts Rest.OverHalf h = (omega (arith, parts, beyond (2 ^ 63) h), omega (arith, parts, short (2 ^ 64) fits))
+
+-- ---- the size of 128 bits in the units of its first 64
+pub finer-offer : (m below : ℕ) (rest : Rest) (h : ℤ) (a b : ℕ) → 0 < b → below < 2 ^ 64 → IsRest below rest → IsOffered (m * 2 ^ 64 + below) Rest.Nothing (h -ℤ pos 127) a b → IsOffered m rest (h -ℤ pos 63) a b
+unfolding IsOffered Amounts
+finer-offer m below rest h a b some fits is offered = subst (λ (z : ℤ). Amounts m rest (a * den z) (num z * b)) up (rest-amounts m below (a * den y) (num y * b) (mul-pos (unit-some y .0) some) fits units rest is)
+  where
+    x : ℤ
+    x = h -ℤ pos 127 +ℤ pos 307
+
+    y : ℤ
+    y = x +ℤ pos 64
+
+    up : y ≡ h -ℤ pos 63 +ℤ pos 307
+    up = sym (aside (h -ℤ pos 127) 64) ∙ ap (λ (z : ℤ). z +ℤ pos 307) (lower-by h 63 127 (omega arith))
+
+    X : ℕ
+    X = m * 2 ^ 64 + below
+
+    units : a * den y * 2 ^ 64 ≡ X * (num y * b)
+    units =
+        eq-of-mul-eq-mul-right (den x) (unit-some x .1) (a * den y * 2 ^ 64) (X * (num y * b))
+        (mul-right-comm (a * den y) (2 ^ 64) (den x) ∙ ap (λ (z : ℕ). z * 2 ^ 64) (mul-right-comm a (den y) (den x) ∙ ap (λ (z : ℕ). z * den y) offered) ∙ other (X) (num x) b (den y) (2 ^ 64) ∙ ap (λ (z : ℕ). X * (z * b)) (sym (cross x 64)) ∙ sym (back X (num y) (den x) b))
+      where
+        other : (X n b d t : ℕ) → X * (n * b) * d * t ≡ X * (t * n * d * b)
+        other X n b d t = omega arith
+
+        back : (X n d b : ℕ) → X * (n * b) * d ≡ X * (n * d * b)
+        back X n d b = omega arith
+
+-- two numbers in a row, shifted by so many zeros, stay within 64 bits
+pub high-room : (high low zeros : ℕ) → zeros ≤ 63 → high * 2 ^ zeros < 2 ^ 64 → low < 2 ^ 64 → high * 2 ^ zeros + low / 2 ^ (64 - zeros) < 2 ^ 64
+high-room high low zeros few h l =
+    let all = pow-sum (64 - zeros) zeros 64 (omega (arith, few)) in
+    let room : high < 2 ^ (64 - zeros) = lt-of-mul-lt-mul-right (2 ^ zeros) (lt-of-lt-of-le h (le-of-eq (sym all))) in
+    let part : low / 2 ^ (64 - zeros) < 2 ^ zeros = shr-lt zeros (64 - zeros) (lt-of-lt-of-le l (le-of-eq (ap (λ (k : ℕ). 2 ^ k) (sum zeros few)))) in
+    omega (arith, part, all, mul-le-mul-right (2 ^ zeros) room)
+  where
+    sum : (zeros : ℕ) → zeros ≤ 63 → 64 ≡ zeros + (64 - zeros)
+    sum zeros few = omega (arith, few)
+
+-- ---- the normal form of two numbers in a row
+module _ (high low : ℕ) (some : zero < high) (fits : high < 2 ^ 64) (low-fits : low < 2 ^ 64) where
+  zeros : ℕ
+  zeros = leadingZeros 64 high
+
+  log : (zeros < 64) × Log (63 - zeros) high
+  unfolding zeros
+  log = leading-log 64 high some fits
+
+  pub few-zeros : leadingZeros 64 high ≤ 63
+  unfolding zeros
+  few-zeros = le-of-suc-le-suc (log .0)
+
+  pub high-shifted : high * 2 ^ leadingZeros 64 high < 2 ^ 64
+  unfolding zeros
+  high-shifted = shl-below (suc (63 - zeros)) zeros 64 (log .1 .high) (omega (arith, few-zeros))
+
+  -- the bits stay what they were
+  pub whole : topBits high low (leadingZeros 64 high) * 2 ^ 64 + low * 2 ^ leadingZeros 64 high % 2 ^ 64 ≡ (high * 2 ^ 64 + low) * 2 ^ leadingZeros 64 high
+  unfolding zeros topBits
+  whole =
+      omega (arith, shl-out low zeros (omega (arith, few-zeros)), ap (λ (x : ℕ). x * 2 ^ zeros) (split low (64 - zeros)), ap (λ (x : ℕ). low / 2 ^ (64 - zeros) * x) (pow-sum (64 - zeros) zeros 64 (omega (arith, few-zeros))))
+
+  pub top-full : 2 ^ 63 ≤ topBits high low (leadingZeros 64 high)
+  unfolding zeros topBits
+  top-full = le-trans (le-of-eq (sym (pow-sum (63 - zeros) zeros 63 (omega (arith, few-zeros))))) (le-trans (mul-le-mul-right (2 ^ zeros) (log .1 .low)) (le-add-right _ _))
+
+  -- the exponent is k + 127 - zeros: the size is as before
+  back : (k : ℤ) → k +ℤ pos (127 - zeros) -ℤ pos 127 +ℤ pos zeros ≡ k
+  unfolding zeros
+  back k = ap (λ (x : ℕ). k +ℤ pos (127 - zeros) -ℤ pos 127 +ℤ pos x) rest ∙ lower-by (k +ℤ pos (127 - zeros)) (127 - zeros) 127 (omega arith) ∙ +ℤ-negℤ-cancel k (pos (127 - zeros))
+    where
+      rest : zeros ≡ 127 - (127 - zeros)
+      rest = omega (arith, few-zeros)
+
+  pub long-offer : (k : ℤ) → IsOffered (topBits high low (leadingZeros 64 high) * 2 ^ 64 + low * 2 ^ leadingZeros 64 high % 2 ^ 64) Rest.Nothing (k +ℤ pos (127 - leadingZeros 64 high) -ℤ pos 127) ((high * 2 ^ 64 + low) * num (k +ℤ pos 307)) (den (k +ℤ pos 307))
+  unfolding zeros
+  long-offer k =
+      subst₂ (λ (x : ℕ) (z : ℤ). IsOffered x Rest.Nothing (k +ℤ pos (127 - zeros) -ℤ pos 127) ((high * 2 ^ 64 + low) * num (z +ℤ pos 307)) (den (z +ℤ pos 307))) (sym whole) (back k) (raise-offer (high * 2 ^ 64 + low) (k +ℤ pos (127 - zeros) -ℤ pos 127) zeros)

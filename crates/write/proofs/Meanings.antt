@@ -1,0 +1,50 @@
+-- What is written for the size of what a word means is what is written for its meaning, and the other way. Assumes nothing.
+use mathlib.Core.Path.{_≡_, refl, sym, ap, _∙_, subst, subst₂}
+use mathlib.Core.Bool.{Bool, true, false}
+use Prim.Native.Nat.{ℕ, zero, suc, _*_, _≤_, _<_}
+use native.Mathlib.Nat.{zero-mul, one-mul, mul-one, mul-pos, lt-of-lt-of-le}
+use native.Mathlib.Omega.{arith}
+use lib.Dec.{lit<}
+use lib.IntN.{ℤ, pos, _+ℤ_, _-ℤ_}
+use lib.Pow.{pow-pos}
+use Rattle.word.specs.Takum.{Takum, real}
+use Rattle.word.specs.Reads.{num, den, IsSize, IsNumber, signedSize}
+use Rattle.bounds.specs.declared.answer.Answer.{Answer}
+use Rattle.word.proofs.Units.{unit-some}
+use Rattle.round.specs.declared.value.Rule.{Rule}
+use Rattle.round.specs.Nearest.{IsWritten}
+use Rattle.round.proofs.Scales.{written-times, written-reduced}
+use Rattle.write.specs.Writes.{isNegative, IsMoved}
+
+-- a size that isn't nothing, in any unit
+pub size-some : (m v : ℕ) (e : ℤ) → 0 < m → m * num e ≡ v * den e → 0 < v
+size-some m zero e h q = absurd (omega (arith, q, zero-mul (den e), mul-pos h (unit-some e .0)))
+size-some m (suc i) e h q = omega arith
+
+-- what is written for the size of what a word means is what is written for its meaning, and the other way
+module _ (n : ℕ) (rule : Rule) (r : Answer) where
+  moved : (s : Bool) (v : ℕ) → 0 < v → IsWritten n rule s v 1 r → IsMoved n rule (real (signedSize s v)) r
+  unfolding IsMoved isNegative signedSize
+  moved false v h y = y
+  moved true (suc i) h y = y
+  moved true zero h y = absurd (omega (arith, h))
+
+  of-meaning : (s : Bool) (v : ℕ) → 0 < v → IsMoved n rule (real (signedSize s v)) r → IsWritten n rule s v 1 r
+  unfolding IsMoved isNegative signedSize
+  of-meaning false v h y = y
+  of-meaning true (suc i) h y = y
+  of-meaning true zero h y = absurd (omega (arith, h))
+
+  pub size-moved : (t : Takum) (s : Bool) (h : ℤ) (m v : ℕ) → t ≡ real (signedSize s v) → 0 < m → IsSize m (h -ℤ pos 63) v → WritesSize n rule s h m r → IsMoved n rule t r
+  unfolding IsSize WritesSize IsOffered Amounts
+  size-moved t s h m v q full size x =
+      let e = h -ℤ pos 63 +ℤ pos 307 in
+      let some = size-some m v e full size in
+      subst (λ (t : Takum). IsMoved n rule t r) (sym q) (moved s v some (x v 1 some (lit< tt) (sym size ∙ ap (λ (y : ℕ). m * y) (sym (mul-one (num e))))))
+
+  pub number-written : (t : Takum) (k : ℕ) (s : Bool) (h : ℤ) (m p : ℕ) (x : IsNumber t k s h m p) → IsMoved n rule t r → IsWritten n rule s (m * num (h -ℤ pos p +ℤ pos 307)) (den (h -ℤ pos p +ℤ pos 307)) r
+  unfolding IsSize
+  number-written t k s h m p x y =
+      let e = h -ℤ pos p +ℤ pos 307 in
+      let some = size-some m (x .v) e (lt-of-lt-of-le (pow-pos p) (x .low)) (x .size) in
+      subst₂ (λ (a b : ℕ). IsWritten n rule s a b r) (sym (x .size)) (one-mul (den e)) (written-times n s (x .v) 1 (den e) (unit-some e .1) rule r (of-meaning s (x .v) some (subst (λ (t : Takum). IsMoved n rule t r) (x .means) y)))

@@ -88,7 +88,19 @@ pub(crate) fn take_two_moves(digest: u64, column: &[u64; 1000], shape: Shape, ro
     take_move(after_rounded, Rule::Strict, column, shape, room)
 }
 
-pub(crate) fn take_move(digest: u64, rule: Rule, column: &[u64], shape: Shape, room: usize) -> u64
+pub(crate) fn take_move(
+    digest: u64,
+    rule: Rule,
+    column: &[u64; 1000],
+    shape: Shape,
+    room: usize,
+) -> u64
+    requires { ⌜ (shape .length ≤ 1000) × (room ≤ 1008) ⌝ }
+{
+    take_lent(digest, rule, column, shape, room)
+}
+
+fn take_lent(digest: u64, rule: Rule, column: &[u64], shape: Shape, room: usize) -> u64
     requires { ⌜ (shape .length ≤ length (now column)) × (room ≤ 1008) ⌝ }
 {
     let mut row = [0u64; 1024];

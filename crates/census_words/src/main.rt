@@ -21,8 +21,8 @@ mod widths;
 mod words;
 mod writings;
 
-use crate::farther::print_farther;
 use crate::parts::Part;
+use crate::parts::print_at_all_widths;
 use crate::parts::print_everywhere;
 use crate::parts::print_part;
 use crate::refused::Asked;
@@ -76,10 +76,5 @@ fn print_long_values() {
         Width::GREATEST,
     );
     print_everywhere(b"long", Part::Runs(Subject::Long));
-    print_farther(b"farther", 0);
-    print_farther(b"farther", 1);
-    print_everywhere(b"farther", Part::Farther);
-    print_farther(b"farther", 65);
-    print_farther(b"farther", 0x8000_0000);
-    print_farther(b"farther", 0xffff_ffff);
+    print_at_all_widths(b"farther");
 }

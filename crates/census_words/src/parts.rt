@@ -24,6 +24,16 @@ pub(crate) fn print_everywhere(name: &[u8], part: Part) {
     print_part(name, part, Width::LEAST, Width::GREATEST);
 }
 
+// Part 44: at every width with the bad ones before and after them, and at bad ones farther off.
+pub(crate) fn print_at_all_widths(name: &[u8]) {
+    print_farther(name, 0);
+    print_farther(name, 1);
+    print_everywhere(name, Part::Farther);
+    print_farther(name, 65);
+    print_farther(name, 0x8000_0000);
+    print_farther(name, 0xffff_ffff);
+}
+
 // Prints a part at each width from the first one to the last one.
 pub(crate) fn print_part(name: &[u8], part: Part, first: u32, last: u32)
     requires { ⌜ (2 ≤ first) × (last ≤ 64) ⌝ }

@@ -1,10 +1,10 @@
--- `take_move` is safe: the results are within the row. Assumes nothing.
+-- `take_lent` is safe: the results are within the row. Assumes nothing.
 use mathlib.Core.Path.{sym}
 use native.Mathlib.Omega.{arith}
 use lib.Seq.{length-take-le}
 use borrow.Author.Needs.{needs}
-use Rattle.census_sheets.proofs.columns.take_move.Statement.{statement}
-use Rattle.census_sheets.proofs.columns.take_move.Tie as tie
+use Rattle.census_sheets.proofs.columns.take_lent.Statement.{statement}
+use Rattle.census_sheets.proofs.columns.take_lent.Tie as tie
 
 fill-row-requires : tie.Need-fill-row-requires
 fill-row-requires c κs = search needs
@@ -39,8 +39,8 @@ take-row-requires c κs = search needs
 returns : tie.Need-returns
 returns c = search needs
 
-pub take-move-spec : {M : Type 1} → statement M
-take-move-spec =
+pub take-lent-spec : {M : Type 1} → statement M
+take-lent-spec =
     tie.close
     (tie.spec
     fill-row-requires

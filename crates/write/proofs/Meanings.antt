@@ -35,12 +35,12 @@ module _ (n : ℕ) (rule : Rule) (r : Answer) where
   of-meaning true (suc i) h y = y
   of-meaning true zero h y = absurd (omega (arith, h))
 
-  pub size-moved : (t : Takum) (s : Bool) (h : ℤ) (m v : ℕ) → t ≡ real (signedSize s v) → 0 < m → IsSize m (h -ℤ pos 63) v → WritesSize n rule s h m r → IsMoved n rule t r
-  unfolding IsSize WritesSize IsOffered Amounts
-  size-moved t s h m v q full size x =
-      let e = h -ℤ pos 63 +ℤ pos 307 in
-      let some = size-some m v e full size in
-      subst (λ (t : Takum). IsMoved n rule t r) (sym q) (moved s v some (x v 1 some (lit< tt) (sym size ∙ ap (λ (y : ℕ). m * y) (sym (mul-one (num e))))))
+  pub number-moved : (t : Takum) (k : ℕ) (s : Bool) (h : ℤ) (m p : ℕ) (x : IsNumber t k s h m p) → IsWritten n rule s (m * num (h -ℤ pos p +ℤ pos 307)) (den (h -ℤ pos p +ℤ pos 307)) r → IsMoved n rule t r
+  unfolding IsSize
+  number-moved t k s h m p x y =
+      let e = h -ℤ pos p +ℤ pos 307 in
+      let some = size-some m (x .v) e (lt-of-lt-of-le (pow-pos p) (x .low)) (x .size) in
+      subst (λ (t : Takum). IsMoved n rule t r) (sym (x .means)) (moved s (x .v) some (written-reduced n s (x .v) 1 (den e) (unit-some e .1) rule r (subst₂ (λ (a b : ℕ). IsWritten n rule s a b r) (x .size) (sym (one-mul (den e))) y)))
 
   pub number-written : (t : Takum) (k : ℕ) (s : Bool) (h : ℤ) (m p : ℕ) (x : IsNumber t k s h m p) → IsMoved n rule t r → IsWritten n rule s (m * num (h -ℤ pos p +ℤ pos 307)) (den (h -ℤ pos p +ℤ pos 307)) r
   unfolding IsSize

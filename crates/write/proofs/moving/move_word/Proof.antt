@@ -1,7 +1,155 @@
 -- `move_word` meets its contract: the word's size is written at the other width, with its sign. Assumes nothing.
-use borrow.Author.Needs.{needs}
+use mathlib.Core.Path.{_≡_, refl, sym, ap, _∙_, subst}
+use mathlib.Core.Bool.{false}
+use Prim.Native.Nat.{ℕ, _≤_}
+use native.Mathlib.Omega.{arith}
+use borrow.Author.Needs.{needs, sfits-of}
+use lib.IntN.{ℤ, pos, _-ℤ_}
+use lib.Signed.{mag}
+use mir.Facts.{toZ-ofZ}
+use mir.Syntax.{w32}
+use mir.Val.{SFits, toZ, ofZ}
+use Rattle.bounds.specs.declared.answer.Answer.{Answer}
+use Rattle.bounds.specs.declared.refusal.Verdict.{Verdict}
+use Rattle.bounds.specs.Refusals.{widthTest, strayTest, wordTest, _then_, through, refused}
+use Rattle.bounds.specs.Widths.{GivesWord}
+use Rattle.bounds.proofs.Verdicts.{told-move, width-through, word-through, answered}
+use Rattle.word.specs.declared.size.Size.{Size}
+use Rattle.word.specs.declared.size.WordSize.{WordSize}
+use Rattle.word.specs.Reads.{IsNumber}
+use Rattle.word.proofs.Signed.{sub-mag}
+use Rattle.word.specs.Takum.{Takum, takum}
+use Rattle.word.proofs.Normal.{Tells, tells, exponent-small}
+use Rattle.round.proofs.Rules.{zero-written}
+use Rattle.write.specs.Writes.{isNegative, IsMoved, Writes, Moves}
+use Rattle.write.proofs.Meanings.{number-moved}
+use Rattle.write.proofs.Short.{short}
 use Rattle.write.proofs.moving.move_word.Statement.{statement}
 use Rattle.write.proofs.moving.move_word.Tie as tie
 
+-- what the word's size tells
+told : (c : tie.After-read-size) {a : WordSize} → c .read-size .result ≡ a → Tells (c .before .before .before .before .args .from .bits) (c .before .before .before .before .args .word) a
+told c q = subst (Tells _ _) q (tells _ _ _ (c .read-size .ensures))
+
+-- both widths and the word, in the order of the paper
+module _ (c : tie.After-enum-told) where
+  abbrev s : tie.Start
+  s = c .before .before .before
+
+  target : widthTest (s .args .to .bits) ≡ Verdict.Through
+  target = sym (c .before .before .test .ensures) ∙ c .enum-told .given .1
+
+  tested : {v : Verdict} → wordTest (s .args .from .bits) (s .args .word) ≡ v → widthTest (s .args .from .bits) then widthTest (s .args .to .bits) then strayTest (s .args .from .bits) (s .args .word) ≡ v
+  tested q = told-move _ _ _ {a = Verdict.Through} (sym target) refl refl q
+
+-- a number, and its exponent as the machine has it
+module _ (k : tie.After-known-told3) where
+  abbrev g : tie.After-read-size
+  g = k .before .before .before
+
+  abbrev size : Size
+  size = k .before .size .given .0 .0
+
+  number : (wordTest (g .before .before .before .before .args .from .bits) (g .before .before .before .before .args .word) ≡ Verdict.Through) × IsNumber (takum (g .before .before .before .before .args .from .bits) (g .before .before .before .before .args .word)) 63 (size .negative) (size .h) (size .m) 63
+  unfolding Tells
+  number = told g (k .before .size .given .1)
+
+  small : mag (size .h) ≤ 254
+  small = exponent-small _ _ (word-through _ _ (number .0)) size (number .1)
+
+  h-fits : SFits w32 (size .h)
+  h-fits = record { sfits = omega (arith, small) }
+
+  less-fits : SFits w32 (size .h -ℤ pos 63)
+  less-fits = record { sfits = omega (arith, sub-mag (size .h) (pos 63), small) }
+
+  held : toZ w32 (ofZ w32 (toZ w32 (ofZ w32 (size .h)) -ℤ pos 63)) ≡ size .h -ℤ pos 63
+  held = ap (λ (z : ℤ). toZ w32 (ofZ w32 (z -ℤ pos 63))) (toZ-ofZ h-fits) ∙ toZ-ofZ less-fits
+
+test-requires : tie.Need-test-requires
+test-requires c κs = search needs
+
+enum-known-verdict : tie.Need-enum-known-verdict
+enum-known-verdict c = search needs
+
+returns : tie.Need-returns
+unfolding Moves
+returns c = let k = c .before .before .before in
+    refused (told-move _ _ _ {a = Verdict.Refused _} (sym (c .before .verdict .given .1) ∙ k .test .ensures) refl refl refl) refl
+
+enum-told : tie.Need-enum-told
+enum-told c = search needs
+
+read-size-requires : tie.Need-read-size-requires
+read-size-requires c κs = search needs
+
+enum-known-q : tie.Need-enum-known-q
+enum-known-q c = search needs
+
+enum-told-2 : tie.Need-enum-told-2
+enum-told-2 c = search needs
+
+enum-told-3 : tie.Need-enum-told-3
+enum-told-3 c = search needs
+
+nar-requires : tie.Need-nar-requires
+nar-requires c κs = search needs
+
+enum-known-size : tie.Need-enum-known-size
+enum-known-size c = search needs
+
+sub-t11 : tie.Need-sub-t11
+sub-t11 c = let k = c .before .before in
+    subst (λ (z : ℤ). SFits w32 (z -ℤ pos 63)) (sym (toZ-ofZ (h-fits k))) (less-fits k)
+
+write-long-requires : tie.Need-write-long-requires
+write-long-requires c κs = search needs
+
+returns-2 : tie.Need-returns-2
+unfolding Moves Tells
+returns-2 c = let k = c .before .before .before in
+    refused (tested (k .before) (told k (c .before .q .given .1))) refl
+
+returns-3 : tie.Need-returns-3
+unfolding Moves Tells IsMoved isNegative
+returns-3 c = let k = c .before .before in
+    let s = k .before .before .before .before in
+    let x = told k (c .enum-told2 .given .1) in
+    let t = width-through _ (target (k .before)) in
+    through (tested (k .before) (x .0)) (subst (λ (t : Takum). IsMoved (s .args .to .bits) (s .args .rule) t (Answer.Word 0)) (sym (x .1)) (zero-written (s .args .to .bits) (t .0) (t .1) (s .args .rule) false 0 1 refl))
+
+returns-4 : tie.Need-returns-4
+unfolding Moves Tells IsMoved GivesWord
+returns-4 c = let k = c .before .before .before in
+    let s = k .before .before .before .before in
+    let x = told k (c .before .enum-told3 .given .1) in
+    through (tested (k .before) (x .0)) (subst (λ (t : Takum). IsMoved (s .args .to .bits) (s .args .rule) t (c .nar .result)) (sym (x .1)) (answered (target (k .before)) (c .nar .ensures)))
+
+returns-5 : tie.Need-returns-5
+unfolding Moves Writes
+returns-5 c = let k = c .before .before .before in
+    let s = g k .before .before .before .before in
+    let x = number k in
+    through (tested (g k .before) (x .0)) (number-moved (s .args .to .bits) (s .args .rule) (c .write-long .result) _ 63 (size k .negative) (size k .h) (size k .m) 63 (x .1)
+    (answered (target (g k .before)) (subst (λ (z : ℤ). Writes (s .args .to .bits) (s .args .rule) (record { negative = size k .negative; m = size k .m; k = z }) (c .write-long .result)) (held k) (short _ _ _ _ _ _ (c .write-long .ensures)))))
+
 pub move-word-spec : {M : Type 1} → statement M
-move-word-spec = ?
+move-word-spec =
+    tie.close
+    (tie.spec
+    test-requires
+    enum-known-verdict
+    returns
+    enum-told
+    read-size-requires
+    enum-known-q
+    enum-told-2
+    enum-told-3
+    nar-requires
+    enum-known-size
+    sub-t11
+    write-long-requires
+    returns-2
+    returns-3
+    returns-4
+    returns-5)

@@ -10,14 +10,15 @@ pub(crate) const MARK: u64 = 0x54;
 // The bytes of a block.
 pub(crate) const SIZE: usize = 512;
 
-// Stores what stands before the words, eight bytes. Of the number the low 32 bits remain.
-pub(crate) fn put_head(block: &mut [u8; 520], mark: u64, width: u64, count: u64, number: u64) {
-    put(
-        block,
-        0,
-        8,
-        mark | (width << 8) | (count << 16) | (number << 32),
-    );
+// A block and the state of the sequence that it was drawn from, after it.
+pub(crate) struct Drawn {
+    pub(crate) block: [u8; 520],
+    pub(crate) state: u64,
+}
+
+// What stands before the words, the first eight bytes. Of the number the low 32 bits remain.
+pub(crate) fn head(mark: u64, width: u64, count: u64, number: u64) -> u64 {
+    mark | (width << 8) | (count << 16) | (number << 32)
 }
 
 // How many words a block width has room for.
@@ -69,24 +70,37 @@ pub(crate) fn times(x: u64, y: u64) -> u64
     x * y
 }
 
-// Makes the block of w and c out of zero bytes, and gives back the state of the sequence after it.
-pub(crate) fn draw_block(block: &mut [u8; 520], w: u32, count: u32, start: u64) -> u64 {
+// The block of w and c.
+pub(crate) fn draw_block(w: u32, count: u32, start: u64) -> Drawn {
     let number = scramble(start);
-    put_head(block, MARK, w as u64, count as u64, number);
-    let state = draw_words(block, bytes_of(w), end_of_words(w, count), number);
-    seal(block);
-    state
+    let drawn = draw_words(bytes_of(w), end_of_words(w, count), number);
+    let words = drawn.block;
+    let whole = put(words, 0, 8, head(MARK, w as u64, count as u64, number));
+    Drawn {
+        block: seal(whole),
+        state: drawn.state,
+    }
 }
 
-fn draw_words(block: &mut [u8; 520], bytes: usize, end: usize, start: u64) -> u64
+// The words alone, among zero bytes. A word's first byte draws the word.
+fn draw_words(bytes: usize, end: usize, start: u64) -> Drawn
     requires { ⌜ (1 ≤ bytes) × (bytes ≤ 8) × (end ≤ 504) ⌝ }
 {
+    let mut block = [0u8; 520];
     let mut state = start;
     let mut at = 8;
     while at < end {
-        state = scramble(state);
-        put(block, at, bytes, state);
-        at += bytes;
+        let byte = bounded(at as u64 % bytes as u64, 7);
+        state = drawn_at(byte, state);
+        block[at] = ((state >> (8 * byte)) % 256) as u8;
+        at += 1;
+    }
+    Drawn { block, state }
+}
+
+fn drawn_at(byte: u64, state: u64) -> u64 {
+    if byte == 0 {
+        return scramble(state);
     }
     state
 }

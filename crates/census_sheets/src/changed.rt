@@ -1,7 +1,7 @@
 // The block of a change, changed as a place says, and read.
 use crate::block::MARK;
 use crate::block::full_of;
-use crate::block::put_head;
+use crate::block::head;
 use crate::bytes::flip;
 use crate::bytes::put;
 use crate::bytes::seal;
@@ -20,12 +20,12 @@ ghost use Prim.Native.Nat.{_≤_};
 pub(crate) fn take_place(change: Change, run: Run, w: u32, place: u64) -> Run
     requires { ⌜ w ≤ 64 ⌝ }
 {
-    let mut block = [0u8; 520];
-    draw_for(&mut block, change, w);
-    take_change(change, run, &mut block, w, place)
+    let drawn = draw_for(change, w);
+    let block = drawn.block;
+    take_change(change, run, block, w, place)
 }
 
-fn take_change(change: Change, run: Run, block: &mut [u8; 520], w: u32, place: u64) -> Run
+fn take_change(change: Change, run: Run, block: [u8; 520], w: u32, place: u64) -> Run
     requires { ⌜ w ≤ 64 ⌝ }
 {
     match change {
@@ -40,48 +40,46 @@ fn take_change(change: Change, run: Run, block: &mut [u8; 520], w: u32, place: u
 }
 
 // Part 33: read as it is changed, and then sealed.
-fn take_byte(run: Run, block: &mut [u8; 520], w: u32, place: u64) -> Run {
+fn take_byte(run: Run, block: [u8; 520], w: u32, place: u64) -> Run {
     let state = scramble(run.state);
     let room = (full_of(w) / 2 + 4) as usize;
-    flip(block, bounded(place, 511) as usize, (1 + state % 255) as u8);
-    let after_changed = take_reading(run.digest, block, room);
+    let changed = flip(block, bounded(place, 511) as usize, (1 + state % 255) as u8);
+    let after_changed = take_reading(run.digest, changed, room);
     Run {
         state,
-        digest: take_sealed(after_changed, block, room),
+        digest: take_sealed(after_changed, changed, room),
     }
 }
 
-fn take_sealed(digest: u64, block: &mut [u8; 520], room: usize) -> u64
+fn take_sealed(digest: u64, block: [u8; 520], room: usize) -> u64
     requires { ⌜ room ≤ 1008 ⌝ }
 {
-    seal(block);
-    take_reading(digest, block, room)
+    take_reading(digest, seal(block), room)
 }
 
 // Part 34.
-fn take_sums(run: Run, block: &mut [u8; 520], kind: u32, w: u32, place: u64) -> Run {
+fn take_sums(run: Run, block: [u8; 520], kind: u32, w: u32, place: u64) -> Run {
     let state = scramble(run.state);
-    change_numbers(block, kind, bounded(place, 125), 1 + state % 0xffff_ffff);
+    let changed = change_numbers(block, kind, bounded(place, 125), 1 + state % 0xffff_ffff);
     Run {
         state,
-        digest: take_reading(run.digest, block, full_of(w) as usize),
+        digest: take_reading(run.digest, changed, full_of(w) as usize),
     }
 }
 
 // Part 36: the place is the width byte.
-fn take_width_byte(digest: u64, block: &mut [u8; 520], count: u32, place: u64) -> u64 {
-    put_head(block, MARK, place, count as u64, place);
-    take_sealed(digest, block, 64)
+fn take_width_byte(digest: u64, block: [u8; 520], count: u32, place: u64) -> u64 {
+    let headed = put(block, 0, 8, head(MARK, place, count as u64, place));
+    take_sealed(digest, headed, 64)
 }
 
 // Part 37: the place is the mark.
-fn take_mark(digest: u64, block: &mut [u8; 520], place: u64) -> u64 {
-    put_head(block, place, 16, 1, place);
-    take_sealed(digest, block, 4)
+fn take_mark(digest: u64, block: [u8; 520], place: u64) -> u64 {
+    take_sealed(digest, put(block, 0, 8, head(place, 16, 1, place)), 4)
 }
 
 // Part 39: so many bytes are lent.
-fn take_size(digest: u64, block: &[u8; 520], w: u32, place: u64) -> u64 {
+fn take_size(digest: u64, block: [u8; 520], w: u32, place: u64) -> u64 {
     take_reading_of(digest, block, size_at(place), full_of(w) as usize)
 }
 
@@ -103,9 +101,8 @@ fn size_at(place: u64) -> usize
 }
 
 // Part 40: the block has another number.
-fn take_number(digest: u64, block: &mut [u8; 520], place: u64) -> u64 {
-    put(block, 4, 4, block_number_at(place));
-    take_sealed(digest, block, 3)
+fn take_number(digest: u64, block: [u8; 520], place: u64) -> u64 {
+    take_sealed(digest, put(block, 4, 4, block_number_at(place)), 3)
 }
 
 fn block_number_at(place: u64) -> u64 {

@@ -1,4 +1,5 @@
 // What parts 33 to 37, 39 and 40 change in a block from place to place: its places, how they run, and the block that is changed.
+use crate::block::Drawn;
 use crate::block::draw_block;
 use crate::block::full_of;
 use census::digest::sequence;
@@ -48,12 +49,12 @@ pub(crate) fn longest_run(change: Change) -> u64
     }
 }
 
-// Makes the block of a change out of zero bytes, and gives back the state of the sequence after it.
-pub(crate) fn draw_for(block: &mut [u8; 520], change: Change, w: u32) -> u64
+// The block of a change.
+pub(crate) fn draw_for(change: Change, w: u32) -> Drawn
     requires { ⌜ w ≤ 64 ⌝ }
 {
     let start = sequence(start_of(change) + w as u64);
-    draw_block(block, w, count_of(change, w), start)
+    draw_block(w, count_of(change, w), start)
 }
 
 fn start_of(change: Change) -> u64

@@ -45,15 +45,15 @@ pub(crate) fn print_fills(name: &[u8], w: u32)
 
 // Prints the line of a count, and gives back the state of the sequence after it.
 fn print_count(name: &[u8], told: Told, w: u32, count: u32, start: u64) -> u64 {
-    let mut block = [0u8; 520];
-    let state = draw_block(&mut block, w, count, start);
+    let drawn = draw_block(w, count, start);
+    let block = drawn.block;
     let words = words_of(w, count) as usize;
-    let digest = take_count(told, &block, end_of_words(w, count), words);
+    let digest = take_count(told, block, end_of_words(w, count), words);
     print_of_two(name, w, count, digest);
-    state
+    drawn.state
 }
 
-fn take_count(told: Told, block: &[u8; 520], end: usize, words: usize) -> u64
+fn take_count(told: Told, block: [u8; 520], end: usize, words: usize) -> u64
     requires { ⌜ (8 ≤ end) × (end ≤ 504) × (words ≤ 1000) ⌝ }
 {
     match told {
@@ -63,7 +63,7 @@ fn take_count(told: Told, block: &[u8; 520], end: usize, words: usize) -> u64
 }
 
 // The first byte of the words, the last one, the first byte behind them, one in the middle of the rest, and the last one.
-fn take_fills(block: &[u8; 520], end: usize, room: usize) -> u64
+fn take_fills(block: [u8; 520], end: usize, room: usize) -> u64
     requires { ⌜ (8 ≤ end) × (end ≤ 504) × (room ≤ 1008) ⌝ }
 {
     let mut digest = take_flipped(EMPTY, block, 8, room);
@@ -74,11 +74,8 @@ fn take_fills(block: &[u8; 520], end: usize, room: usize) -> u64
 }
 
 // With the top bit of a byte flipped, and sealed anew.
-fn take_flipped(digest: u64, block: &[u8; 520], at: usize, room: usize) -> u64
+fn take_flipped(digest: u64, block: [u8; 520], at: usize, room: usize) -> u64
     requires { ⌜ (at < 520) × (room ≤ 1008) ⌝ }
 {
-    let mut flipped = *block;
-    flip(&mut flipped, at, 0x80);
-    seal(&mut flipped);
-    take_reading(digest, &flipped, room)
+    take_reading(digest, seal(flip(block, at, 0x80)), room)
 }

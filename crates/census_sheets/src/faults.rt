@@ -31,25 +31,24 @@ fn times_in(faults: u64, fault: u64) -> u64
 }
 
 // The block, which has half as many words as it has room for, is changed, and read.
-pub(crate) fn take_faults(digest: u64, block: &mut [u8; 520], w: u32, faults: u64) -> u64
+pub(crate) fn take_faults(digest: u64, block: [u8; 520], w: u32, faults: u64) -> u64
     requires { ⌜ w ≤ 64 ⌝ }
 {
-    spoil(block, w, faults);
+    let spoilt = spoil(block, w, faults);
     let lent = SIZE - times_in(faults, OF_SIZE) as usize;
     let room = (full_of(w) / 2 + 4) as usize - 5 * times_in(faults, OF_ROOM) as usize;
-    take_reading_of(digest, block, lent, room)
+    take_reading_of(digest, spoilt, lent, room)
 }
 
 // The faults that are in the bytes. Only CHECK is made after sealing.
-fn spoil(block: &mut [u8; 520], w: u32, faults: u64)
+fn spoil(block: [u8; 520], w: u32, faults: u64) -> [u8; 520]
     requires { ⌜ w ≤ 64 ⌝ }
 {
-    put(block, 0, 1, MARK + times_in(faults, OF_MARK));
-    put(block, 1, 1, w as u64 + 4 * times_in(faults, OF_WIDTH));
-    put(block, 2, 2, count_of(w, faults) as u64);
-    put(block, 503, 1, times_in(faults, OF_FILL));
-    seal(block);
-    flip(block, 508, times_in(faults, OF_CHECK) as u8);
+    let marked = put(block, 0, 1, MARK + times_in(faults, OF_MARK));
+    let wide = put(marked, 1, 1, w as u64 + 4 * times_in(faults, OF_WIDTH));
+    let counted = put(wide, 2, 2, count_of(w, faults) as u64);
+    let filled = put(counted, 503, 1, times_in(faults, OF_FILL));
+    flip(seal(filled), 508, times_in(faults, OF_CHECK) as u8)
 }
 
 fn count_of(w: u32, faults: u64) -> u32 {

@@ -14,13 +14,13 @@ struct Added {
 }
 
 // Where nothing is added, a number behind the 126 may be meant.
-pub(crate) fn change_numbers(block: &mut [u8; 520], kind: u32, i: u64, d: u64)
+pub(crate) fn change_numbers(block: [u8; 520], kind: u32, i: u64, d: u64) -> [u8; 520]
     requires { ⌜ (i ≤ 125) × (d < 2 ^ 32) ⌝ }
 {
-    let added = added_by(kind, i, d, number_at(block, i as usize));
-    add(block, i, added.first);
-    add(block, i + 1, added.second);
-    add(block, i + 2, added.third);
+    let added = added_by(kind, i, d, number_at(&block, i as usize));
+    let first = add(block, i, added.first);
+    let second = add(first, i + 1, added.second);
+    add(second, i + 2, added.third)
 }
 
 // x is the number at i.
@@ -51,9 +51,9 @@ fn added_by(kind: u32, i: u64, d: u64, x: u64) -> Added
     }
 }
 
-fn add(block: &mut [u8; 520], i: u64, d: u64)
+fn add(block: [u8; 520], i: u64, d: u64) -> [u8; 520]
     requires { ⌜ i ≤ 127 ⌝ }
 {
-    let sum = wrapping_add_u64(number_at(block, i as usize), d);
-    put(block, 4 * i as usize, 4, sum);
+    let sum = wrapping_add_u64(number_at(&block, i as usize), d);
+    put(block, 4 * i as usize, 4, sum)
 }

@@ -11,7 +11,7 @@ ghost use Prim.Native.Nat.{_≤_};
 ghost use lib.ListN.{length};
 
 // With each of the rooms around a number of words.
-pub(crate) fn take_readings_around(start: u64, block: &[u8; 520], words: usize) -> u64
+pub(crate) fn take_readings_around(start: u64, block: [u8; 520], words: usize) -> u64
     requires { ⌜ words ≤ 1000 ⌝ }
 {
     let mut digest = take_reading(start, block, 0);
@@ -24,17 +24,17 @@ pub(crate) fn take_readings_around(start: u64, block: &[u8; 520], words: usize) 
 }
 
 // The whole block.
-pub(crate) fn take_reading(digest: u64, block: &[u8; 520], room: usize) -> u64
+pub(crate) fn take_reading(digest: u64, block: [u8; 520], room: usize) -> u64
     requires { ⌜ room ≤ 1008 ⌝ }
 {
     take_reading_of(digest, block, SIZE, room)
 }
 
 // As many of the bytes as are lent.
-pub(crate) fn take_reading_of(digest: u64, bytes: &[u8; 520], lent: usize, room: usize) -> u64
+pub(crate) fn take_reading_of(digest: u64, bytes: [u8; 520], lent: usize, room: usize) -> u64
     requires { ⌜ (lent ≤ 520) × (room ≤ 1008) ⌝ }
 {
-    take_lent(digest, bytes, lent, room)
+    take_lent(digest, &bytes, lent, room)
 }
 
 fn take_lent(digest: u64, bytes: &[u8], lent: usize, room: usize) -> u64

@@ -29,8 +29,8 @@ pub(crate) fn print_runs(name: &[u8], change: Change, w: u32)
 fn first_state(change: Change, w: u32) -> u64
     requires { ⌜ w ≤ 64 ⌝ }
 {
-    let mut block = [0u8; 520];
-    draw_for(&mut block, change, w)
+    let drawn = draw_for(change, w);
+    drawn.state
 }
 
 // Prints the line of a run, and gives back the state of the sequence after it.

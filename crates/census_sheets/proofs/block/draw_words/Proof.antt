@@ -5,19 +5,34 @@ use Rattle.census_sheets.proofs.block.draw_words.Statement.{statement}
 use Rattle.census_sheets.proofs.block.draw_words.Tie as tie
 
 abbrev Inv-loop : tie.InvT-loop
-Inv-loop block₀ bytes end start state₀ at₀ block state at = Unit {0}
+Inv-loop bytes end start block₀ state₀ at₀ block state at = Unit {0}
 
 abbrev μ-loop : tie.MeasureT-loop
-μ-loop block₀ bytes end start state₀ at₀ block state at = end - at
+μ-loop bytes end start block₀ state₀ at₀ block state at = end - at
 
 loop-holds : tie.Need-loop-holds Inv-loop μ-loop
 loop-holds c = tt
 
-scramble-requires : tie.Need-scramble-requires Inv-loop μ-loop
-scramble-requires c κs = tt
+rem-bounded : tie.Need-rem-bounded Inv-loop μ-loop
+rem-bounded c = omega arith
 
-put-requires : tie.Need-put-requires Inv-loop μ-loop
-put-requires c κs = omega arith
+bounded-requires : tie.Need-bounded-requires Inv-loop μ-loop
+bounded-requires c κs = tt
+
+drawn-at-requires : tie.Need-drawn-at-requires Inv-loop μ-loop
+drawn-at-requires c κs = tt
+
+mul-block : tie.Need-mul-block Inv-loop μ-loop
+mul-block c = omega arith
+
+shr-block : tie.Need-shr-block Inv-loop μ-loop
+shr-block c = omega arith
+
+cast-block : tie.Need-cast-block Inv-loop μ-loop
+cast-block c = omega arith
+
+array-write-block : tie.Need-array-write-block Inv-loop μ-loop
+array-write-block c = omega arith
 
 add-at : tie.Need-add-at Inv-loop μ-loop
 add-at c = omega arith
@@ -38,8 +53,13 @@ draw-words-spec =
     Inv-loop
     μ-loop
     loop-holds
-    scramble-requires
-    put-requires
+    rem-bounded
+    bounded-requires
+    drawn-at-requires
+    mul-block
+    shr-block
+    cast-block
+    array-write-block
     add-at
     loop-less
     loop-again

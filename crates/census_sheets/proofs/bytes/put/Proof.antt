@@ -5,10 +5,10 @@ use Rattle.census_sheets.proofs.bytes.put.Statement.{statement}
 use Rattle.census_sheets.proofs.bytes.put.Tie as tie
 
 abbrev Inv-loop : tie.InvT-loop
-Inv-loop block₀ at count x end rest₀ i₀ block rest i = Unit {0}
+Inv-loop at count x end changed₀ rest₀ i₀ changed rest i = Unit {0}
 
 abbrev μ-loop : tie.MeasureT-loop
-μ-loop block₀ at count x end rest₀ i₀ block rest i = end - i
+μ-loop at count x end changed₀ rest₀ i₀ changed rest i = end - i
 
 add-end : tie.Need-add-end Inv-loop μ-loop
 add-end c = omega arith
@@ -16,11 +16,11 @@ add-end c = omega arith
 loop-holds : tie.Need-loop-holds Inv-loop μ-loop
 loop-holds c = tt
 
-cast-block : tie.Need-cast-block Inv-loop μ-loop
-cast-block c = omega arith
+cast-changed : tie.Need-cast-changed Inv-loop μ-loop
+cast-changed c = omega arith
 
-element-write-block : tie.Need-element-write-block Inv-loop μ-loop
-element-write-block c = omega arith
+array-write-changed : tie.Need-array-write-changed Inv-loop μ-loop
+array-write-changed c = omega arith
 
 add-i : tie.Need-add-i Inv-loop μ-loop
 add-i c = omega arith
@@ -42,8 +42,8 @@ put-spec =
     μ-loop
     add-end
     loop-holds
-    cast-block
-    element-write-block
+    cast-changed
+    array-write-changed
     add-i
     loop-less
     loop-again

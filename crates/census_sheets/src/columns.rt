@@ -28,10 +28,16 @@ pub(crate) enum Kind {
     Free,
 }
 
-// Draws the words of a column, and gives back the state of the sequence after them.
-pub(crate) fn draw_column(column: &mut [u64; 1000], kind: Kind, shape: Shape, start: u64) -> u64
+// A column, in the first of so many words, and the state of the sequence that it was drawn from, after it.
+pub(crate) struct Drawn {
+    pub(crate) column: [u64; 1000],
+    pub(crate) state: u64,
+}
+
+pub(crate) fn draw_column(kind: Kind, shape: Shape, start: u64) -> Drawn
     requires { ⌜ (2 ≤ shape .from) × (shape .from ≤ 64) × (2 ≤ shape .to) × (shape .to ≤ 64) × (shape .length ≤ 1000) ⌝ }
 {
+    let mut column = [0u64; 1000];
     let mut state = start;
     let mut place = 0;
     while place < shape.length {
@@ -39,7 +45,7 @@ pub(crate) fn draw_column(column: &mut [u64; 1000], kind: Kind, shape: Shape, st
         column[place] = drawn_word(kind, shape, place, state);
         place += 1;
     }
-    state
+    Drawn { column, state }
 }
 
 fn drawn_word(kind: Kind, shape: Shape, place: usize, x: u64) -> u64

@@ -90,21 +90,23 @@ fn print_line(told: Told, from: u32, to: u32, length: usize, state: u64) -> u64
 fn print_drawn(shape: Shape, state: u64) -> u64
     requires { ⌜ (2 ≤ shape .from) × (shape .from ≤ 64) × (2 ≤ shape .to) × (shape .to ≤ 64) × (shape .length ≤ 1000) ⌝ }
 {
-    let mut column = [0u64; 1000];
-    let after_exact = draw_column(&mut column, Kind::Exact, shape, state);
-    let exact = take_moves_around(EMPTY, &column, shape);
-    let after_free = draw_column(&mut column, Kind::Free, shape, after_exact);
-    print_of_shape(b"column", shape, take_moves_around(exact, &column, shape));
-    after_free
+    let exact = draw_column(Kind::Exact, shape, state);
+    let exact_column = exact.column;
+    let after_exact = take_moves_around(EMPTY, &exact_column, shape);
+    let free = draw_column(Kind::Free, shape, exact.state);
+    let free_column = free.column;
+    let after_free = take_moves_around(after_exact, &free_column, shape);
+    print_of_shape(b"column", shape, after_free);
+    free.state
 }
 
 fn print_planted(shape: Shape, state: u64) -> u64
     requires { ⌜ (2 ≤ shape .from) × (shape .from ≤ 64) × (2 ≤ shape .to) × (shape .to ≤ 64) × (1 ≤ shape .length) × (shape .length ≤ 1000) ⌝ }
 {
-    let mut column = [0u64; 1000];
-    let after = draw_column(&mut column, Kind::Exact, shape, state);
+    let drawn = draw_column(Kind::Exact, shape, state);
+    let column = drawn.column;
     print_of_shape(b"planted", shape, take_planted(EMPTY, &column, shape));
-    after
+    drawn.state
 }
 
 fn print_of_shape(name: &[u8], shape: Shape, digest: u64) {

@@ -34,12 +34,13 @@ fn take_pair(run: Run, from: u32, to: u32) -> Run
         to,
         length: 8,
     };
-    let mut column = [0u64; 1000];
-    let after_exact = draw_column(&mut column, Kind::Exact, shape, run.state);
-    let exact = take_two_moves(run.digest, &column, shape, 8);
-    let after_free = draw_column(&mut column, Kind::Free, shape, after_exact);
+    let exact = draw_column(Kind::Exact, shape, run.state);
+    let exact_column = exact.column;
+    let after_exact = take_two_moves(run.digest, &exact_column, shape, 8);
+    let free = draw_column(Kind::Free, shape, exact.state);
+    let free_column = free.column;
     Run {
-        state: after_free,
-        digest: take_two_moves(exact, &column, shape, 12),
+        state: free.state,
+        digest: take_two_moves(after_exact, &free_column, shape, 12),
     }
 }

@@ -5,10 +5,10 @@ use Rattle.census_sheets.proofs.columns.draw_column.Statement.{statemen
 use Rattle.census_sheets.proofs.columns.draw_column.Tie as tie
 
 abbrev Inv-loop : tie.InvT-loop
-Inv-loop column₀ kind shape start state₀ place₀ column state place = Unit {0}
+Inv-loop kind shape start column₀ state₀ place₀ column state place = Unit {0}
 
 abbrev μ-loop : tie.MeasureT-loop
-μ-loop column₀ kind shape start state₀ place₀ column state place = shape .length - place
+μ-loop kind shape start column₀ state₀ place₀ column state place = shape .length - place
 
 loop-holds : tie.Need-loop-holds Inv-loop μ-loop
 loop-holds c = tt
@@ -22,8 +22,8 @@ drawn-word-requires c κs = omega arith
 mul-column : tie.Need-mul-column Inv-loop μ-loop
 mul-column c = omega arith
 
-element-write-column : tie.Need-element-write-column Inv-loop μ-loop
-element-write-column c = omega arith
+array-write-column : tie.Need-array-write-column Inv-loop μ-loop
+array-write-column c = omega arith
 
 add-place : tie.Need-add-place Inv-loop μ-loop
 add-place c = omega arith
@@ -47,7 +47,7 @@ draw-column-spec =
     scramble-requires
     drawn-word-requires
     mul-column
-    element-write-column
+    array-write-column
     add-place
     loop-less
     loop-again

@@ -2,14 +2,14 @@
 // exported function's contract to go by.
 use takum::columns::takum_move_column;
 use takum::columns::takum_read_block;
-use takum::handed::HandedBlock;
-use takum::handed::HandedColumn;
-use takum::handed::HandedComparison;
-use takum::handed::HandedLimit;
-use takum::handed::HandedNumber;
-use takum::handed::HandedReading;
-use takum::handed::HandedWhole;
-use takum::handed::HandedWord;
+use takum::handed::columns::HandedBlock;
+use takum::handed::columns::HandedColumn;
+use takum::handed::numbers::HandedNumber;
+use takum::handed::numbers::HandedWhole;
+use takum::handed::widths::HandedLimit;
+use takum::handed::words::HandedComparison;
+use takum::handed::words::HandedReading;
+use takum::handed::words::HandedWord;
 use takum::numbers::takum_take_binary64;
 use takum::numbers::takum_take_whole;
 use takum::numbers::takum_write_binary64;

@@ -29,14 +29,14 @@ use Rattle.whole.specs.Wholes.{IsWholePart}
 use Rattle.whole.proofs.WholeParts.{one-whole-part}
 use Rattle.binary64.specs.Nearest.{NearestBinary64}
 use Rattle.sheet.specs.Layout as block
-use Rattle.takum.specs.declared.handed.HandedWord.{HandedWord}
-use Rattle.takum.specs.declared.handed.HandedReading.{HandedReading}
-use Rattle.takum.specs.declared.handed.HandedComparison.{HandedComparison}
-use Rattle.takum.specs.declared.handed.HandedLimit.{HandedLimit}
-use Rattle.takum.specs.declared.handed.HandedWhole.{HandedWhole}
-use Rattle.takum.specs.declared.handed.HandedNumber.{HandedNumber}
-use Rattle.takum.specs.declared.handed.HandedColumn.{HandedColumn}
-use Rattle.takum.specs.declared.handed.HandedBlock.{HandedBlock}
+use Rattle.takum.specs.declared.handed.words.HandedWord.{HandedWord}
+use Rattle.takum.specs.declared.handed.words.HandedReading.{HandedReading}
+use Rattle.takum.specs.declared.handed.words.HandedComparison.{HandedComparison}
+use Rattle.takum.specs.declared.handed.widths.HandedLimit.{HandedLimit}
+use Rattle.takum.specs.declared.handed.numbers.HandedWhole.{HandedWhole}
+use Rattle.takum.specs.declared.handed.numbers.HandedNumber.{HandedNumber}
+use Rattle.takum.specs.declared.handed.columns.HandedColumn.{HandedColumn}
+use Rattle.takum.specs.declared.handed.columns.HandedBlock.{HandedBlock}
 use Rattle.takum.specs.Handed.{readingHanded}
 use Rattle.promises.specs.Nearest.{OneNumberIsTheNearest}
 use Rattle.promises.specs.Numbers.{IsWhole}

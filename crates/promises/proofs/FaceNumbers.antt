@@ -27,9 +27,9 @@ use Rattle.binary64.specs.declared.taking.Binary64.{Binary64}
 use Rattle.binary64.specs.Nearest.{NearestBinary64}
 use Rattle.binary64.specs.Takes as taken
 use Rattle.binary64.specs.Writes.{IsWrittenBinary64, WritesBinary64}
-use Rattle.takum.specs.declared.handed.HandedWord.{HandedWord}
-use Rattle.takum.specs.declared.handed.HandedWhole.{HandedWhole}
-use Rattle.takum.specs.declared.handed.HandedNumber.{HandedNumber}
+use Rattle.takum.specs.declared.handed.words.HandedWord.{HandedWord}
+use Rattle.takum.specs.declared.handed.numbers.HandedWhole.{HandedWhole}
+use Rattle.takum.specs.declared.handed.numbers.HandedNumber.{HandedNumber}
 use Rattle.takum.specs.Handed.{HandsOver, ruleOf, takingOf, wordHanded, wholeHanded, numberHanded}
 use Rattle.promises.specs.Demands.{TheNaRWord}
 use Rattle.promises.specs.Nearest.{TheNumberOutIsTheNearest}

@@ -24,10 +24,10 @@ use Rattle.round.specs.Nearest.{HasValue}
 use Rattle.write.specs.Writes.{isNegative}
 use Rattle.whole.specs.Limits as limits
 use Rattle.whole.proofs.LimitWords.{every-whole-number-up-to-the-limit-has-a-word, the-limit-plus-one-has-no-word}
-use Rattle.takum.specs.declared.handed.HandedWord.{HandedWord}
-use Rattle.takum.specs.declared.handed.HandedReading.{HandedReading}
-use Rattle.takum.specs.declared.handed.HandedComparison.{HandedComparison}
-use Rattle.takum.specs.declared.handed.HandedLimit.{HandedLimit}
+use Rattle.takum.specs.declared.handed.words.HandedWord.{HandedWord}
+use Rattle.takum.specs.declared.handed.words.HandedReading.{HandedReading}
+use Rattle.takum.specs.declared.handed.words.HandedComparison.{HandedComparison}
+use Rattle.takum.specs.declared.handed.widths.HandedLimit.{HandedLimit}
 use Rattle.takum.specs.Handed.{HandsOver, wordHanded, readingHanded, comparisonHanded, limitHanded}
 use Rattle.promises.specs.Demands.{TheEndWords, TheNaRWord}
 use Rattle.promises.specs.Numbers.{IsWhole}

@@ -1,63 +1,23 @@
--- One size beside the multiples of two units, and what follows for words: none has a size that lies strictly between two neighbouring multiples
--- of a unit, the lower one taking 64 bits or more. Assumes nothing.
-use mathlib.Core.Path.{_≡_, refl, sym, ap, _∙_, subst, subst₂}
+-- No word has a size that lies strictly between two neighbouring multiples of a unit, the lower one taking 64 bits or more. Assumes nothing.
+use mathlib.Core.Path.{_≡_, refl, sym, ap, _∙_, subst}
 use mathlib.Core.Bool.{Bool}
 use mathlib.Core.Logic.{_⊎_, inl, inr, ⊎-elim}
 use Prim.Native.Nat.{ℕ, zero, suc, _+_, _-_, _*_, _^_, _≤_, _<_}
-use native.Mathlib.Nat.{mul-le-mul-right, mul-lt-mul-of-pos-right, lt-of-mul-lt-mul-right, mul-le-mul-left, mul-pos, mul-right-comm, mul-assoc, one-mul, two-pow-succ}
+use native.Mathlib.Nat.{mul-le-mul-right, lt-of-mul-lt-mul-right, mul-le-mul-left, mul-pos, mul-right-comm, mul-assoc, one-mul, two-pow-succ}
 use native.Mathlib.Omega.{arith}
 use lib.Dec.{lit≤}
 use lib.IntN.{ℤ, pos, negsuc, _+ℤ_, _-ℤ_, +ℤ-comm, -ℤ-+ℤ-cancel}
 use lib.Pow.{pow-pos}
 use Rattle.word.specs.Reads.{num, den, IsSize}
-use Rattle.word.proofs.Units.{unit-some, cross, aside, raise-size, lower-by}
+use Rattle.word.proofs.Units.{unit-some, raise-size, lower-by}
 use Rattle.round.specs.declared.size.Rest.{Rest}
 use Rattle.round.specs.declared.size.Side.{Side}
 use Rattle.round.specs.Nearest.{IsExact}
 use Rattle.round.specs.Offers.{Amounts, IsOffered, Tells}
 use Rattle.round.specs.Jamming.{Between}
-use Rattle.round.proofs.Halves.{cancel}
+use Rattle.round.proofs.Scales.{coarser, finer}
 use Rattle.round.proofs.Signs.{exact-some}
 use Rattle.round.proofs.Sized.{form}
-
--- both sides may be multiplied by the same number
-times : (s : Side) (d x y : ℕ) → zero < d → Tells s x y → Tells s (x * d) (y * d)
-unfolding Tells
-times Side.Under d x y h t = mul-lt-mul-of-pos-right t h
-times Side.Midway d x y h t = ap (λ (z : ℕ). z * d) t
-times Side.Over d x y h t = mul-lt-mul-of-pos-right t h
-
--- ---- the units 2^k and 2^(k + t): y of the coarse ones are y * 2^t of the fine ones
-module _ (k : ℤ) (t a b : ℕ) where
-  coarse-unit : (y : ℕ) → y * (num (k +ℤ pos t +ℤ pos 307) * b) * den (k +ℤ pos 307) ≡ y * 2 ^ t * (num (k +ℤ pos 307) * b) * den (k +ℤ pos t +ℤ pos 307)
-  coarse-unit y =
-      let x = k +ℤ pos 307 in
-      subst (λ (z : ℤ). y * (num z * b) * den x ≡ y * 2 ^ t * (num x * b) * den z) (sym (aside k t))
-      (together y (num (x +ℤ pos t)) b (den x) ∙ ap (λ (z : ℕ). y * z * b) (cross x t) ∙ apart y (2 ^ t) (num x) (den (x +ℤ pos t)) b)
-    where
-      together : (y u b d : ℕ) → y * (u * b) * d ≡ y * (u * d) * b
-      together y u b d = omega arith
-
-      apart : (y p u d b : ℕ) → y * (p * u * d) * b ≡ y * p * (u * b) * d
-      apart y p u d b = omega arith
-
-  swap : (c x y : ℕ) → c * (a * x) * y ≡ c * (a * y) * x
-  swap c x y = omega arith
-
-  -- so c times the size lies on the same side of both
-  pub coarser : (s : Side) (c y : ℕ) → Tells s (c * (a * den (k +ℤ pos 307))) (y * 2 ^ t * (num (k +ℤ pos 307) * b)) → Tells s (c * (a * den (k +ℤ pos t +ℤ pos 307))) (y * (num (k +ℤ pos t +ℤ pos 307) * b))
-  coarser s c y h =
-      let d = den (k +ℤ pos 307) in
-      let d' = den (k +ℤ pos t +ℤ pos 307) in
-      cancel s d (c * (a * d')) (y * (num (k +ℤ pos t +ℤ pos 307) * b)) (unit-some (k +ℤ pos 307) .1)
-      (subst₂ (Tells s) (swap c d d') (sym (coarse-unit y)) (times s d' (c * (a * d)) (y * 2 ^ t * (num (k +ℤ pos 307) * b)) (unit-some (k +ℤ pos t +ℤ pos 307) .1) h))
-
-  pub finer : (s : Side) (c y : ℕ) → Tells s (c * (a * den (k +ℤ pos t +ℤ pos 307))) (y * (num (k +ℤ pos t +ℤ pos 307) * b)) → Tells s (c * (a * den (k +ℤ pos 307))) (y * 2 ^ t * (num (k +ℤ pos 307) * b))
-  finer s c y h =
-      let d = den (k +ℤ pos 307) in
-      let d' = den (k +ℤ pos t +ℤ pos 307) in
-      cancel s d' (c * (a * d)) (y * 2 ^ t * (num (k +ℤ pos 307) * b)) (unit-some (k +ℤ pos t +ℤ pos 307) .1)
-      (subst₂ (Tells s) (swap c d' d) (coarse-unit y) (times s d (c * (a * d')) (y * (num (k +ℤ pos t +ℤ pos 307) * b)) (unit-some (k +ℤ pos 307) .1) h))
 
 -- ---- two exponents: the one is the other with something added
 beside : (j k : ℤ) → ((t : ℕ) × (j ≡ k +ℤ pos t)) ⊎ ((t : ℕ) × (k ≡ j +ℤ pos (suc t)))
@@ -100,19 +60,24 @@ no-word-between n lo hi s x k a b large nonzero some between w y =
     let t = form n lo hi s (y .z) w (exact-some n lo hi a b nonzero some (y .z) (y .same)) (y .is) in
     none-there (t .1) (t .0 -ℤ pos 63) (y .z) (t .3) (t .4) x large k a b some (y .same) between
 
+-- a size between two multiples of a fine unit lies between two of a coarse one, if those lie outside
+pub coarser-between : (k : ℤ) (t a b y : ℕ) → y * 2 ^ t * (num (k +ℤ pos 307) * b) < a * den (k +ℤ pos 307) → a * den (k +ℤ pos 307) < (y + 1) * 2 ^ t * (num (k +ℤ pos 307) * b) → Between y (k +ℤ pos t) a b
+unfolding Tells
+coarser-between k t a b y above under =
+    record {
+      low = subst (λ (x : ℕ). y * (num (k +ℤ pos t +ℤ pos 307) * b) < x) (one-mul (a * den (k +ℤ pos t +ℤ pos 307))) (coarser k t a b Side.Over 1 y (omega (arith, above)));
+      high = subst (λ (x : ℕ). x < (y + 1) * (num (k +ℤ pos t +ℤ pos 307) * b)) (one-mul (a * den (k +ℤ pos t +ℤ pos 307))) (coarser k t a b Side.Under 1 (y + 1) (omega (arith, under)));
+    }
+
 -- what is offered with 64 bits and something below the last of them lies between two such multiples
 below-unit : (m below : ℕ) (h : ℤ) (a b : ℕ) → 0 < below → below < 2 ^ 64 → 0 < b → IsOffered (m * 2 ^ 64 + below) Rest.Nothing (h -ℤ pos 127) a b → Between m (h -ℤ pos 63) a b
-unfolding IsOffered Amounts Tells
+unfolding IsOffered Amounts
 below-unit m below h a b first last some offered =
-    let k = h -ℤ pos 127 in
-    let x = parts (2 ^ 64) (num (k +ℤ pos 307) * b) (a * den (k +ℤ pos 307)) last (mul-pos (unit-some (k +ℤ pos 307) .0) some) offered in
-    subst (λ (z : ℤ). Between m z a b) (lower-by h 63 127 (lit≤ tt))
-    (record {
-      low = subst (λ (y : ℕ). m * (num (k +ℤ pos 64 +ℤ pos 307) * b) < y) (one-mul (a * den (k +ℤ pos 64 +ℤ pos 307))) (coarser k 64 a b Side.Over 1 m (x .0));
-      high = subst (λ (y : ℕ). y < (m + 1) * (num (k +ℤ pos 64 +ℤ pos 307) * b)) (one-mul (a * den (k +ℤ pos 64 +ℤ pos 307))) (coarser k 64 a b Side.Under 1 (m + 1) (x .1));
-    })
+    let x = h -ℤ pos 127 +ℤ pos 307 in
+    let t = parts (2 ^ 64) (num x * b) (a * den x) last (mul-pos (unit-some x .0) some) offered in
+    subst (λ (z : ℤ). Between m z a b) (lower-by h 63 127 (lit≤ tt)) (coarser-between (h -ℤ pos 127) 64 a b m (t .0) (t .1))
   where
-    parts : (p unit amount : ℕ) → below < p → 0 < unit → amount ≡ (m * p + below) * unit → (m * p * unit < 1 * amount) × (1 * amount < (m + 1) * p * unit)
+    parts : (p unit amount : ℕ) → below < p → 0 < unit → amount ≡ (m * p + below) * unit → (m * p * unit < amount) × (amount < (m + 1) * p * unit)
     parts p unit amount l u q = (omega (arith, q, u, mul-le-mul-right unit first), omega (arith, q, u, mul-le-mul-right unit l))
 
 pub no-finer-word : (n : ℕ) → 2 ≤ n → n ≤ 64 → (s : Bool) (m below : ℕ) (h : ℤ) (a b : ℕ) → 2 ^ 63 ≤ m → m < 2 ^ 64 → 0 < below → below < 2 ^ 64 → 0 < a → 0 < b → IsOffered (m * 2 ^ 64 + below) Rest.Nothing (h -ℤ pos 127) a b → (w : ℕ) → IsExact n s a b w → ⊥

@@ -23,6 +23,9 @@ within m Rest.UnderHalf unit a h x = record { low = omega (arith, x .0); high = 
 within m Rest.Half unit a h x = record { low = omega (arith, x); high = omega (arith, x, h) }
 within m Rest.OverHalf unit a h x = record { low = omega (arith, x .0); high = x .1 }
 
+neither : (x y : ℕ) → ¬ (x < y) → ¬ (y < x) → y ≡ x
+neither x y f g = le-antisymm (not-more f) (not-more g)
+
 -- ---- against a half
 pub half-below : (beyond half : ℕ) (rest : Rest) → beyond < half → TellsHalf beyond half rest Side.Under
 unfolding TellsHalf Tells
@@ -53,6 +56,18 @@ module _ (beyond half : ℕ) (q : beyond ≡ half) where
   unfolding TellsHalf Tells Amounts
   past-over-half = λ base unit a h x. omega (arith, x .0, scaled base unit, h)
 
+-- the order of the two and the rest decide
+pub half-side : (beyond half : ℕ) (rest : Rest) → (side : Side) × TellsHalf beyond half rest side
+half-side beyond half rest = by rest (decLt beyond half) (decLt half beyond)
+  where
+    by : (rest : Rest) → Dec (beyond < half) → Dec (half < beyond) → (side : Side) × TellsHalf beyond half rest side
+    by rest (yes h) d = (Side.Under, half-below beyond half rest h)
+    by rest (no f) (yes h) = (Side.Over, half-above beyond half rest h)
+    by Rest.Nothing (no f) (no g) = (Side.Midway, half-midway beyond half (neither half beyond g f))
+    by Rest.UnderHalf (no f) (no g) = (Side.Over, past-under-half beyond half (neither half beyond g f))
+    by Rest.Half (no f) (no g) = (Side.Over, past-half beyond half (neither half beyond g f))
+    by Rest.OverHalf (no f) (no g) = (Side.Over, past-over-half beyond half (neither half beyond g f))
+
 -- ---- what the bits cut off choose, which stand shifted to the top of 64 bits
 Chosen : ℕ → ℕ → ℕ → Rest → ℕ → Type 0
 Chosen low beyond half rest w = (side : Side) × TellsHalf beyond half rest side × (w ≡ chosenOf low side)
@@ -67,9 +82,6 @@ margin-le low Rest.OverHalf = lit≤ tt
 -- the order of shifted numbers is that of the numbers
 shifted-lt : (t x y : ℕ) → x < y → x * 2 ^ t < y * 2 ^ t
 shifted-lt t x y h = mul-lt-mul-of-pos-right h (pow-pos t)
-
-neither : (x y : ℕ) → ¬ (x < y) → ¬ (y < x) → y ≡ x
-neither x y f g = le-antisymm (not-more f) (not-more g)
 
 module _ (low t beyond half : ℕ) (top : 2 ^ 63 ≡ half * 2 ^ t) where
   up : (rest : Rest) → 2 ^ 63 - marginOf low rest < beyond * 2 ^ t → Dec (half < beyond) → Dec (beyond < half) → Chosen low beyond half rest (low + 1)
@@ -99,6 +111,13 @@ cut-up low cut rest l = λ t beyond half q top. up low t beyond half top rest (s
 pub cut-down : (low cut : ℕ) (rest : Rest) → cut ≤ 2 ^ 63 - marginOf low rest → ChoosesByCut low cut rest low
 unfolding ChoosesByCut Chosen
 cut-down low cut rest l = λ t beyond half q top. down low t beyond half top rest (subst (λ (x : ℕ). x ≤ 2 ^ 63 - marginOf low rest) q l) (decLt beyond half) (decLt half beyond)
+
+pub cut-chooses : (low cut : ℕ) (rest : Rest) → (w : ℕ) × ChoosesByCut low cut rest w
+cut-chooses low cut rest = by (decLt (2 ^ 63 - marginOf low rest) cut)
+  where
+    by : Dec (2 ^ 63 - marginOf low rest < cut) → (w : ℕ) × ChoosesByCut low cut rest w
+    by (yes h) = (low + 1, cut-up low cut rest h)
+    by (no f) = (low, cut-down low cut rest (not-more f))
 
 -- ---- against the midpoint of two powers of two
 pub double : (s : Side) (a x : ℕ) → Tells s a x → Tells s (2 * a) (x + x)
@@ -155,15 +174,15 @@ module _ (i j e m : ℕ) (rest : Rest) (top : m < 2 ^ 64) where
       wide-over l = λ unit a h x y z hy hz. let w = within m rest unit a h x in omega (arith, w .low, one unit y hy, z-is unit z hz, mul-le-mul-right unit l, h)
 
 -- 64 binades apart and m = 2^63: the midpoint lies half a unit on, and the rest decides
+unfoldable pub rest-side : Rest → Side
+rest-side Rest.Nothing = Side.Under
+rest-side Rest.UnderHalf = Side.Under
+rest-side Rest.Half = Side.Midway
+rest-side Rest.OverHalf = Side.Over
+
 module _ (i j e : ℕ) (last : e + 1 ≡ j) (apart : i + 64 ≡ j) where
   ends : (unit y z : ℕ) → y * 2 ^ e ≡ 2 ^ (63 + i) * unit → z * 2 ^ e ≡ 2 ^ (63 + j) * unit → y + z ≡ (2 * 2 ^ 63 + 1) * unit
   ends unit y z hy hz = omega (arith, lowered e (63 + i) 0 unit y (omega arith) hy, lowered e (63 + j) 64 unit z (omega arith) hz)
-
-  rest-side : Rest → Side
-  rest-side Rest.Nothing = Side.Under
-  rest-side Rest.UnderHalf = Side.Under
-  rest-side Rest.Half = Side.Midway
-  rest-side Rest.OverHalf = Side.Over
 
   decided : (rest : Rest) (unit a : ℕ) → zero < unit → Amounts (2 ^ 63) rest a unit → Tells (rest-side rest) (2 * a) ((2 * 2 ^ 63 + 1) * unit)
   unfolding Amounts Tells rest-side
@@ -172,25 +191,22 @@ module _ (i j e : ℕ) (last : e + 1 ≡ j) (apart : i + 64 ≡ j) where
   decided Rest.Half unit a h x = x
   decided Rest.OverHalf unit a h x = x .0
 
-  rest-decides : (m : ℕ) → m ≡ 2 ^ 63 → (rest : Rest) → TellsPowers i j e m rest (rest-side rest)
+  pub rest-decides : (m : ℕ) → m ≡ 2 ^ 63 → (rest : Rest) → TellsPowers i j e m rest (rest-side rest)
   unfolding TellsPowers
   rest-decides m q rest = λ unit a h x y z hy hz. subst (Tells (rest-side rest) (2 * a)) (sym (ends unit y z hy hz)) (decided rest unit a h (subst (λ (k : ℕ). Amounts k rest a unit) q x))
 
-  pub rest-nothing : (m : ℕ) → m ≡ 2 ^ 63 → TellsPowers i j e m Rest.Nothing Side.Under
-  unfolding rest-side
-  rest-nothing m q = rest-decides m q Rest.Nothing
-
-  pub rest-under-half : (m : ℕ) → m ≡ 2 ^ 63 → TellsPowers i j e m Rest.UnderHalf Side.Under
-  unfolding rest-side
-  rest-under-half m q = rest-decides m q Rest.UnderHalf
-
-  pub rest-half : (m : ℕ) → m ≡ 2 ^ 63 → TellsPowers i j e m Rest.Half Side.Midway
-  unfolding rest-side
-  rest-half m q = rest-decides m q Rest.Half
-
-  pub rest-over-half : (m : ℕ) → m ≡ 2 ^ 63 → TellsPowers i j e m Rest.OverHalf Side.Over
-  unfolding rest-side
-  rest-over-half m q = rest-decides m q Rest.OverHalf
+-- one of these decides
+module _ (i j e m : ℕ) (rest : Rest) (up : i < j) (narrow : j ≤ i + 64) (under : e < j) (full : 2 ^ 63 ≤ m) (top : m < 2 ^ 64) where
+  pub powers-side : (side : Side) × TellsPowers i j e m rest side
+  powers-side = by (decLt (e + 1) j) (decLt (j - i) 64) (decLt (2 ^ 63) m)
+    where
+      by : Dec (e + 1 < j) → Dec (j - i < 64) → Dec (2 ^ 63 < m) → (side : Side) × TellsPowers i j e m rest side
+      by (yes h) d d' = (Side.Under, far-under i j e m rest top h)
+      by (no f) (yes h) d =
+          let t = half-side (m - 2 ^ 63) (2 ^ (63 - (j - i))) rest in
+          (t .0, near i j e m rest top (omega (arith, not-more f)) (j - i) (omega (arith, up)) (omega (arith, h)) (t .0) h full (t .1))
+      by (no f) (no g) (yes h) = (Side.Over, wide-over i j e m rest top (omega (arith, not-more f)) (j - i) (omega (arith, up)) (omega (arith, narrow)) (omega (arith, narrow, not-more g)) h)
+      by (no f) (no g) (no k) = (rest-side rest, rest-decides i j e (omega (arith, not-more f)) (omega (arith, narrow, not-more g)) m (omega (arith, full, not-more k)) rest)
 
 -- the same of a rest that is known by an equation
 pub for-half : (beyond half : ℕ) (s : Side) {r r' : Rest} → r ≡ r' → TellsHalf beyond half r' s → TellsHalf beyond half r s

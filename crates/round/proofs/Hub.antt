@@ -7,7 +7,7 @@ use native.Mathlib.Numerals.{add-one}
 use native.Mathlib.Omega.{arith}
 use lib.IntN.{ℤ, pos, negsuc, _-ℤ_}
 use lib.Pow.{pow-pos, pow-mono, shr-lt}
-use Rattle.word.specs.Takum.{S}
+use Rattle.word.specs.Takum.{S, c}
 use Rattle.word.specs.Reads.{num, den}
 use Rattle.bounds.proofs.Powers.{pow-sum, shl-below, shr-none}
 use Rattle.word.proofs.Sizes.{size-above, size-below}
@@ -16,13 +16,13 @@ use Rattle.round.specs.declared.size.Rest.{Rest}
 use Rattle.round.specs.declared.size.Side.{Side}
 use Rattle.round.specs.declared.size.Start.{Start}
 use Rattle.round.specs.Nearest.{HasValue, Nearest}
-use Rattle.round.specs.Offers.{Begins, firstBits, Amounts, IsOffered, IsNearest, IsRaised, Tells, chosenOf}
-use Rattle.round.proofs.Exponents.{offset-up, offset-down}
+use Rattle.round.specs.Offers.{Begins, firstBits, Amounts, IsOffered, IsNearest, IsRaised, Tells, TellsPowers, chosenOf, ChoosesByCut}
+use Rattle.round.proofs.Exponents.{offset-up, offset-down, raised-same}
 use Rattle.round.proofs.Halves.{within}
 use Rattle.round.proofs.Nearest.{NearestPlace, at-first, at-last, nearer-below, nearer-above, midway}
 use Rattle.round.proofs.Strings.{binade-of}
 use Rattle.round.proofs.Floors.{floorString, floor-lt, word-low, word-high}
-use Rattle.round.proofs.Sides.{TellsMidpoint, floor-is}
+use Rattle.round.proofs.Sides.{TellsMidpoint, floor-is, Given, fine-cut, coarse-tells}
 use Rattle.round.proofs.Places.{increasing, two, wordOf, has-value, to-word}
 
 -- a start leaves room for its sign
@@ -133,3 +133,25 @@ module _ (n : ℕ) (lo : 2 ≤ n) (hi : n ≤ 64) where
       by-side w Side.Under t q = subst (IsNearest n h m rest) (sym q) (side-under t)
       by-side w Side.Midway t q = subst (IsNearest n h m rest) (sym q) (side-midway t)
       by-side w Side.Over t q = subst (IsNearest n h m rest) (sym q) (side-over t)
+
+      -- the word with what the side is told by
+      pub given : Given n v e m start
+      given =
+          record {
+            lo = lo;
+            hi = hi;
+            first = first;
+            room = omega (arith, room);
+            full = full;
+            top = top;
+            is = v-is;
+            begins = λ h' q. subst (λ (z : ℤ). Begins z start) (raised-same h h' e is q) begins;
+          }
+
+      -- where the cut falls before the fraction
+      pub by-powers : (i j : ℕ) → n < 5 + start .r → IsRaised (c 64 (v * 2 ^ (64 - n))) i → IsRaised (c 64 ((v + 1) * 2 ^ (64 - n))) j → (w : ℕ) (side : Side) → TellsPowers i j e m rest side → w ≡ chosenOf v side → IsNearest n h m rest w
+      by-powers i j short i-is j-is w side t q = by-side w side (coarse-tells n v e m start given short i j i-is j-is rest side t) q
+
+      -- and where it falls in the fraction
+      pub by-cut : 5 + start .r ≤ n → (w : ℕ) → ChoosesByCut v (m * 2 ^ (n - start .r - 4) % 2 ^ 64) rest w → IsNearest n h m rest w
+      by-cut fine w t = let x = fine-cut n v e m start given rest w fine t in by-side w (x .0) (x .1) (x .2)

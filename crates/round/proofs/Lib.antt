@@ -24,6 +24,8 @@ pub mod Coarse
 pub mod Sides
 -- so the hub gives the nearest positive word, past either end and inside
 pub mod Hub
+-- and a whole class of sizes has one
+pub mod Classes
 -- ---- one size in several units
 -- every size is offered as a fraction, and both parts of a fraction times one number are the same size
 pub mod Scales
@@ -37,13 +39,15 @@ mod Held
 pub mod Sized
 -- two sizes are the same exactly where their normal forms are
 pub mod Exact
--- one size beside the multiples of two units; no word has a size that lies between two multiples of a unit past 64 bits
+-- no word has a size that lies strictly between two multiples of a unit, past 64 bits
 pub mod Finer
 -- ---- what the two rules give
 -- the nearest word with its sign, and what each rule makes of it
 pub mod Rules
 -- there is one rounded word and at most one strict word, a word's own value gives it back, and the ends
 pub mod Rounding
+-- what is cut off below 128 bits may be jammed into the lowest of them; 66 bits would do, 65 would not
+pub mod Jamming
 -- rounding keeps the order of values
 pub mod Order
 -- two outcomes that a contract allows are equal

@@ -1,17 +1,19 @@
 -- A long significand: its first 64 bits with the top one set, what lies below them, and the size that both are offered as. Assumes nothing.
 use mathlib.Core.Path.{_≡_, sym, ap, _∙_, subst, subst₂}
 use Prim.Native.Nat.{ℕ, zero, suc, _+_, _-_, _*_, _/_, _%_, _^_, _≤_, _<_}
-use native.Mathlib.Nat.{add-mul, mul-assoc, mul-comm, mul-right-comm, mul-lt-mul-of-pos-right, mul-le-mul-right, lt-of-mul-lt-mul-right, eq-of-mul-eq-mul-right, le-trans, le-of-eq, le-of-suc-le-suc, le-add-right, lt-of-lt-of-le, mod-lt, mul-pos}
+use native.Mathlib.Nat.{add-mul, mul-assoc, mul-comm, mul-right-comm, mul-lt-mul-of-pos-right, mul-le-mul-right, lt-of-mul-lt-mul-right, le-trans, le-of-eq, le-of-suc-le-suc, le-add-right, lt-of-lt-of-le, mul-pos}
 use native.Mathlib.Omega.{arith}
 use lib.Count.{leadingZeros}
+use lib.Dec.{lit≤}
 use lib.IntN.{ℤ, pos, _+ℤ_, _-ℤ_, +ℤ-negℤ-cancel}
-use lib.Pow.{shl-exact, shl-lt, shr-lt, split, pow-pos, pow-mono}
+use lib.Pow.{shr-lt, split}
 use Rattle.word.specs.Reads.{num, den}
 use Rattle.bounds.proofs.Powers.{pow-sum, shl-below, shl-out, Log, leading-log}
-use Rattle.word.proofs.Units.{unit-some, cross, aside, lower-by}
+use Rattle.word.proofs.Units.{unit-some, lower-by}
 use Rattle.round.specs.declared.size.Rest.{Rest}
-use Rattle.round.specs.Offers.{Amounts, IsOffered, IsRest, topBits}
-use Rattle.round.proofs.Scales.{raise-offer}
+use Rattle.round.specs.declared.size.Side.{Side}
+use Rattle.round.specs.Offers.{Amounts, IsOffered, IsRest, Tells, topBits}
+use Rattle.round.proofs.Scales.{raise-offer, coarser}
 
 -- ---- what lies below the last unit is under a half of it, a half, or over
 module _ (m below x unit : ℕ) (some : zero < unit) (fits : below < 2 ^ 64) (is : x * 2 ^ 64 ≡ (m * 2 ^ 64 + below) * unit) where
@@ -33,31 +35,15 @@ module _ (m below x unit : ℕ) (some : zero < unit) (fits : below < 2 ^ 64) (is
 
 -- ---- the size of 128 bits in the units of its first 64
 pub finer-offer : (m below : ℕ) (rest : Rest) (h : ℤ) (a b : ℕ) → 0 < b → below < 2 ^ 64 → IsRest below rest → IsOffered (m * 2 ^ 64 + below) Rest.Nothing (h -ℤ pos 127) a b → IsOffered m rest (h -ℤ pos 63) a b
-unfolding IsOffered Amounts
-finer-offer m below rest h a b some fits is offered = subst (λ (z : ℤ). Amounts m rest (a * den z) (num z * b)) up (rest-amounts m below (a * den y) (num y * b) (mul-pos (unit-some y .0) some) fits units rest is)
+unfolding IsOffered Amounts Tells
+finer-offer m below rest h a b some fits is offered =
+    let k = h -ℤ pos 127 in
+    let y = k +ℤ pos 64 +ℤ pos 307 in
+    subst (λ (z : ℤ). Amounts m rest (a * den (z +ℤ pos 307)) (num (z +ℤ pos 307) * b)) (lower-by h 63 127 (lit≤ tt))
+    (rest-amounts m below (a * den y) (num y * b) (mul-pos (unit-some y .0) some) fits (mul-comm (a * den y) (2 ^ 64) ∙ coarser k 64 a b Side.Midway (2 ^ 64) (m * 2 ^ 64 + below) (times (m * 2 ^ 64 + below) (a * den (k +ℤ pos 307)) (num (k +ℤ pos 307) * b) offered)) rest is)
   where
-    x : ℤ
-    x = h -ℤ pos 127 +ℤ pos 307
-
-    y : ℤ
-    y = x +ℤ pos 64
-
-    up : y ≡ h -ℤ pos 63 +ℤ pos 307
-    up = sym (aside (h -ℤ pos 127) 64) ∙ ap (λ (z : ℤ). z +ℤ pos 307) (lower-by h 63 127 (omega arith))
-
-    X : ℕ
-    X = m * 2 ^ 64 + below
-
-    units : a * den y * 2 ^ 64 ≡ X * (num y * b)
-    units =
-        eq-of-mul-eq-mul-right (den x) (unit-some x .1) (a * den y * 2 ^ 64) (X * (num y * b))
-        (mul-right-comm (a * den y) (2 ^ 64) (den x) ∙ ap (λ (z : ℕ). z * 2 ^ 64) (mul-right-comm a (den y) (den x) ∙ ap (λ (z : ℕ). z * den y) offered) ∙ other (X) (num x) b (den y) (2 ^ 64) ∙ ap (λ (z : ℕ). X * (z * b)) (sym (cross x 64)) ∙ sym (back X (num y) (den x) b))
-      where
-        other : (X n b d t : ℕ) → X * (n * b) * d * t ≡ X * (t * n * d * b)
-        other X n b d t = omega arith
-
-        back : (X n d b : ℕ) → X * (n * b) * d ≡ X * (n * d * b)
-        back X n d b = omega arith
+    times : (x y z : ℕ) → y ≡ x * z → 2 ^ 64 * y ≡ x * 2 ^ 64 * z
+    times x y z q = ap (λ (v : ℕ). 2 ^ 64 * v) q ∙ sym (mul-assoc (2 ^ 64) x z) ∙ ap (λ (v : ℕ). v * z) (mul-comm (2 ^ 64) x)
 
 -- two numbers in a row, shifted by so many zeros, stay within 64 bits
 pub high-room : (high low zeros : ℕ) → zeros ≤ 63 → high * 2 ^ zeros < 2 ^ 64 → low < 2 ^ 64 → high * 2 ^ zeros + low / 2 ^ (64 - zeros) < 2 ^ 64

@@ -14,7 +14,7 @@ use Rattle.word.specs.Takum.{real}
 use Rattle.word.specs.Reads.{signedSize}
 use Rattle.round.specs.declared.value.Rule.{Rule}
 use Rattle.round.specs.Nearest.{HasValue, Nearest, IsRounded, zero, other, IsExact, IsWritten}
-use Rattle.round.proofs.Nearest.{at-first, at-last, midway}
+use Rattle.round.proofs.Nearest.{at-first, at-last, nearer-above, midway}
 use Rattle.round.proofs.Places.{increasing, not-decreasing, two, wordOf, Place, place-of, value-is, to-word, from-word, nearest-exists, nearest-one}
 use Rattle.round.proofs.Rules.{zero-value}
 use Rattle.round.proofs.Signs.{exact-nearest}
@@ -73,6 +73,14 @@ module _ (n : ℕ) (lo : 2 ≤ n) (hi : n ≤ 64) where
         to-word n lo hi false a b (v + v % 2)
         (midway (grown n) (2 ^ (n - 1)) a b (increasing n lo hi) some v first room (subst (λ (x : ℕ). x * b ≤ a) low-is (omega (arith, sum, rise))) (subst (λ (x : ℕ). a ≤ x * b) high-is (omega (arith, sum, rise)))
         (sum ∙ ap₂ (λ (x y : ℕ). x * b + y * b) low-is high-is))
+
+    -- past midway, the upper one
+    pub over-nearest : (z + z') * b < 2 * a → a ≤ z' * b → Nearest n false a b (suc v)
+    unfolding wordOf
+    over-nearest l h =
+        to-word n lo hi false a b (suc v)
+        (nearer-above (grown n) (2 ^ (n - 1)) a b (increasing n lo hi) some v first room (subst (λ (x : ℕ). x * b ≤ a) low-is (omega (arith, l, rise))) (subst (λ (x : ℕ). a ≤ x * b) high-is h)
+        (subst₂ (λ (x y : ℕ). x * b + y * b < 2 * a) low-is high-is (omega (arith, l))))
 
     -- no word has a value between theirs
     pub none-between : z * b < a → a < z' * b → (w : ℕ) → IsExact n false a b w → ⊥

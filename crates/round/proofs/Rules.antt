@@ -16,7 +16,7 @@ use Rattle.word.proofs.Words.{takum-zero}
 use Rattle.round.specs.declared.value.Rule.{Rule}
 use Rattle.round.specs.declared.size.Rest.{Rest}
 use Rattle.round.specs.Nearest.{HasValue, Nearest, zero, other, IsWritten}
-use Rattle.round.specs.Offers.{Amounts, IsOffered, IsRest, IsNearest, RoundsSize, TellsSize, withSign, WritesSize, WritesFiner, Settles}
+use Rattle.round.specs.Offers.{Amounts, IsOffered, IsRest, IsNearest, RoundsSize, TellsSize, withSign, WritesSize, WritesFiner}
 use Rattle.word.proofs.Units.{unit-some}
 use Rattle.round.proofs.Finer.{no-finer-word}
 use Rattle.round.proofs.Long.{finer-offer}
@@ -33,32 +33,40 @@ unfolding IsWritten
 zero-written n lo hi Rule.Rounded s a b q = zero q refl
 zero-written n lo hi Rule.Strict s a b q = record { z = 0; is = zero-value n lo hi s; same = zero-mul b ∙ sym q }
 
-module _ (n : ℕ) (lo : 2 ≤ n) (hi : n ≤ 64) (h : ℤ) (m w : ℕ) (near : IsNearest n h m Rest.Nothing w) where
-  at-all : Nearest n false (m * num (h -ℤ pos 63 +ℤ pos 307)) (den (h -ℤ pos 63 +ℤ pos 307)) w
-  unfolding IsNearest
-  at-all = near (m * num (h -ℤ pos 63 +ℤ pos 307)) (den (h -ℤ pos 63 +ℤ pos 307)) (unit-some (h -ℤ pos 63 +ℤ pos 307) .1) (plain-offer m (h -ℤ pos 63))
+-- every class has a size
+some-rest : (rest : Rest) → (below : ℕ) × (below < 2 ^ 64) × IsRest below rest
+unfolding IsRest
+some-rest Rest.Nothing = (0, lit< tt, refl)
+some-rest Rest.UnderHalf = (1, lit< tt, (lit< tt, lit< tt))
+some-rest Rest.Half = (2 ^ 63, lit< tt, refl)
+some-rest Rest.OverHalf = (2 ^ 63 + 1, lit< tt, lit< tt)
 
+module _ (n : ℕ) (lo : 2 ≤ n) (hi : n ≤ 64) (h : ℤ) (m : ℕ) (rest : Rest) (w : ℕ) (near : IsNearest n h m rest w) where
   pub is-positive : (0 < w) × (w < 2 ^ (n - 1))
-  is-positive = nearest-positive n lo hi (m * num (h -ℤ pos 63 +ℤ pos 307)) (den (h -ℤ pos 63 +ℤ pos 307)) w at-all
+  unfolding IsNearest
+  is-positive =
+      let x = some-rest rest in
+      let some = unit-some (h -ℤ pos 127 +ℤ pos 307) .1 in
+      nearest-positive n lo hi _ _ w (near _ _ some (finer-offer m (x .0) rest h _ _ some (x .1) (x .2) (plain-offer (m * 2 ^ 64 + x .0) (h -ℤ pos 127))))
 
-  pub signed-size : (s : Bool) → RoundsSize n s h m (withSign n s w)
+  pub signed-size : (s : Bool) → RoundsSize n s h m rest (withSign n s w)
   unfolding RoundsSize IsNearest
   signed-size s = λ a b some offered. signed-nearest n lo hi s a b w (near a b some offered)
 
 -- ---- what each rule makes of it
-module _ (n : ℕ) (lo : 2 ≤ n) (hi : n ≤ 64) (h : ℤ) (m w : ℕ) where
-  pub rounded-word : Settles n Rule.Rounded h m w (Answer.Word w)
-  unfolding Settles RoundsSize WritesSize IsWritten
-  rounded-word s near = λ a b nonzero some offered. other nonzero (near a b some offered)
+module _ (n : ℕ) (lo : 2 ≤ n) (hi : n ≤ 64) (s : Bool) (h : ℤ) (m w : ℕ) (near : RoundsSize n s h m Rest.Nothing w) where
+  pub rounded-word : WritesSize n Rule.Rounded s h m (Answer.Word w)
+  unfolding RoundsSize WritesSize IsWritten
+  rounded-word = λ a b nonzero some offered. other nonzero (near a b some offered)
 
-  pub strict-word : TellsSize n w h m true → Settles n Rule.Strict h m w (Answer.Word w)
-  unfolding Settles RoundsSize WritesSize IsWritten TellsSize
-  strict-word exact s near = λ a b nonzero some offered. let x = near a b some offered in
+  pub strict-word : TellsSize n w h m true → WritesSize n Rule.Strict s h m (Answer.Word w)
+  unfolding RoundsSize WritesSize IsWritten TellsSize
+  strict-word exact = λ a b nonzero some offered. let x = near a b some offered in
       record { z = x .z; is = x .is; same = exact s (x .z) a b (x .some) (x .is) some offered }
 
-  pub strict-refusal : TellsSize n w h m false → Settles n Rule.Strict h m w (Answer.Refused Refusal.Inexact)
-  unfolding Settles RoundsSize WritesSize IsWritten TellsSize
-  strict-refusal inexact s near = λ a b nonzero some offered. (
+  pub strict-refusal : TellsSize n w h m false → WritesSize n Rule.Strict s h m (Answer.Refused Refusal.Inexact)
+  unfolding RoundsSize WritesSize IsWritten TellsSize
+  strict-refusal inexact = λ a b nonzero some offered. (
     refl,
     λ w' y.
         let same = nearest-one n lo hi s a b w' w some (exact-nearest n lo hi a b nonzero some s w' y) (near a b some offered) in
@@ -67,19 +75,9 @@ module _ (n : ℕ) (lo : 2 ≤ n) (hi : n ≤ 64) (h : ℤ) (m w : ℕ) where
 
 -- ---- a size with something below its last unit
 module _ (n : ℕ) (lo : 2 ≤ n) (hi : n ≤ 64) (h : ℤ) (m below : ℕ) (fits : below < 2 ^ 64) where
-  module _ (rest : Rest) (is : IsRest below rest) (w : ℕ) (near : IsNearest n h m rest w) where
-    of-size : (a b : ℕ) → 0 < b → IsOffered (m * 2 ^ 64 + below) Rest.Nothing (h -ℤ pos 127) a b → Nearest n false a b w
-    unfolding IsNearest
-    of-size a b some offered = near a b some (finer-offer m below rest h a b some fits is offered)
-
-    pub finer-positive : (0 < w) × (w < 2 ^ (n - 1))
-    finer-positive =
-        let x = h -ℤ pos 127 +ℤ pos 307 in
-        nearest-positive n lo hi _ _ w (of-size _ _ (unit-some x .1) (plain-offer (m * 2 ^ 64 + below) (h -ℤ pos 127)))
-
-    pub finer-word : (s : Bool) → WritesFiner n Rule.Rounded s h m below (Answer.Word (withSign n s w))
-    unfolding WritesFiner IsWritten
-    finer-word s = λ a b nonzero some offered. other nonzero (signed-nearest n lo hi s a b w (of-size a b some offered))
+  pub finer-word : (rest : Rest) → IsRest below rest → (s : Bool) (w : ℕ) → RoundsSize n s h m rest w → WritesFiner n Rule.Rounded s h m below (Answer.Word w)
+  unfolding WritesFiner RoundsSize IsWritten
+  finer-word rest is s w near = λ a b nonzero some offered. other nonzero (near a b some (finer-offer m below rest h a b some fits is offered))
 
   pub finer-refusal : 2 ^ 63 ≤ m → m < 2 ^ 64 → 0 < below → (s : Bool) → WritesFiner n Rule.Strict s h m below (Answer.Refused Refusal.Inexact)
   unfolding WritesFiner IsWritten

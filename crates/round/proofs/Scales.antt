@@ -1,21 +1,20 @@
 -- One size under several units: a power of two moves between significand and exponent, and a fraction between its two parts. Assumes nothing.
-use mathlib.Core.Path.{_≡_, refl, sym, ap, ap₂, _∙_, subst, subst₂}
-use mathlib.Core.Bool.{Bool, true, false, cond}
+use mathlib.Core.Path.{_≡_, sym, ap, ap₂, _∙_, subst, subst₂}
+use mathlib.Core.Bool.{Bool}
 use mathlib.Core.Logic.{⊎-elim}
 use Prim.Native.Nat.{ℕ, zero, suc, _-_, _*_, _^_, _≤_, _<_}
-use native.Mathlib.Nat.{mul-one, one-mul, mul-comm, mul-assoc, mul-right-comm, eq-of-mul-eq-mul-right, mul-le-mul-right, le-of-mul-le-mul-right, mul-sub, mul-pos, zero-mul}
+use native.Mathlib.Nat.{mul-comm, mul-assoc, mul-right-comm, eq-of-mul-eq-mul-right, mul-le-mul-right, mul-lt-mul-of-pos-right, le-of-mul-le-mul-right, mul-sub, mul-pos, zero-mul}
 use native.Mathlib.Omega.{arith}
-use borrow.Author.Tests.{ltb-true, ltb-false}
-use lib.Dec.{ltb}
-use lib.IntN.{ℤ, pos, negsuc, negℤ, _+ℤ_, _-ℤ_, +ℤ-assoc, +ℤ-comm}
-use lib.Pow.{pow-add}
+use lib.IntN.{ℤ, pos, _+ℤ_}
 use Rattle.word.specs.Reads.{num, den, IsSize}
 use Rattle.bounds.specs.declared.answer.Answer.{Answer}
 use Rattle.round.specs.declared.value.Rule.{Rule}
 use Rattle.round.specs.declared.size.Rest.{Rest}
+use Rattle.round.specs.declared.size.Side.{Side}
 use Rattle.round.specs.Nearest.{distance, Nearest, IsRounded, zero, other, IsExact, IsWritten}
-use Rattle.round.specs.Offers.{IsOffered, Amounts}
+use Rattle.round.specs.Offers.{IsOffered, Amounts, Tells}
 use Rattle.word.proofs.Units.{unit-some, cross, aside}
+use Rattle.round.proofs.Halves.{cancel}
 use Rattle.round.proofs.Nearest.{distance-below, distance-above, either-side}
 
 -- every m * 2^k is offered as a fraction
@@ -30,6 +29,45 @@ raise-offer m k t =
     let x = k +ℤ pos 307 in
     subst (λ (y : ℤ). m * num y * den x ≡ m * 2 ^ t * (num x * den y)) (sym (aside k t))
     (mul-assoc m (num (x +ℤ pos t)) (den x) ∙ ap (λ (y : ℕ). m * y) (cross x t ∙ mul-assoc (2 ^ t) (num x) (den (x +ℤ pos t))) ∙ sym (mul-assoc m (2 ^ t) (num x * den (x +ℤ pos t))))
+
+-- both sides may be multiplied by the same number
+times : (s : Side) (d x y : ℕ) → zero < d → Tells s x y → Tells s (x * d) (y * d)
+unfolding Tells
+times Side.Under d x y h t = mul-lt-mul-of-pos-right t h
+times Side.Midway d x y h t = ap (λ (z : ℕ). z * d) t
+times Side.Over d x y h t = mul-lt-mul-of-pos-right t h
+
+-- ---- the units 2^k and 2^(k + t): y of the coarse ones are y * 2^t of the fine ones
+module _ (k : ℤ) (t a b : ℕ) where
+  coarse-unit : (y : ℕ) → y * (num (k +ℤ pos t +ℤ pos 307) * b) * den (k +ℤ pos 307) ≡ y * 2 ^ t * (num (k +ℤ pos 307) * b) * den (k +ℤ pos t +ℤ pos 307)
+  coarse-unit y =
+      let x = k +ℤ pos 307 in
+      subst (λ (z : ℤ). y * (num z * b) * den x ≡ y * 2 ^ t * (num x * b) * den z) (sym (aside k t))
+      (together y (num (x +ℤ pos t)) b (den x) ∙ ap (λ (z : ℕ). y * z * b) (cross x t) ∙ apart y (2 ^ t) (num x) (den (x +ℤ pos t)) b)
+    where
+      together : (y u b d : ℕ) → y * (u * b) * d ≡ y * (u * d) * b
+      together y u b d = omega arith
+
+      apart : (y p u d b : ℕ) → y * (p * u * d) * b ≡ y * p * (u * b) * d
+      apart y p u d b = omega arith
+
+  swap : (c x y : ℕ) → c * (a * x) * y ≡ c * (a * y) * x
+  swap c x y = omega arith
+
+  -- so c times the size lies on the same side of both
+  pub coarser : (s : Side) (c y : ℕ) → Tells s (c * (a * den (k +ℤ pos 307))) (y * 2 ^ t * (num (k +ℤ pos 307) * b)) → Tells s (c * (a * den (k +ℤ pos t +ℤ pos 307))) (y * (num (k +ℤ pos t +ℤ pos 307) * b))
+  coarser s c y h =
+      let d = den (k +ℤ pos 307) in
+      let d' = den (k +ℤ pos t +ℤ pos 307) in
+      cancel s d (c * (a * d')) (y * (num (k +ℤ pos t +ℤ pos 307) * b)) (unit-some (k +ℤ pos 307) .1)
+      (subst₂ (Tells s) (swap c d d') (sym (coarse-unit y)) (times s d' (c * (a * d)) (y * 2 ^ t * (num (k +ℤ pos 307) * b)) (unit-some (k +ℤ pos t +ℤ pos 307) .1) h))
+
+  pub finer : (s : Side) (c y : ℕ) → Tells s (c * (a * den (k +ℤ pos t +ℤ pos 307))) (y * (num (k +ℤ pos t +ℤ pos 307) * b)) → Tells s (c * (a * den (k +ℤ pos 307))) (y * 2 ^ t * (num (k +ℤ pos 307) * b))
+  finer s c y h =
+      let d = den (k +ℤ pos 307) in
+      let d' = den (k +ℤ pos t +ℤ pos 307) in
+      cancel s d' (c * (a * d)) (y * 2 ^ t * (num (k +ℤ pos 307) * b)) (unit-some (k +ℤ pos t +ℤ pos 307) .1)
+      (subst₂ (Tells s) (swap c d' d) (coarse-unit y) (times s d (c * (a * d')) (y * (num (k +ℤ pos t +ℤ pos 307) * b)) (unit-some (k +ℤ pos 307) .1) h))
 
 -- ---- a size that is offered as a / b, and z beside it
 module _ (m : ℕ) (k : ℤ) (a b : ℕ) (some : zero < b) (offered : IsOffered m Rest.Nothing k a b) (z : ℕ) where

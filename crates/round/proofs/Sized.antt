@@ -1,14 +1,14 @@
 -- A word that has a size, with either sign, has it at the top of 64 bits in the normal form. Assumes nothing.
 use mathlib.Core.Path.{_≡_, refl, sym, ap, _∙_, subst}
 use mathlib.Core.Bool.{Bool}
-use Prim.Native.Nat.{ℕ, zero, suc, _+_, _-_, _*_, _^_, _≤_, _<_}
+use Prim.Native.Nat.{ℕ, zero, _+_, _-_, _*_, _^_, _≤_, _<_}
 use native.Mathlib.Omega.{arith}
 use lib.Dec.{ltb}
 use lib.IntN.{ℤ, pos, natAbs, _-ℤ_}
 use Rattle.word.specs.declared.size.Size.{Size}
 use Rattle.word.specs.Reads.{IsSize, signedSize}
 use Rattle.word.specs.Sizes.{withoutSign, Sizes}
-use Rattle.word.specs.Takum.{takum, real, NaR, p, F, c}
+use Rattle.word.specs.Takum.{takum, real, p, F, c}
 use Rattle.word.proofs.Tops.{word-number}
 use Rattle.word.proofs.Values.{real-inj, absolute, no-sign, not-NaR}
 use Rattle.word.proofs.Words.{takum-zero, takum-NaR}

@@ -3,18 +3,20 @@
 use mathlib.Core.Path.{_≡_, ap, _∙_, subst}
 use mathlib.Core.Bool.{Bool, _&&_}
 use Prim.Native.Nat.{ℕ, _+_, _-_, _*_, _/_, _%_, _^_, _≤_, _<_}
-use native.Mathlib.Nat.{mod-lt, le-of-suc-le-suc, le-trans, lt-of-le-of-lt, add-le-add, mul-le-mul, mul-le-mul-right, two-pow-succ}
+use native.Mathlib.Nat.{mod-lt, le-of-suc-le-suc, le-trans, lt-of-le-of-lt, add-le-add, mul-le-mul, mul-le-mul-right, two-pow-succ, add-sub-cancel}
 use native.Mathlib.Omega.{arith}
 use lib.Dec.{T, eqb, eqb→eq, lit<}
 use lib.IntN.{ℤ, pos, negsuc}
+use lib.Signed.{mag}
 use lib.Pow.{pow-pos, pow-mono, shl-exact, shr-lt, split}
 use Rattle.word.specs.Takum as Takum
 use Rattle.word.specs.Takum.{regimeOf, characteristicOf, S, D, R, r, p, C, F, c}
 use Rattle.word.proofs.Heads.{below, at-each, both}
 use Rattle.word.proofs.Integers.{same-integer, same-integer-is}
 use Rattle.bounds.proofs.Powers.{Log, pow-sum}
-use Rattle.bounds.proofs.Limits.{exponent-lt}
+use Rattle.bounds.proofs.Limits.{exponent-lt, log}
 use Rattle.word.proofs.Cut.{S-head, r-head, c-head}
+use Rattle.round.specs.declared.size.Start.{Start}
 use Rattle.round.specs.Offers.{Begins}
 
 -- the bits for the characteristics 2^ρ - 1 + i and -2^ρ - i, i below 2^ρ
@@ -131,3 +133,14 @@ module _ (ρ size : ℕ) (log : Log ρ size) (most : size ≤ 255) where
 
   pub upper-small : (7 + ρ) * 2 ^ ρ + size < 4096
   upper-small = lt-of-le-of-lt (add-le-add (mul-le-mul {n₁ = 7 + ρ} {n₂ = 14} (omega (arith, regime-small)) power-small) most) (lit< tt)
+
+-- every characteristic has its start
+pub start-exists : (h : ℤ) → mag h ≤ 254 → (start : Start) × Begins h start
+start-exists (pos i) b =
+    let t = log (i + 1) (omega arith) in
+    let start : Start = record { bits = (7 + t .0) * 2 ^ t .0 + (i + 1); r = t .0 } in
+    (start, subst (λ (x : ℕ). Begins (pos x) start) (add-sub-cancel i 1) (upper-begins (t .0) (i + 1) (record { low = t .1; high = t .2 }) (omega (arith, b))))
+start-exists (negsuc i) b =
+    let t = log (i + 1) (omega arith) in
+    let start : Start = record { bits = (9 - t .0) * 2 ^ t .0 - 1 - (i + 1); r = t .0 } in
+    (start, subst (λ (x : ℕ). Begins (negsuc x) start) (add-sub-cancel i 1) (lower-begins (t .0) (i + 1) (record { low = t .1; high = t .2 }) (omega (arith, b))))

@@ -3,7 +3,7 @@ use mathlib.Core.Path.{_≡_}
 use mathlib.Core.Bool.{Bool, true, false}
 use mathlib.Core.Logic.{_⊎_}
 use Prim.Native.Nat.{ℕ, _+_, _-_, _*_, _%_, _^_, _≤_, _<_, max, min}
-use lib.IntN.{pos, _+ℤ_}
+use lib.IntN.{ℤ, pos, _+ℤ_}
 use Rattle.bounds.specs.declared.answer.Answer.{Answer}
 use Rattle.bounds.specs.declared.refusal.Refusal.{Refusal}
 use Rattle.word.specs.Takum.{real, takum}
@@ -48,11 +48,11 @@ IsWritten n Rule.Rounded negative a b (Answer.Refused q) = ⊥
 IsWritten n Rule.Strict negative a b (Answer.Word w) = IsExact n negative a b w
 IsWritten n Rule.Strict negative a b (Answer.Refused q) = (q ≡ Refusal.Inexact) × ((w : ℕ) → IsExact n negative a b w → ⊥)
 
--- the significand of a long value, of two numbers
-unfoldable pub significand : LongValue → ℕ
-significand v = v .high * 2 ^ 64 + v .low
+-- ---- what the calls answer
+-- WIDTH, then INEXACT; m * 2^k is offered as a fraction counted in 2^-307
+unfoldable pub WritesShort : ℕ → Rule → Bool → ℕ → ℤ → Answer → Type 0
+WritesShort n rule negative m k r = Decided (widthTest n) (λ q. r ≡ Answer.Refused q) (IsWritten n rule negative (m * num (k +ℤ pos 307)) (den (k +ℤ pos 307)) r)
 
--- ---- what the call answers
--- WIDTH, then INEXACT; the value is offered as a fraction counted in 2^-307
+-- the same of two numbers in a row, which are one significand of 128 bits
 unfoldable pub WritesLong : ℕ → Rule → LongValue → Answer → Type 0
-WritesLong n rule v r = Decided (widthTest n) (λ q. r ≡ Answer.Refused q) (IsWritten n rule (v .negative) (significand v * num (v .k +ℤ pos 307)) (den (v .k +ℤ pos 307)) r)
+WritesLong n rule v r = WritesShort n rule (v .negative) (v .high * 2 ^ 64 + v .low) (v .k) r

@@ -28,9 +28,9 @@ IsOffered m rest k a b = Amounts m rest (a * den (k +ℤ pos 307)) (num (k +ℤ 
 unfoldable pub IsNearest : ℕ → ℤ → ℕ → Rest → ℕ → Type 0
 IsNearest n h m rest w = (a b : ℕ) → 0 < b → IsOffered m rest (h -ℤ pos 63) a b → Nearest n false a b w
 
--- the word of the sign that is nearest to every exact size that is so offered, with nothing below its last unit
-unfoldable pub RoundsSize : ℕ → Bool → ℤ → ℕ → ℕ → Type 0
-RoundsSize n negative h m w = (a b : ℕ) → 0 < b → IsOffered m Rest.Nothing (h -ℤ pos 63) a b → Nearest n negative a b w
+-- the word of the sign that is nearest to every exact size that is so offered
+unfoldable pub RoundsSize : ℕ → Bool → ℤ → ℕ → Rest → ℕ → Type 0
+RoundsSize n negative h m rest w = (a b : ℕ) → 0 < b → IsOffered m rest (h -ℤ pos 63) a b → Nearest n negative a b w
 
 -- whether the size z of a word is the one that is offered
 unfoldable pub TellsSize : ℕ → ℕ → ℤ → ℕ → Bool → Type 0
@@ -109,7 +109,3 @@ IsRest below Rest.Nothing = below ≡ 0
 IsRest below Rest.UnderHalf = (0 < below) × (below < 2 ^ 63)
 IsRest below Rest.Half = below ≡ 2 ^ 63
 IsRest below Rest.OverHalf = 2 ^ 63 < below
-
--- what the rule makes of the nearest word
-unfoldable pub Settles : ℕ → Rule → ℤ → ℕ → ℕ → Answer → Type 0
-Settles n rule h m w r = (negative : Bool) → RoundsSize n negative h m w → WritesSize n rule negative h m r

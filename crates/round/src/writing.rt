@@ -10,28 +10,32 @@ use bounds::width::Width;
 use word::size::size_of;
 ghost use mathlib.Core.Path.{_≡_};
 ghost use Prim.Native.Nat.{_+_, _-_, _*_, _^_, _≤_, _<_};
-ghost use Rattle.round.specs.Nearest.{WritesLong};
-ghost use Rattle.round.specs.Offers.{RoundsSize, Settles, TellsSize, IsRest, WritesSize, WritesFiner, WritesTimes, topBits, withSign};
+ghost use Rattle.round.specs.declared.value.Rule.{Rule};
+ghost use Rattle.round.specs.Nearest.{WritesLong, WritesShort};
+ghost use Rattle.round.specs.Offers.{RoundsSize, TellsSize, IsRest, WritesSize, WritesFiner, WritesTimes, topBits, withSign};
 
 // The word for a long value: the nearest, or exactly that value or INEXACT.
 pub fn write_long(width: Width, rule: Rule, value: LongValue) -> Answer
     ensures { λ r. ⌜ WritesLong (width .bits) rule value r ⌝ }
 {
+    if value.high == 0 {
+        return write_short(width, rule, value.negative, value.low, value.k);
+    }
     let verdict = width.test();
     if let Verdict::Refused(q) = verdict {
         return Answer::Refused(q);
     }
-    if value.high == 0 {
-        return write_short(width, rule, value.negative, value.low, value.k);
-    }
     write_full(width, rule, value.negative, value.high, value.low, value.k)
 }
 
-// The word for m * 2^k with its sign.
-fn write_short(width: Width, rule: Rule, negative: bool, m: u64, k: i32) -> Answer
-    requires { ⌜ (2 ≤ width .bits) × (width .bits ≤ 64) ⌝ }
-    ensures { λ r. ⌜ WritesTimes (width .bits) rule negative m k r ⌝ }
+// The same of m * 2^k with its sign. Most values are so short, so this is a call by itself, which is compiled where it is made.
+pub fn write_short(width: Width, rule: Rule, negative: bool, m: u64, k: i32) -> Answer
+    ensures { λ r. ⌜ WritesShort (width .bits) rule negative m k r ⌝ }
 {
+    let verdict = width.test();
+    if let Verdict::Refused(q) = verdict {
+        return Answer::Refused(q);
+    }
     if m == 0 {
         return Answer::Word(0);
     }
@@ -40,7 +44,7 @@ fn write_short(width: Width, rule: Rule, negative: bool, m: u64, k: i32) -> Answ
     write_size(width, rule, negative, h, m << zeros)
 }
 
-// The same with a significand that goes past 64 bits. Its first 64 bits stand in m, the others below.
+// What is written for a significand that goes past 64 bits. Its first 64 stand in m, the others below.
 fn write_full(width: Width, rule: Rule, negative: bool, high: u64, low: u64, k: i32) -> Answer
     requires { ⌜ (2 ≤ width .bits) × (width .bits ≤ 64) × (0 < high) ⌝ }
     ensures { λ r. ⌜ WritesTimes (width .bits) rule negative (high * 2 ^ 64 + low) k r ⌝ }
@@ -63,12 +67,28 @@ fn top_bits(high: u64, low: u64, zeros: u32) -> u64
     (high << zeros) + ((low >> 1) >> (63 - zeros))
 }
 
-// The word for the size m * 2^(h - 63) with its sign.
+// The word for the size m * 2^(h - 63) with its sign. `rounded` is called in two functions: so it is compiled once, and the rule where it
+// is known.
 fn write_size(width: Width, rule: Rule, negative: bool, h: i64, m: u64) -> Answer
     requires { ⌜ (2 ≤ width .bits) × (width .bits ≤ 64) × (2 ^ 63 ≤ m) ⌝ }
     ensures { λ r. ⌜ WritesSize (width .bits) rule negative h m r ⌝ }
 {
-    by_rule(width, rule, h, m, rounded(width.bits, negative, h, m))
+    match rule {
+        Rule::Rounded => Answer::Word(rounded(width.bits, negative, h, m, Rest::Nothing)),
+        Rule::Strict => write_strictly(width, negative, h, m),
+    }
+}
+
+// The nearest word where it has exactly the size; if any word has it, that is the nearest.
+fn write_strictly(width: Width, negative: bool, h: i64, m: u64) -> Answer
+    requires { ⌜ (2 ≤ width .bits) × (width .bits ≤ 64) × (2 ^ 63 ≤ m) ⌝ }
+    ensures { λ r. ⌜ WritesSize (width .bits) Rule.Strict negative h m r ⌝ }
+{
+    let word = rounded(width.bits, negative, h, m, Rest::Nothing);
+    if has_size(width.bits, word, h, m) {
+        return Answer::Word(word);
+    }
+    Answer::Refused(Refusal::Inexact)
 }
 
 // The same where something lies below the last unit of m, counted in 2^-64 of it: no word has so many bits, so none has exactly the size.
@@ -77,10 +97,7 @@ fn write_finer(width: Width, rule: Rule, negative: bool, h: i64, m: u64, below: 
     ensures { λ r. ⌜ WritesFiner (width .bits) rule negative h m below r ⌝ }
 {
     match rule {
-        Rule::Rounded => {
-            let word = nearest(width.bits, h, m, rest_of(below));
-            Answer::Word(with_sign(width.bits, negative, word))
-        }
+        Rule::Rounded => Answer::Word(rounded(width.bits, negative, h, m, rest_of(below))),
         Rule::Strict => Answer::Refused(Refusal::Inexact),
     }
 }
@@ -101,29 +118,12 @@ fn rest_of(below: u64) -> Rest
     Rest::OverHalf
 }
 
-// The word that is nearest to the size m * 2^(h - 63) with its sign. It is followed by `by_rule`: so this is compiled once, and the rule where
-// it is known.
-fn rounded(n: u32, negative: bool, h: i64, m: u64) -> u64
+// The word that is nearest to the size (m + rest) * 2^(h - 63) with its sign.
+fn rounded(n: u32, negative: bool, h: i64, m: u64, rest: Rest) -> u64
     requires { ⌜ (2 ≤ n) × (n ≤ 64) × (2 ^ 63 ≤ m) ⌝ }
-    ensures { λ w. ⌜ RoundsSize n negative h m w ⌝ }
+    ensures { λ w. ⌜ RoundsSize n negative h m rest w ⌝ }
 {
-    with_sign(n, negative, nearest(n, h, m, Rest::Nothing))
-}
-
-// The nearest word by the rule: by the strict one only where it has the size m * 2^(h - 63).
-fn by_rule(width: Width, rule: Rule, h: i64, m: u64, word: u64) -> Answer
-    requires { ⌜ (2 ≤ width .bits) × (width .bits ≤ 64) × (2 ^ 63 ≤ m) ⌝ }
-    ensures { λ r. ⌜ Settles (width .bits) rule h m word r ⌝ }
-{
-    match rule {
-        Rule::Rounded => Answer::Word(word),
-        Rule::Strict => {
-            if has_size(width.bits, word, h, m) {
-                return Answer::Word(word);
-            }
-            Answer::Refused(Refusal::Inexact)
-        }
-    }
+    with_sign(n, negative, nearest(n, h, m, rest))
 }
 
 // A word's opposite lies as far above NaR as the word lies below it.

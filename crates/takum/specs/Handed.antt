@@ -19,14 +19,14 @@ use Rattle.binary64.specs.declared.taking.Binary64.{Binary64}
 use Rattle.column.specs.declared.moving.Column.{Column}
 use Rattle.column.specs.Columns.{MovesColumn, Holds}
 use Rattle.sheet.specs.declared.block.Block.{Block}
-use Rattle.takum.specs.declared.handed.HandedWord.{HandedWord}
-use Rattle.takum.specs.declared.handed.HandedReading.{HandedReading}
-use Rattle.takum.specs.declared.handed.HandedComparison.{HandedComparison}
-use Rattle.takum.specs.declared.handed.HandedLimit.{HandedLimit}
-use Rattle.takum.specs.declared.handed.HandedWhole.{HandedWhole}
-use Rattle.takum.specs.declared.handed.HandedNumber.{HandedNumber}
-use Rattle.takum.specs.declared.handed.HandedColumn.{HandedColumn}
-use Rattle.takum.specs.declared.handed.HandedBlock.{HandedBlock}
+use Rattle.takum.specs.declared.handed.words.HandedWord.{HandedWord}
+use Rattle.takum.specs.declared.handed.words.HandedReading.{HandedReading}
+use Rattle.takum.specs.declared.handed.words.HandedComparison.{HandedComparison}
+use Rattle.takum.specs.declared.handed.widths.HandedLimit.{HandedLimit}
+use Rattle.takum.specs.declared.handed.numbers.HandedWhole.{HandedWhole}
+use Rattle.takum.specs.declared.handed.numbers.HandedNumber.{HandedNumber}
+use Rattle.takum.specs.declared.handed.columns.HandedColumn.{HandedColumn}
+use Rattle.takum.specs.declared.handed.columns.HandedBlock.{HandedBlock}
 
 -- the rule that a flag stands for
 abbrev pub ruleOf : Bool → Rule

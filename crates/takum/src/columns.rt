@@ -1,8 +1,8 @@
 // Lent slices: moving a column and reading a sheet block. The results stay as they came where the call is refused.
-use crate::handed::HandedBlock;
-use crate::handed::HandedColumn;
-use crate::handed::hand_block;
-use crate::handed::hand_column;
+use crate::handed::columns::HandedBlock;
+use crate::handed::columns::HandedColumn;
+use crate::handed::columns::hand_block;
+use crate::handed::columns::hand_column;
 use bounds::width::Width;
 use column::moving::move_column;
 use round::value::Rule;

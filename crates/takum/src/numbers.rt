@@ -1,10 +1,10 @@
 // Whole numbers and binary64 numbers, in and out. A flag is asked first, so that each rule's call is compiled by itself.
-use crate::handed::HandedNumber;
-use crate::handed::HandedWhole;
-use crate::handed::HandedWord;
-use crate::handed::hand_number;
-use crate::handed::hand_whole;
-use crate::handed::hand_word;
+use crate::handed::numbers::HandedNumber;
+use crate::handed::numbers::HandedWhole;
+use crate::handed::numbers::hand_number;
+use crate::handed::numbers::hand_whole;
+use crate::handed::words::HandedWord;
+use crate::handed::words::hand_word;
 use binary64::taking::take_binary64;
 use binary64::writing::write_binary64;
 use bounds::width::Width;

@@ -1,8 +1,8 @@
 // What belongs to a width: its end words, NaR word and exact-count limit.
-use crate::handed::HandedLimit;
-use crate::handed::HandedWord;
-use crate::handed::hand_limit;
-use crate::handed::hand_word;
+use crate::handed::widths::HandedLimit;
+use crate::handed::widths::hand_limit;
+use crate::handed::words::HandedWord;
+use crate::handed::words::hand_word;
 use bounds::width::Width;
 ghost use Rattle.bounds.specs.Widths.{largest, smallest, narWord, GivesWord, GivesLimit};
 ghost use Rattle.takum.specs.Handed.{HandsOver, wordHanded, limitHanded};

@@ -1,11 +1,11 @@
 // One word: reading, comparing and negating it, writing a value as one, and moving it to another width. A flag is asked first, so that each
 // rule's call is compiled by itself.
-use crate::handed::HandedComparison;
-use crate::handed::HandedReading;
-use crate::handed::HandedWord;
-use crate::handed::hand_comparison;
-use crate::handed::hand_reading;
-use crate::handed::hand_word;
+use crate::handed::words::HandedComparison;
+use crate::handed::words::HandedReading;
+use crate::handed::words::HandedWord;
+use crate::handed::words::hand_comparison;
+use crate::handed::words::hand_reading;
+use crate::handed::words::hand_word;
 use bounds::width::Width;
 use round::value::Rule;
 use word::order::compare;

@@ -1,7 +1,5 @@
 -- The laws of writing and moving, one idea a file, in reading order.
 
--- a value is a long one with nothing in its high number
-mod Short
 -- what is written for the size of what a word means is what is written for its meaning
 pub mod Meanings
 -- a word is moved to the word with its value where there is one; a strict move gives no other

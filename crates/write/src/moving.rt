@@ -2,14 +2,10 @@
 use bounds::answer::Answer;
 use bounds::refusal::Verdict;
 use bounds::width::Width;
-use round::value::LongValue;
 use round::value::Rule;
-use round::writing::write_long;
-use word::size::Size;
+use round::writing::write_short;
 use word::size::WordSize;
 use word::size::read_size;
-ghost use Prim.Native.Nat.{_≤_};
-ghost use lib.Signed.{mag};
 ghost use Rattle.write.specs.Writes.{Moves};
 
 // The word of the target width for what the word of the source width means; NaR gives NaR.
@@ -25,15 +21,6 @@ pub fn move_word(from: Width, to: Width, rule: Rule, word: u64) -> Answer
         WordSize::Refused(q) => Answer::Refused(q),
         WordSize::Zero => Answer::Word(0),
         WordSize::Nar => to.nar(),
-        WordSize::Number(size) => write_long(
-            to,
-            rule,
-            LongValue {
-                negative: size.negative,
-                high: 0,
-                low: size.m,
-                k: size.h - 63,
-            },
-        ),
+        WordSize::Number(size) => write_short(to, rule, size.negative, size.m, size.h - 63),
     }
 }

@@ -8,9 +8,10 @@ use lib.Pow.{pow-mono}
 use lib.IntN.{ℤ}
 use mir.Facts.{toZ-ofZ}
 use Rattle.bounds.specs.Refusals.{IsWord}
-use Rattle.round.proofs.Hub.{start-lt, below-end, at-zero, at-end, by-side}
-use Rattle.round.proofs.Sides.{Given, fine-cut, lower-lt, gap-le, upper-small, under-upper, coarse-tells}
-use Rattle.round.proofs.Exponents.{raise, raised-same, raised-inj}
+use Rattle.round.proofs.Hub as Hub
+use Rattle.round.proofs.Hub.{start-lt, below-end, at-zero, at-end, by-powers, by-cut}
+use Rattle.round.proofs.Sides.{Given, lower-lt, gap-le, upper-small, under-upper}
+use Rattle.round.proofs.Exponents.{raise, raised-inj}
 use Rattle.round.specs.Offers.{Begins, firstBits, IsRaised, TellsPowers}
 use Rattle.round.proofs.size.nearest_inside.Statement.{statement}
 use Rattle.round.proofs.size.nearest_inside.Tie as tie
@@ -63,18 +64,8 @@ power c = pow-mono {i = c .before .before .args .n - 1} {j = 63} (omega (arith, 
 -- the cut with what its two neighbours need
 given : (c : tie.Else2) → Given (c .before .before .before .before .before .args .n) (low (c .before .before .before)) (raise (c .before .before .before .before .before .args .h) (c .before .before .before .before .before .pre .3) .0) (c .before .before .before .before .before .args .m) (c .before .before .before .before .start-of .result)
 unfolding low
-given c =
-    let k = c .before .before .before in
-    record {
-      lo = lo k;
-      hi = hi k;
-      first = first (c .before .before);
-      room = room c;
-      full = full k;
-      top = top k;
-      is = is k;
-      begins = λ h q. subst (λ (z : ℤ). Begins z (k .before .start-of .result)) (raised-same _ h _ (raised-is k) q) (begins k);
-    }
+given c = let k = c .before .before .before in
+    Hub.given _ (lo k) (hi k) _ _ _ (k .before .before .args .rest) _ (raised-is k) (begins k) (full k) (top k) _ (is k) (first (c .before .before)) (omega (arith, room c))
 
 word-at : (n v : ℕ) → 2 ≤ n → n ≤ 64 → v < 2 ^ (n - 1) → IsWord n v
 word-at n v lo hi b = record { least = lo; most = hi; fits = lt-of-lt-of-le b (pow-mono {i = n - 1} {j = n} (omega arith)) }
@@ -154,9 +145,8 @@ returns-3 c =
     let r = c .before .before in
     let b = r .before .before .before .before .before in
     let k = b .before .before .before in
-    let short = r .before .before .before .if3 .taken in
-    by-side _ (lo k) (hi k) _ _ _ _ _ (raised-is k) (begins k) (full k) (top k) _ (is k) (first (b .before .before)) (omega (arith, room b)) _ _
-    (coarse-tells _ _ _ _ _ (given b) short _ _ (r .before .before .exponent .ensures) (r .before .exponent2 .ensures) _ _ (subst (λ (e : ℕ). TellsPowers (r .before .before .exponent .result) (r .before .exponent2 .result) e (k .before .before .args .m) (k .before .before .args .rest) (c .before .side-of-powers .result)) (raised-result r) (c .before .side-of-powers .ensures))) (c .chosen .ensures)
+    by-powers _ (lo k) (hi k) _ _ _ _ _ (raised-is k) (begins k) (full k) (top k) _ (is k) (first (b .before .before)) (omega (arith, room b)) _ _ (r .before .before .before .if3 .taken) (r .before .before .exponent .ensures) (r .before .exponent2 .ensures) _ _
+    (subst (λ (e : ℕ). TellsPowers (r .before .before .exponent .result) (r .before .exponent2 .result) e (k .before .before .args .m) (k .before .before .args .rest) (c .before .side-of-powers .result)) (raised-result r) (c .before .side-of-powers .ensures)) (c .chosen .ensures)
 
 sub-chosen-by-cut : tie.Need-sub-chosen-by-cut
 sub-chosen-by-cut c = search needs
@@ -180,8 +170,7 @@ unfolding low
 returns-4 c =
     let b = c .before .before .before .before in
     let k = b .before .before .before in
-    let x = fine-cut _ _ _ _ _ (given b) _ _ (c .before .before .if3 .left) (c .chosen-by-cut .ensures) in
-    by-side _ (lo k) (hi k) _ _ _ _ _ (raised-is k) (begins k) (full k) (top k) _ (is k) (first (b .before .before)) (omega (arith, room b)) _ (x .0) (x .1) (x .2)
+    by-cut _ (lo k) (hi k) _ _ _ _ _ (raised-is k) (begins k) (full k) (top k) _ (is k) (first (b .before .before)) (omega (arith, room b)) (c .before .before .if3 .left) _ (c .chosen-by-cut .ensures)
 
 pub nearest-inside-spec : {M : Type 1} → statement M
 nearest-inside-spec =

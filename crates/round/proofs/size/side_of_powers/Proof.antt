@@ -5,7 +5,7 @@ use Prim.Native.Nat.{ℕ, _-_, _^_, _≤_, _<_}
 use native.Mathlib.Omega.{arith}
 use native.Mathlib.Nat.{eq-or-lt-of-le}
 use borrow.Author.Needs.{needs}
-use Rattle.round.proofs.Halves.{far-under, near, wide-over, rest-nothing, rest-under-half, rest-half, rest-over-half, for-powers}
+use Rattle.round.proofs.Halves.{far-under, near, wide-over, rest-side, rest-decides, for-powers}
 use Rattle.bounds.proofs.Powers.{one-shl}
 use Rattle.round.specs.Offers.{TellsHalf}
 use Rattle.round.proofs.size.side_of_powers.Statement.{statement}
@@ -59,16 +59,20 @@ enum-told-4 : tie.Need-enum-told-4
 enum-told-4 c = search needs
 
 returns-4 : tie.Need-returns-4
-returns-4 c = for-powers _ _ _ _ _ (c .enum-told .given .1) (rest-nothing (c .before .before .before .before .before .args .i) (c .before .before .before .before .before .args .j) (c .before .before .before .before .before .args .e) (omega (arith, c .before .before .before .before .before .pre .2, c .before .before .before .before .if1 .left)) (omega (arith, c .before .before .before .before .before .pre .0, c .before .before .before .before .before .pre .1, c .before .before .before .if2 .left)) _ (c .before .before .if3 .left))
+unfolding rest-side
+returns-4 c = for-powers _ _ _ _ _ (c .enum-told .given .1) (rest-decides (c .before .before .before .before .before .args .i) (c .before .before .before .before .before .args .j) (c .before .before .before .before .before .args .e) (omega (arith, c .before .before .before .before .before .pre .2, c .before .before .before .before .if1 .left)) (omega (arith, c .before .before .before .before .before .pre .0, c .before .before .before .before .before .pre .1, c .before .before .before .if2 .left)) _ (c .before .before .if3 .left) _)
 
 returns-5 : tie.Need-returns-5
-returns-5 c = for-powers _ _ _ _ _ (c .enum-told2 .given .1) (rest-under-half (c .before .before .before .before .before .args .i) (c .before .before .before .before .before .args .j) (c .before .before .before .before .before .args .e) (omega (arith, c .before .before .before .before .before .pre .2, c .before .before .before .before .if1 .left)) (omega (arith, c .before .before .before .before .before .pre .0, c .before .before .before .before .before .pre .1, c .before .before .before .if2 .left)) _ (c .before .before .if3 .left))
+unfolding rest-side
+returns-5 c = for-powers _ _ _ _ _ (c .enum-told2 .given .1) (rest-decides (c .before .before .before .before .before .args .i) (c .before .before .before .before .before .args .j) (c .before .before .before .before .before .args .e) (omega (arith, c .before .before .before .before .before .pre .2, c .before .before .before .before .if1 .left)) (omega (arith, c .before .before .before .before .before .pre .0, c .before .before .before .before .before .pre .1, c .before .before .before .if2 .left)) _ (c .before .before .if3 .left) _)
 
 returns-6 : tie.Need-returns-6
-returns-6 c = for-powers _ _ _ _ _ (c .enum-told3 .given .1) (rest-half (c .before .before .before .before .before .args .i) (c .before .before .before .before .before .args .j) (c .before .before .before .before .before .args .e) (omega (arith, c .before .before .before .before .before .pre .2, c .before .before .before .before .if1 .left)) (omega (arith, c .before .before .before .before .before .pre .0, c .before .before .before .before .before .pre .1, c .before .before .before .if2 .left)) _ (c .before .before .if3 .left))
+unfolding rest-side
+returns-6 c = for-powers _ _ _ _ _ (c .enum-told3 .given .1) (rest-decides (c .before .before .before .before .before .args .i) (c .before .before .before .before .before .args .j) (c .before .before .before .before .before .args .e) (omega (arith, c .before .before .before .before .before .pre .2, c .before .before .before .before .if1 .left)) (omega (arith, c .before .before .before .before .before .pre .0, c .before .before .before .before .before .pre .1, c .before .before .before .if2 .left)) _ (c .before .before .if3 .left) _)
 
 returns-7 : tie.Need-returns-7
-returns-7 c = for-powers _ _ _ _ _ (c .enum-told4 .given .1) (rest-over-half (c .before .before .before .before .before .args .i) (c .before .before .before .before .before .args .j) (c .before .before .before .before .before .args .e) (omega (arith, c .before .before .before .before .before .pre .2, c .before .before .before .before .if1 .left)) (omega (arith, c .before .before .before .before .before .pre .0, c .before .before .before .before .before .pre .1, c .before .before .before .if2 .left)) _ (c .before .before .if3 .left))
+unfolding rest-side
+returns-7 c = for-powers _ _ _ _ _ (c .enum-told4 .given .1) (rest-decides (c .before .before .before .before .before .args .i) (c .before .before .before .before .before .args .j) (c .before .before .before .before .before .args .e) (omega (arith, c .before .before .before .before .before .pre .2, c .before .before .before .before .if1 .left)) (omega (arith, c .before .before .before .before .before .pre .0, c .before .before .before .before .before .pre .1, c .before .before .before .if2 .left)) _ (c .before .before .if3 .left) _)
 
 pub side-of-powers-spec : {M : Type 1} → statement M
 side-of-powers-spec =

@@ -20,10 +20,10 @@ use Rattle.word.specs.Reads.{IsNumber}
 use Rattle.word.proofs.Signed.{sub-mag}
 use Rattle.word.specs.Takum.{Takum, takum}
 use Rattle.word.proofs.Normal.{Tells, tells, exponent-small}
+use Rattle.round.specs.Nearest.{WritesShort}
 use Rattle.round.proofs.Rules.{zero-written}
-use Rattle.write.specs.Writes.{isNegative, IsMoved, Writes, Moves}
+use Rattle.write.specs.Writes.{isNegative, IsMoved, Moves}
 use Rattle.write.proofs.Meanings.{number-moved}
-use Rattle.write.proofs.Short.{short}
 use Rattle.write.proofs.moving.move_word.Statement.{statement}
 use Rattle.write.proofs.moving.move_word.Tie as tie
 
@@ -98,12 +98,12 @@ nar-requires c κs = search needs
 enum-known-size : tie.Need-enum-known-size
 enum-known-size c = search needs
 
-sub-t11 : tie.Need-sub-t11
-sub-t11 c = let k = c .before .before in
+sub-write-short : tie.Need-sub-write-short
+sub-write-short c = let k = c .before .before in
     subst (λ (z : ℤ). SFits w32 (z -ℤ pos 63)) (sym (toZ-ofZ (h-fits k))) (less-fits k)
 
-write-long-requires : tie.Need-write-long-requires
-write-long-requires c κs = search needs
+write-short-requires : tie.Need-write-short-requires
+write-short-requires c κs = search needs
 
 returns-2 : tie.Need-returns-2
 unfolding Moves Tells
@@ -126,12 +126,12 @@ returns-4 c = let k = c .before .before .before in
     through (tested (k .before) (x .0)) (subst (λ (t : Takum). IsMoved (s .args .to .bits) (s .args .rule) t (c .nar .result)) (sym (x .1)) (answered (target (k .before)) (c .nar .ensures)))
 
 returns-5 : tie.Need-returns-5
-unfolding Moves Writes
+unfolding Moves WritesShort
 returns-5 c = let k = c .before .before .before in
     let s = g k .before .before .before .before in
     let x = number k in
-    through (tested (g k .before) (x .0)) (number-moved (s .args .to .bits) (s .args .rule) (c .write-long .result) _ 63 (size k .negative) (size k .h) (size k .m) 63 (x .1)
-    (answered (target (g k .before)) (subst (λ (z : ℤ). Writes (s .args .to .bits) (s .args .rule) (record { negative = size k .negative; m = size k .m; k = z }) (c .write-long .result)) (held k) (short _ _ _ _ _ _ (c .write-long .ensures)))))
+    through (tested (g k .before) (x .0)) (number-moved (s .args .to .bits) (s .args .rule) (c .write-short .result) _ 63 (size k .negative) (size k .h) (size k .m) 63 (x .1)
+    (answered (target (g k .before)) (subst (λ (z : ℤ). WritesShort (s .args .to .bits) (s .args .rule) (size k .negative) (size k .m) z (c .write-short .result)) (held k) (c .write-short .ensures))))
 
 pub move-word-spec : {M : Type 1} → statement M
 move-word-spec =
@@ -147,8 +147,8 @@ move-word-spec =
     enum-told-3
     nar-requires
     enum-known-size
-    sub-t11
-    write-long-requires
+    sub-write-short
+    write-short-requires
     returns-2
     returns-3
     returns-4

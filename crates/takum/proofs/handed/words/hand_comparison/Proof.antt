@@ -1,8 +1,8 @@
 -- `hand_comparison` meets its contract: each answer in its own case, a refusal by its number; the number goes through its machine form unchanged. Assumes nothing.
 use mir.Facts.{toZ-ofZ}
 use borrow.Author.Needs.{needs, sfits-of}
-use Rattle.takum.proofs.handed.hand_comparison.Statement.{statement}
-use Rattle.takum.proofs.handed.hand_comparison.Tie as tie
+use Rattle.takum.proofs.handed.words.hand_comparison.Statement.{statement}
+use Rattle.takum.proofs.handed.words.hand_comparison.Tie as tie
 
 enum-known-answer : tie.Need-enum-known-answer
 enum-known-answer c = search needs

@@ -1,7 +1,7 @@
--- `hand_block` meets its contract: each answer in its own case, a refusal by its number. Assumes nothing.
+-- `hand_word` meets its contract: each answer in its own case, a refusal by its number. Assumes nothing.
 use borrow.Author.Needs.{needs}
-use Rattle.takum.proofs.handed.hand_block.Statement.{statement}
-use Rattle.takum.proofs.handed.hand_block.Tie as tie
+use Rattle.takum.proofs.handed.words.hand_word.Statement.{statement}
+use Rattle.takum.proofs.handed.words.hand_word.Tie as tie
 
 enum-known-answer : tie.Need-enum-known-answer
 enum-known-answer c = search needs
@@ -18,5 +18,5 @@ returns c = rw (c .before .answer .given .1)
 returns-2 : tie.Need-returns-2
 returns-2 c = rw (c .before .before .answer2 .given .1, ← c .number .ensures)
 
-pub hand-block-spec : {M : Type 1} → statement M
-hand-block-spec = tie.close (tie.spec enum-known-answer enum-known-answer-2 number-requires returns returns-2)
+pub hand-word-spec : {M : Type 1} → statement M
+hand-word-spec = tie.close (tie.spec enum-known-answer enum-known-answer-2 number-requires returns returns-2)

@@ -1,8 +1,8 @@
 -- `hand_reading` meets its contract: each answer in its own case, a refusal by its number; the exponent goes through its machine form unchanged. Assumes nothing.
 use mir.Facts.{toZ-ofZ}
 use borrow.Author.Needs.{needs, sfits-of}
-use Rattle.takum.proofs.handed.hand_reading.Statement.{statement}
-use Rattle.takum.proofs.handed.hand_reading.Tie as tie
+use Rattle.takum.proofs.handed.words.hand_reading.Statement.{statement}
+use Rattle.takum.proofs.handed.words.hand_reading.Tie as tie
 
 enum-told : tie.Need-enum-told
 enum-told c = search needs

@@ -1,7 +1,7 @@
 -- `hand_number` meets its contract: each answer in its own case, a refusal by its number. Assumes nothing.
 use borrow.Author.Needs.{needs}
-use Rattle.takum.proofs.handed.hand_number.Statement.{statement}
-use Rattle.takum.proofs.handed.hand_number.Tie as tie
+use Rattle.takum.proofs.handed.numbers.hand_number.Statement.{statement}
+use Rattle.takum.proofs.handed.numbers.hand_number.Tie as tie
 
 enum-known-answer : tie.Need-enum-known-answer
 enum-known-answer c = search needs

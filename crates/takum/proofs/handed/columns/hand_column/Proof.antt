@@ -1,7 +1,7 @@
 -- `hand_column` meets its contract: each answer in its own case, a refusal by its number. Assumes nothing.
 use borrow.Author.Needs.{needs}
-use Rattle.takum.proofs.handed.hand_column.Statement.{statement}
-use Rattle.takum.proofs.handed.hand_column.Tie as tie
+use Rattle.takum.proofs.handed.columns.hand_column.Statement.{statement}
+use Rattle.takum.proofs.handed.columns.hand_column.Tie as tie
 
 enum-known-answer : tie.Need-enum-known-answer
 enum-known-answer c = search needs

@@ -1,0 +1,46 @@
+// The answers that only words give, taken into a digest.
+use bounds::width::Limit;
+use bounds::width::Made;
+use census::digest::take;
+use census::digest::take_kind;
+use census::digest::take_refusal;
+use census::digest::take_signed;
+use word::order::Comparison;
+use word::reading::Reading;
+
+pub(crate) fn take_made(digest: u64, made: Made) -> u64 {
+    match made {
+        Made::Width(width) => take_kind(digest, 0, width.bits as u64),
+        Made::Refused(refusal) => take_refusal(digest, refusal),
+    }
+}
+
+pub(crate) fn take_limit(digest: u64, limit: Limit) -> u64 {
+    match limit {
+        Limit::Count(count) => take_kind(digest, 0, count),
+        Limit::Refused(refusal) => take_refusal(digest, refusal),
+    }
+}
+
+pub(crate) fn take_comparison(digest: u64, comparison: Comparison) -> u64 {
+    match comparison {
+        Comparison::Is(order) => take_signed_32(take(digest, 0), order),
+        Comparison::Refused(refusal) => take_refusal(digest, refusal),
+    }
+}
+
+pub(crate) fn take_reading(digest: u64, reading: Reading) -> u64 {
+    match reading {
+        Reading::Zero => take(digest, 0),
+        Reading::Nar => take(digest, 1),
+        Reading::Number { negative, h, m, p } => {
+            let signed = take_kind(digest, 2, negative as u64);
+            take_kind(take_signed_32(signed, h), m, p as u64)
+        }
+        Reading::Refused(refusal) => take_refusal(digest, refusal),
+    }
+}
+
+fn take_signed_32(digest: u64, z: i32) -> u64 {
+    take_signed(digest, z as i64)
+}

@@ -1,11 +1,13 @@
 //! Pseudo-random choices of widths, words, values and numbers, the edges among them.
-use crate::binary64::{finest, nearest_pattern, with_sign, INFINITY, NAN};
-use crate::census::{low_bits, Sequence, BAD_WIDTHS};
-use crate::nearest::value_of;
-use crate::offers::{itself, just_above, just_below, Offer};
-use crate::refusals::make_width;
-use crate::whole::whole_in;
-use crate::widths::{largest_word, nar_word};
+use crate::exact::number::Whole;
+use crate::numbers::binary64::{finest, nearest_pattern, with_sign, INFINITY, NAN};
+use crate::numbers::whole::whole_in;
+use crate::words::refusals::{make_width, BAD_WIDTHS};
+use crate::words::sequence::{low_bits, Sequence};
+use crate::words::widths::{largest_word, nar_word};
+use crate::writing::around::{itself, just_above, just_below};
+use crate::writing::nearest::value_of;
+use crate::writing::offers::Offer;
 
 pub struct Choices(Sequence);
 
@@ -80,7 +82,7 @@ impl Choices {
     }
 
     /// The midpoint between two neighbouring positive words, held times 2^400.
-    fn midpoint(&mut self, width: u32) -> crate::exact::Whole {
+    fn midpoint(&mut self, width: u32) -> Whole {
         let largest = largest_word(width).unwrap();
         let a = if largest == 1 { 0 } else { 1 + self.below(largest - 1) };
         value_of(width, a).plus(&value_of(width, a + 1)).divided_by_power_of_two(1)

@@ -1,0 +1,41 @@
+//! The census: the lines of its three texts (docs/CENSUS.md); written from the papers alone.
+
+pub mod binary64;
+pub mod blocks;
+pub mod columns;
+mod digest;
+mod faults;
+pub mod out;
+mod reading;
+mod results;
+mod runs;
+mod ways;
+pub mod whole;
+pub mod writing;
+
+/// Parts 1 to 12.
+pub fn words() -> Vec<String> {
+    let mut lines = Vec::new();
+    reading::push(&mut lines);
+    writing::push(&mut lines);
+    lines
+}
+
+/// Parts 13 to 27.
+pub fn numbers() -> Vec<String> {
+    let mut lines = Vec::new();
+    out::push(&mut lines);
+    whole::push(&mut lines);
+    binary64::push(&mut lines);
+    ways::push_refusals(&mut lines);
+    lines
+}
+
+/// Parts 28 to 40.
+pub fn sheets() -> Vec<String> {
+    let mut lines = Vec::new();
+    columns::push(&mut lines);
+    blocks::push(&mut lines);
+    faults::push(&mut lines);
+    lines
+}

@@ -1,11 +1,6 @@
 //! The independent program: it reads, writes and moves linear takums, alone and in columns, takes whole numbers and
 //! binary64 in and out, reads sheet blocks, and prints the census and the figures. It is written from the papers alone.
 //!
-//! - `oracle` prints the census, `oracle figures` the figures.
-//! - `oracle list` prints what the lister must print of standard input.
-//! - `oracle sheet` writes the example sheet of a rack, `oracle sheet N` a pseudo-random sheet of N blocks, and
-//!   `oracle sheet stack` a sheet of many short blocks.
-//!
 //! The papers are paper 01 (the requirements), document 004, Definition 2 (the linear takum), and docs/CENSUS.md and
 //! docs/FIGURES.md (the lines to print). Nothing here was taken from the library. Every word is turned into its exact
 //! value. The sign, h and m of a reading and every comparison are found from exact values; a reading's p is the word's
@@ -17,11 +12,11 @@
 //!
 //! The folders, each standing on those before it:
 //! - exact/, whole numbers of any size, and the search in rising values;
-//! - words/, the value and the reading of a word, its widths and the refusals;
+//! - words/, the value and the reading of a word, the widths, the refusals, and pseudo-random words;
 //! - writing/, writing a value and moving a word; numbers/, whole numbers and binary64;
 //! - sheets/, columns, blocks and the lister, and the sheets that are made;
 //! - census/, the lines of docs/CENSUS.md, and figures/, those of docs/FIGURES.md;
-//! - checks/, which hold all this against the papers' statements and figures.
+//! - checks/, which holds all this against the papers' statements and figures.
 
 mod census;
 mod checks;
@@ -38,11 +33,24 @@ use std::io::{stdin, stdout, BufWriter, Read, Result, Write};
 // machine numbers are words, exponents and counts, and where 2^n itself is needed, the type has 128 bits. Everything
 // larger is a `Whole`. To see it, build with `-C overflow-checks=on` as well: the lines are the same.
 
+const USAGE: &str = "\
+usage: oracle words                  prints the first text of the census (docs/CENSUS.md)
+       oracle numbers                prints the second
+       oracle sheets                 prints the third
+       oracle figures                prints the figures (docs/FIGURES.md)
+       oracle list < SHEET           prints what the lister must print
+       oracle sheet > SHEET          writes the example sheet of a rack
+       oracle sheet N > SHEET        writes a pseudo-random sheet of N blocks
+       oracle sheet stack > SHEET    writes a sheet of many short blocks
+       oracle --help                 prints this text";
+
 fn main() {
     let arguments: Vec<String> = std::env::args().skip(1).collect();
     let arguments: Vec<&str> = arguments.iter().map(String::as_str).collect();
     let written = match arguments[..] {
-        [] => write_census(),
+        ["words"] => write_words(),
+        ["numbers"] => write_numbers(),
+        ["sheets"] => write_sheets(),
         ["figures"] => write_figures(),
         ["list"] => write_listing(),
         ["sheet"] => stdout().write_all(&sheets::rack::rack_sheet()),
@@ -51,21 +59,30 @@ fn main() {
             Ok(count) => write_long_sheet(count),
             Err(_) => leave_with_usage(),
         },
+        ["--help"] => writeln!(stdout(), "{USAGE}"),
         _ => leave_with_usage(),
     };
     written.expect("standard input gives its bytes and standard output takes them");
 }
 
 fn leave_with_usage() -> ! {
-    eprintln!("usage: oracle | oracle figures | oracle list < SHEET | oracle sheet [N | stack] > SHEET");
+    eprintln!("{USAGE}");
     std::process::exit(2);
 }
 
-fn write_census() -> Result<()> {
+fn write_words() -> Result<()> {
     checks::check_words();
+    write_lines(&census::words())
+}
+
+fn write_numbers() -> Result<()> {
     checks::check_numbers();
+    write_lines(&census::numbers())
+}
+
+fn write_sheets() -> Result<()> {
     checks::check_sheets();
-    write_lines(&[census::words(), census::numbers(), census::sheets()].concat())
+    write_lines(&census::sheets())
 }
 
 fn write_figures() -> Result<()> {

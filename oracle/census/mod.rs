@@ -13,7 +13,7 @@ mod ways;
 pub mod whole;
 pub mod writing;
 
-/// Parts 1 to 12.
+/// The text of words: parts 1 to 12.
 pub fn words() -> Vec<String> {
     let mut lines = Vec::new();
     reading::push(&mut lines);
@@ -21,7 +21,7 @@ pub fn words() -> Vec<String> {
     lines
 }
 
-/// Parts 13 to 27.
+/// The text of numbers: parts 13 to 27.
 pub fn numbers() -> Vec<String> {
     let mut lines = Vec::new();
     out::push(&mut lines);
@@ -31,7 +31,7 @@ pub fn numbers() -> Vec<String> {
     lines
 }
 
-/// Parts 28 to 40.
+/// The text of sheets: parts 28 to 40.
 pub fn sheets() -> Vec<String> {
     let mut lines = Vec::new();
     columns::push(&mut lines);

@@ -6,7 +6,7 @@ use crate::census::ways::{take_binary64_in, take_binary64_with_both_signs};
 use crate::numbers::binary64::{binary64_out, finest, pattern_of, pattern_of_size, with_sign, Binary64, INFINITY, NAN};
 use crate::words::sequence::{low_bits, Sequence};
 use crate::words::widths::{largest_word, smallest_word};
-use crate::writing::nearest::value_of;
+use crate::writing::around::midpoint_above;
 
 pub fn push(lines: &mut Vec<String>) {
     binary_lines(lines);
@@ -81,8 +81,7 @@ fn chosen_midpoint(width: u32, x: u64) -> Option<u64> {
 
 /// The pattern of the midpoint between the positive words a and a + 1, if a binary64 number is that midpoint.
 pub fn pattern_of_midpoint(width: u32, a: u64) -> Option<u64> {
-    let sum = value_of(width, a).plus(&value_of(width, a + 1));
-    pattern_of_size(&finest(&sum.divided_by_power_of_two(1)))
+    pattern_of_size(&finest(&midpoint_above(width, a)))
 }
 
 /// Part 24: the powers of two and the numbers beside them.

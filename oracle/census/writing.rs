@@ -6,7 +6,7 @@ use crate::words::refusals::{count_of_words, BAD_WIDTHS};
 use crate::words::sequence::{low_bits, Sequence};
 use crate::words::widths::largest_word;
 use crate::writing::answers::write;
-use crate::writing::around::{itself, just_above, just_below, Pair};
+use crate::writing::around::{beside, itself, midpoint_above, Beside, Pair};
 use crate::writing::moving::move_word;
 use crate::writing::nearest::value_of;
 use crate::writing::offers::Offer;
@@ -41,18 +41,18 @@ fn write_lines(lines: &mut Vec<String>) {
 
 /// The writings of the value of a, and of the midpoint between a and a + 1 and on either side of it.
 fn take_writings_around(digest: &mut Digest, width: u32, a: u64) {
-    let value = value_of(width, a);
-    let offer = itself(&value).expect("the value of a word has a significand below 2^64");
+    let offer = itself(&value_of(width, a)).expect("the value of a word has a significand below 2^64");
     take_four_writings(digest, width, offer);
     if a == largest_word(width).unwrap() {
         return;
     }
-    let midpoint = value.plus(&value_of(width, a + 1)).divided_by_power_of_two(1);
+    let midpoint = midpoint_above(width, a);
     if let Some(offer) = itself(&midpoint) {
         take_four_writings(digest, width, offer);
     }
-    take_four_writings(digest, width, just_below(&midpoint));
-    take_four_writings(digest, width, just_above(&midpoint));
+    let Beside { below, above } = beside(&midpoint);
+    take_four_writings(digest, width, below);
+    take_four_writings(digest, width, above);
 }
 
 /// Part 8: zero, and sizes at, near and far past the ends of every width.
@@ -61,7 +61,7 @@ fn past_lines(lines: &mut Vec<String>) {
         [-2147483648, -2147483647, -1000, -308, -307, -256, -255, 0, 191, 192, 254, 255, 1000, 2147483646, 2147483647];
     for width in 2..=64 {
         let mut digest = Digest::new();
-        for m in [0, 1, u64::MAX] {
+        for m in [0, 1, u128::from(u64::MAX)] {
             for k in exponents {
                 take_four_writings(&mut digest, width, (m, k));
             }
@@ -120,7 +120,7 @@ pub struct Draw {
 impl Draw {
     pub fn next(sequence: &mut Sequence, width: u32) -> Draw {
         let [x1, x2, x3, x4, x5] = [(); 5].map(|()| sequence.next_number());
-        let m = x1 >> (x2 % 64);
+        let m = u128::from(x1 >> (x2 % 64));
         let k = (x3 % 640) as i32 - 352;
         let word = low_bits(x4, width);
         let target = 2 + (x5 % 63) as u32;

@@ -13,6 +13,9 @@ pub fn check() {
     for outside in [lowest - 1, highest + 1, lowest - (1 << 64), highest + (1 << 64)] {
         assert!(from_machine(outside).to_signed().is_none());
     }
+    for long in [0, 1, (1 << 64) - 1, 1 << 64, (1 << 96) + 1, 1 << 127, u128::MAX] {
+        assert!(Whole::from_unsigned(long).to_unsigned() == long);
+    }
     for &a in &samples {
         check_one(a);
         for &b in &samples {
@@ -25,7 +28,7 @@ fn check_one(a: i64) {
     let exact = Whole::from_signed(a);
     assert!(exact.is_zero() == (a == 0));
     assert!(exact.is_negative() == (a < 0));
-    assert!(exact.size().to_unsigned() == a.unsigned_abs());
+    assert!(exact.size().to_unsigned() == u128::from(a.unsigned_abs()));
     assert!(exact.negated() == from_machine(-i128::from(a)));
     assert!(exact.to_signed() == Some(a));
     for exponent in [0, 1, 31, 32, 33, 63] {

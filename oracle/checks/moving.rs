@@ -39,7 +39,7 @@ fn check_moves() {
                 Reading::NaR => assert!(answers == Answers::alike(nar_word(target))),
                 Reading::Zero => assert!(answers == exactly(0)),
                 Reading::Number { minus, h, m, p } => {
-                    let offer = Offer { minus, m, k: (h - p) as i32 };
+                    let offer = Offer { minus, m: u128::from(m), k: (h - p) as i32 };
                     assert!(Value::Number(offer.number()) == fine_or_nar(from, word));
                     assert!(answers == write(target, &offer));
                 }

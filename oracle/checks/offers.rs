@@ -3,7 +3,8 @@
 use crate::exact::number::Whole;
 use crate::words::values::{value, Value, SCALE};
 use crate::words::widths::{largest_word, smallest_word};
-use crate::writing::around::{itself, just_above, just_below, size_of};
+use crate::writing::around::{beside, itself, leading, Pair};
+use crate::writing::offers::size_of;
 
 pub fn check() {
     check_cuts();
@@ -21,7 +22,7 @@ fn check_cuts() {
     let least = size_of_word(smallest_word(64).unwrap());
     let greatest = size_of_word(largest_word(64).unwrap());
     for k in [-400, -401, -1000, -5000] {
-        assert!(Whole::from_unsigned(u128::from(u64::MAX)) < least.times_power_of_two(-k - SCALE));
+        assert!(Whole::from_unsigned(u128::MAX) < least.times_power_of_two(-k - SCALE));
     }
     for k in [255, 256, 1000, 5000] {
         assert!(Whole::from_unsigned(1).times_power_of_two(k + SCALE) > greatest);
@@ -30,16 +31,24 @@ fn check_cuts() {
 
 /// Offers worked out by hand.
 fn check_offers_of_a_size() {
+    let least = 1 << 63;
+    let most = (1 << 64) - 1;
+    let check_beside = |x: &Whole, below: Pair, above: Pair| {
+        let offers = beside(x);
+        assert!(offers.below == below && offers.above == above);
+    };
     let one = size_of(1, 0);
     assert!(itself(&one) == Some((1, 0)));
-    assert!(just_below(&one) == (u64::MAX, -64) && just_above(&one) == ((1 << 63) + 1, -63));
+    check_beside(&one, (most, -64), (least + 1, -63));
     let three = size_of(6, -1);
     assert!(itself(&three) == Some((3, 0)));
-    assert!(just_below(&three) == ((3 << 62) - 1, -62) && just_above(&three) == ((3 << 62) + 1, -62));
-    let longest = size_of(u64::MAX, 0);
-    assert!(itself(&longest) == Some((u64::MAX, 0)));
-    assert!(just_below(&longest) == (u64::MAX - 1, 0) && just_above(&longest) == (1 << 63, 1));
+    check_beside(&three, ((3 << 62) - 1, -62), ((3 << 62) + 1, -62));
+    let longest = size_of(most, 0);
+    assert!(itself(&longest) == Some((most, 0)));
+    check_beside(&longest, (most - 1, 0), (least, 1));
     let too_long = longest.plus(&size_of(2, 0));
     assert!(itself(&too_long).is_none());
-    assert!(just_below(&too_long) == (1 << 63, 1) && just_above(&too_long) == ((1 << 63) + 1, 1));
+    check_beside(&too_long, (least, 1), (least + 1, 1));
+    // 2^64 + 1: the lowest bit is not among the leading 64.
+    assert!(leading(&too_long, 64) == (least, 1) && leading(&too_long, 65) == (most + 2, 0));
 }

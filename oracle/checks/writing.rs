@@ -7,7 +7,7 @@ use crate::words::refusals::{count_of_words, Refusal};
 use crate::words::sequence::Sequence;
 use crate::words::widths::{largest_word, nar_word, smallest_word};
 use crate::writing::answers::{write, Answers};
-use crate::writing::around::{itself, just_above, just_below, Pair};
+use crate::writing::around::{beside, itself, midpoint_above, Beside, Pair};
 use crate::writing::nearest::value_of;
 use crate::writing::offers::Offer;
 
@@ -28,6 +28,9 @@ pub fn exactly(word: u64) -> Answers {
 pub fn only_rounded(word: u64) -> Answers {
     Answers { rounded: Ok(word), strict: Err(Refusal::Inexact) }
 }
+
+/// The greatest M that paper 01 has.
+const MOST: u128 = (1 << 64) - 1;
 
 /// Paper 01, "Figures on either side of the edges" and "Errors that look right", as far as they speak of writing.
 fn check_figures() {
@@ -55,7 +58,7 @@ fn check_figures() {
         (8, (1, -239), exactly(0x01)),
         (2, (1, 0), exactly(0b01)),
         (2, (1, -2000), only_rounded(0b01)),
-        (2, (u64::MAX, 2000), only_rounded(0b01)),
+        (2, (MOST, 2000), only_rounded(0b01)),
     ];
     for (width, (m, k), expected) in figures {
         assert!(write(width, &Offer::plus(m, k)) == expected, "{m} * 2^{k} at width {width}");
@@ -79,11 +82,10 @@ fn check_ends() {
         check_writing(width, itself(&least).unwrap(), exactly(smallest));
         check_writing(width, itself(&greatest).unwrap(), exactly(largest));
         // Past the ends there is no word with the value. writing/offers.rs cuts some of these exponents.
-        let most = u64::MAX;
-        for offer in [just_below(&least), (1, -400), (1, -401), (most, -1000), (1, i32::MIN), (most, i32::MIN)] {
+        for offer in [beside(&least).below, (1, -400), (1, -401), (MOST, -1000), (1, i32::MIN), (MOST, i32::MIN)] {
             check_writing(width, offer, only_rounded(smallest));
         }
-        for offer in [just_above(&greatest), (1, 255), (1, 256), (most, 1000), (1, i32::MAX), (most, i32::MAX)] {
+        for offer in [beside(&greatest).above, (1, 255), (1, 256), (MOST, 1000), (1, i32::MAX), (MOST, i32::MAX)] {
             check_writing(width, offer, only_rounded(largest));
         }
     }
@@ -143,8 +145,9 @@ fn check_every_word_considered() {
         for a in 1..=largest {
             check_over_all_words(width, itself(&value_of(width, a)).unwrap());
             if a < largest {
-                let midpoint = value_of(width, a).plus(&value_of(width, a + 1)).divided_by_power_of_two(1);
-                let offers = [itself(&midpoint), Some(just_below(&midpoint)), Some(just_above(&midpoint))];
+                let midpoint = midpoint_above(width, a);
+                let Beside { below, above } = beside(&midpoint);
+                let offers = [itself(&midpoint), Some(below), Some(above)];
                 offers.into_iter().flatten().for_each(|offer| check_over_all_words(width, offer));
             }
         }

@@ -124,10 +124,10 @@ impl Whole {
         32 * place as i64 + i64::from(self.digits[place].trailing_zeros())
     }
 
-    /// The same number as a 64-bit unsigned one. Stops the program if it is not in their range.
-    pub fn to_unsigned(&self) -> u64 {
-        assert!(!self.negative && self.digits.len() <= 2, "the number is outside unsigned 64 bits");
-        self.digits.iter().rev().fold(0, |number, &digit| (number << 32) + u64::from(digit))
+    /// The same number as a 128-bit unsigned one. Stops the program if it is not in their range.
+    pub fn to_unsigned(&self) -> u128 {
+        assert!(!self.negative && self.digits.len() <= 4, "the number is outside unsigned 128 bits");
+        self.digits.iter().rev().fold(0, |number, &digit| (number << 32) + u128::from(digit))
     }
 
     /// The same number as a 64-bit signed one, or none if it is not in their range.
@@ -136,7 +136,7 @@ impl Whole {
         if !in_range {
             return None;
         }
-        let size = i128::from(self.size().to_unsigned());
+        let size = self.size().to_unsigned() as i128;
         Some(if self.negative { -size } else { size } as i64)
     }
 }

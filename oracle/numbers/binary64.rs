@@ -55,7 +55,7 @@ enum Meaning {
 fn meaning(pattern: u64) -> Meaning {
     let minus = pattern >= SIGN_BIT;
     let exponent_field = (pattern >> 52) % (1 << 11);
-    let fraction_field = pattern % (1 << 52);
+    let fraction_field = u128::from(pattern % (1 << 52));
     match (exponent_field, fraction_field) {
         (2047, 0) => Meaning::Infinity,
         (2047, _) => Meaning::NaN,
@@ -116,9 +116,7 @@ pub fn finest(number: &Whole) -> Whole {
 pub fn size_of_pattern(pattern: u64) -> Whole {
     assert!(pattern < INFINITY);
     match meaning(pattern) {
-        Meaning::Finite(Offer { m, k, .. }) => {
-            Whole::from_unsigned(u128::from(m)).times_power_of_two(i64::from(k) + FINEST_SCALE)
-        }
+        Meaning::Finite(Offer { m, k, .. }) => Whole::from_unsigned(m).times_power_of_two(i64::from(k) + FINEST_SCALE),
         Meaning::NaN | Meaning::Infinity => panic!("all patterns below infinity are finite"),
     }
 }

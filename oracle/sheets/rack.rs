@@ -80,11 +80,11 @@ fn strict_words_of_wholes(width: u32, wholes: &[i64]) -> Vec<u64> {
 }
 
 /// The word of M * 2^k, rounded.
-fn plus(width: u32, m: u64, k: i32) -> u64 {
+fn plus(width: u32, m: u128, k: i32) -> u64 {
     write(width, &Offer::plus(m, k)).rounded.unwrap()
 }
 
 /// The word of -M * 2^k, rounded.
-fn minus(width: u32, m: u64, k: i32) -> u64 {
+fn minus(width: u32, m: u128, k: i32) -> u64 {
     write(width, &Offer::minus(m, k)).rounded.unwrap()
 }

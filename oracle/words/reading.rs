@@ -27,9 +27,10 @@ pub fn read(width: u32, word: u64) -> Result<Reading, Refusal> {
     let h = exponent_of_highest_power(&size);
     // The size is m * 2^(h-p), so m is the size divided by 2^(h-p). The division stops the program if it leaves a
     // remainder.
-    let m = size.divided_by_power_of_two(h - p + SCALE).to_unsigned();
-    let whole = Whole::from_unsigned(u128::from(m));
-    assert!(Whole::power_of_two(p) <= whole && whole < Whole::power_of_two(p + 1));
+    let m = size.divided_by_power_of_two(h - p + SCALE);
+    assert!(Whole::power_of_two(p) <= m && m < Whole::power_of_two(p + 1));
+    // As p is at most 59, m is below 2^60.
+    let m = m.to_unsigned() as u64;
     Ok(Reading::Number { minus: number.is_negative(), h, m, p })
 }
 

@@ -5,6 +5,7 @@ pub mod blocks;
 pub mod columns;
 mod digest;
 mod faults;
+pub mod long;
 pub mod out;
 mod reading;
 mod results;
@@ -13,11 +14,12 @@ mod ways;
 pub mod whole;
 pub mod writing;
 
-/// The text of words: parts 1 to 12.
+/// The text of words: parts 1 to 12, then 41 to 44.
 pub fn words() -> Vec<String> {
     let mut lines = Vec::new();
     reading::push(&mut lines);
     writing::push(&mut lines);
+    long::push(&mut lines);
     lines
 }
 

@@ -21,7 +21,7 @@ pub fn push(lines: &mut Vec<String>) {
 }
 
 /// "The four writings of M, k": plus rounded, plus strict, minus rounded, minus strict.
-fn take_four_writings(digest: &mut Digest, width: u32, (m, k): Pair) {
+pub fn take_four_writings(digest: &mut Digest, width: u32, (m, k): Pair) {
     digest.take_answers(write(width, &Offer::plus(m, k)));
     digest.take_answers(write(width, &Offer::minus(m, k)));
 }

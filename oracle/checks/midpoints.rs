@@ -12,7 +12,7 @@ pub fn check() {
 }
 
 /// The first of two neighbouring positive words: all of them up to width 12, and some at every other width.
-fn first_neighbours(width: u32) -> Vec<u64> {
+pub fn first_neighbours(width: u32) -> Vec<u64> {
     let count = largest_word(width).unwrap() - 1;
     if width <= 12 {
         return (1..=count).collect();

@@ -8,6 +8,8 @@ mod blocks;
 mod columns;
 mod exact;
 mod figures;
+mod jamming;
+mod long;
 mod midpoints;
 mod moving;
 mod offers;
@@ -23,6 +25,8 @@ pub fn check_words() {
     offers::check();
     writing::check();
     moving::check();
+    long::check();
+    jamming::check();
 }
 
 /// What its numbers stand on besides.

@@ -92,7 +92,7 @@ fn check_ends() {
 }
 
 /// Asserts the answers with a plus sign, and their negations with a minus sign.
-fn check_writing(width: u32, (m, k): Pair, expected: Answers) {
+pub fn check_writing(width: u32, (m, k): Pair, expected: Answers) {
     let negated = |answer: Result<u64, Refusal>| answer.and_then(|word| negate(width, word));
     let with_minus = Answers { rounded: negated(expected.rounded), strict: negated(expected.strict) };
     assert!(write(width, &Offer::plus(m, k)) == expected, "{m} * 2^{k} at width {width}");
@@ -131,7 +131,7 @@ fn answers_over_all_words(width: u32, number: &Whole) -> Answers {
     Answers { rounded: Ok(nearest.unwrap().0), strict }
 }
 
-fn check_over_all_words(width: u32, (m, k): Pair) {
+pub fn check_over_all_words(width: u32, (m, k): Pair) {
     for offer in [Offer::plus(m, k), Offer::minus(m, k)] {
         assert!(write(width, &offer) == answers_over_all_words(width, &offer.number()), "{offer:?} at width {width}");
     }

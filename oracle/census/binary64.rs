@@ -1,7 +1,7 @@
 //! The lines on binary64 in (docs/CENSUS.md, parts 23 to 25); written from the papers alone.
 
 use crate::census::digest::Digest;
-use crate::census::runs::{run_line, runs, single_line, RUN};
+use crate::census::runs::{push_runs, single_line, RUN};
 use crate::census::ways::{take_binary64_in, take_binary64_with_both_signs};
 use crate::numbers::binary64::{binary64_out, finest, pattern_of, pattern_of_size, with_sign, Binary64, INFINITY, NAN};
 use crate::words::sequence::{low_bits, Sequence};
@@ -18,15 +18,11 @@ pub fn push(lines: &mut Vec<String>) {
 fn binary_lines(lines: &mut Vec<String>) {
     for width in 2..=64 {
         let mut sequence = Sequence::new(7000 + width);
-        for (first, count) in runs(0, 4095, RUN) {
-            let mut digest = Digest::new();
-            for _place in first..first + count {
-                for pattern in chosen_patterns(&mut sequence, width) {
-                    take_binary64_in(&mut digest, width, pattern);
-                }
+        push_runs(lines, ("binary", width), 0..=4095, RUN, |digest, _place| {
+            for pattern in chosen_patterns(&mut sequence, width) {
+                take_binary64_in(digest, width, pattern);
             }
-            lines.push(run_line("binary", width, first, count, &digest));
-        }
+        });
     }
 }
 

@@ -4,7 +4,7 @@
 use crate::census::columns::rooms_around;
 use crate::census::digest::Digest;
 use crate::census::results::take_block;
-use crate::census::runs::{run_line, runs};
+use crate::census::runs::push_runs;
 use crate::sheets::blocks::{
     make_block, number_of_place, room_of, seal, store_number_of_place, Block, BLOCK_SIZE, BLOCK_WIDTHS,
     COUNT_OF_NUMBERS, TWO_TO_32,
@@ -51,17 +51,13 @@ fn byte_lines(lines: &mut Vec<String>) {
         let mut sequence = Sequence::new(41_000 + width);
         let count = room_of(width) / 2;
         let block = next_block(&mut sequence, width, count);
-        for (first, run) in runs(0, BLOCK_SIZE as u64 - 1, 64) {
-            let mut digest = Digest::new();
-            for place in first..first + run {
-                let mut changed = block;
-                changed[place as usize] ^= 1 + (sequence.next_number() % 255) as u8;
-                take_block(&mut digest, &changed, count + 4);
-                seal(&mut changed);
-                take_block(&mut digest, &changed, count + 4);
-            }
-            lines.push(run_line("byte", width, first, run, &digest));
-        }
+        push_runs(lines, ("byte", width), 0..=BLOCK_SIZE as u64 - 1, 64, |digest, place| {
+            let mut changed = block;
+            changed[place as usize] ^= 1 + (sequence.next_number() % 255) as u8;
+            take_block(digest, &changed, count + 4);
+            seal(&mut changed);
+            take_block(digest, &changed, count + 4);
+        });
     }
 }
 

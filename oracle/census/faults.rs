@@ -4,7 +4,7 @@
 use crate::census::blocks::{block_line, next_block};
 use crate::census::digest::Digest;
 use crate::census::results::take_block;
-use crate::census::runs::{run_line, runs, single_line};
+use crate::census::runs::{push_runs, single_line};
 use crate::sheets::blocks::{end_of_words, make_block, room_of, seal, store, BLOCK_WIDTHS};
 use crate::sheets::faults::Faulty;
 use crate::words::sequence::Sequence;
@@ -24,14 +24,10 @@ fn fault_lines(lines: &mut Vec<String>) {
         let mut sequence = Sequence::new(43_000 + width);
         let count = room_of(width) / 2;
         let block = next_block(&mut sequence, width, count);
-        for (first, run) in runs(0, 127, 16) {
-            let mut digest = Digest::new();
-            for faults in first..first + run {
-                let faulty = Faulty::new(&block, width, count, faults);
-                take_block(&mut digest, &faulty.block[..faulty.size], faulty.room);
-            }
-            lines.push(run_line("fault", width, first, run, &digest));
-        }
+        push_runs(lines, ("fault", width), 0..=127, 16, |digest, faults| {
+            let faulty = Faulty::new(&block, width, count, faults);
+            take_block(digest, &faulty.block[..faulty.size], faulty.room);
+        });
     }
 }
 

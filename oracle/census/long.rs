@@ -3,7 +3,7 @@
 //! "The four roundings of X, k" are the four writings of X and k, a long value being an offer with X in the place of M.
 
 use crate::census::digest::Digest;
-use crate::census::runs::{run_line, runs, single_line, RUN};
+use crate::census::runs::{push_runs, single_line, RUN};
 use crate::census::writing::take_four_writings;
 use crate::words::sequence::Sequence;
 use crate::words::widths::largest_word;
@@ -36,13 +36,9 @@ fn take_midway(digest: &mut Digest, width: u32, a: u64) {
 /// Part 41: the midpoints between all positive words of the widths 3 to 16.
 fn midway_lines(lines: &mut Vec<String>) {
     for width in 3..=16 {
-        for (first, count) in runs(1, largest_word(width).unwrap() - 1, RUN) {
-            let mut digest = Digest::new();
-            for a in first..first + count {
-                take_midway(&mut digest, width, a);
-            }
-            lines.push(run_line("midway", width, first, count, &digest));
-        }
+        push_runs(lines, ("midway", width), 1..=largest_word(width).unwrap() - 1, RUN, |digest, a| {
+            take_midway(digest, width, a);
+        });
     }
 }
 
@@ -50,14 +46,10 @@ fn midway_lines(lines: &mut Vec<String>) {
 fn chosen_midway_lines(lines: &mut Vec<String>) {
     for width in 17..=64 {
         let mut sequence = Sequence::new(9000 + width);
-        for (first, count) in runs(0, 511, RUN) {
-            let mut digest = Digest::new();
-            for _place in first..first + count {
-                let a = 1 + sequence.next_number() % (largest_word(width).unwrap() - 1);
-                take_midway(&mut digest, width, a);
-            }
-            lines.push(run_line("midway", width, first, count, &digest));
-        }
+        push_runs(lines, ("midway", width), 0..=511, RUN, |digest, _place| {
+            let a = 1 + sequence.next_number() % (largest_word(width).unwrap() - 1);
+            take_midway(digest, width, a);
+        });
     }
 }
 
@@ -65,15 +57,11 @@ fn chosen_midway_lines(lines: &mut Vec<String>) {
 fn long_lines(lines: &mut Vec<String>) {
     for width in 2..=64 {
         let mut sequence = Sequence::new(8000 + width);
-        for (first, count) in runs(0, 1023, RUN) {
-            let mut digest = Digest::new();
-            for _place in first..first + count {
-                let (x, k) = chosen_long(&mut sequence);
-                take_four_writings(&mut digest, width, (x, k));
-                take_four_writings(&mut digest, width, (x % (1 << 64), k));
-            }
-            lines.push(run_line("long", width, first, count, &digest));
-        }
+        push_runs(lines, ("long", width), 0..=1023, RUN, |digest, _place| {
+            let (x, k) = chosen_long(&mut sequence);
+            take_four_writings(digest, width, (x, k));
+            take_four_writings(digest, width, (x % (1 << 64), k));
+        });
     }
 }
 

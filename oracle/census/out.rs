@@ -2,7 +2,7 @@
 //! alone.
 
 use crate::census::digest::Digest;
-use crate::census::runs::{run_line, runs, single_line, RUN};
+use crate::census::runs::{push_runs, single_line, RUN};
 use crate::census::ways::{take_binary64_out, take_ways_out, with_negation};
 use crate::words::refusals::count_of_words;
 use crate::words::sequence::{low_bits, Sequence};
@@ -21,13 +21,9 @@ pub fn push(lines: &mut Vec<String>) {
 /// Part 13: every word of the widths 2 to 16.
 fn every_word_lines(lines: &mut Vec<String>) {
     for width in 2..=16 {
-        for (first, count) in runs(0, count_of_words(width) as u64 - 1, RUN) {
-            let mut digest = Digest::new();
-            for word in first..first + count {
-                take_ways_out(&mut digest, width, word);
-            }
-            lines.push(run_line("out", width, first, count, &digest));
-        }
+        push_runs(lines, ("out", width), 0..=count_of_words(width) as u64 - 1, RUN, |digest, word| {
+            take_ways_out(digest, width, word);
+        });
     }
 }
 
@@ -35,13 +31,9 @@ fn every_word_lines(lines: &mut Vec<String>) {
 fn chosen_word_lines(lines: &mut Vec<String>) {
     for width in 17..=64 {
         let mut sequence = Sequence::new(5000 + width);
-        for (first, count) in runs(0, 4095, RUN) {
-            let mut digest = Digest::new();
-            for _place in first..first + count {
-                take_ways_out(&mut digest, width, chosen_word(&mut sequence, width));
-            }
-            lines.push(run_line("out", width, first, count, &digest));
-        }
+        push_runs(lines, ("out", width), 0..=4095, RUN, |digest, _place| {
+            take_ways_out(digest, width, chosen_word(&mut sequence, width));
+        });
     }
 }
 
@@ -92,20 +84,16 @@ pub fn word_of_power(width: u32, c: i32) -> u64 {
 /// Part 17: words with all fraction bits set, and those that lie beside them and beside the ties before them.
 fn full_lines(lines: &mut Vec<String>) {
     for width in 56..=64 {
-        for (first, count) in runs(0, 509, 64) {
-            let mut digest = Digest::new();
-            for place in first..first + count {
-                let full = i128::from(last_word_of_binade(width, place as i32 - 255));
-                for j in 0..=6 {
-                    for near in full - (1 << j)..=full - (1 << j) + 2 {
-                        for word in with_negation(width, near) {
-                            take_binary64_out(&mut digest, width, word);
-                        }
+        push_runs(lines, ("outfull", width), 0..=509, 64, |digest, place| {
+            let full = i128::from(last_word_of_binade(width, place as i32 - 255));
+            for j in 0..=6 {
+                for near in full - (1 << j)..=full - (1 << j) + 2 {
+                    for word in with_negation(width, near) {
+                        take_binary64_out(digest, width, word);
                     }
                 }
             }
-            lines.push(run_line("outfull", width, first, count, &digest));
-        }
+        });
     }
 }
 

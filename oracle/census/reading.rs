@@ -1,9 +1,9 @@
 //! The lines on reading (docs/CENSUS.md, parts 1 to 6); written from the papers alone.
 
 use crate::census::digest::Digest;
-use crate::census::runs::{run_line, runs, single_line, RUN};
+use crate::census::runs::{push_runs, single_line, RUN};
 use crate::words::reading::{compare, negate, read};
-use crate::words::refusals::{count_of_words, make_width, Refusal, BAD_WIDTHS};
+use crate::words::refusals::{count_of_words, make_width, stray_words, Refusal, BAD_WIDTHS};
 use crate::words::sequence::Sequence;
 use crate::words::widths::{exact_count_limit, largest_word, nar_word, smallest_word};
 
@@ -40,14 +40,10 @@ fn width_lines(lines: &mut Vec<String>) {
 fn every_word_lines(lines: &mut Vec<String>) {
     for width in 2..=16 {
         let mut sequence = Sequence::new(width);
-        for (first, count) in runs(0, count_of_words(width) as u64 - 1, RUN) {
-            let mut digest = Digest::new();
-            for a in first..first + count {
-                let b = sequence.next_word(width);
-                take_facts(&mut digest, width, a, b);
-            }
-            lines.push(run_line("word", width, first, count, &digest));
-        }
+        push_runs(lines, ("word", width), 0..=count_of_words(width) as u64 - 1, RUN, |digest, a| {
+            let b = sequence.next_word(width);
+            take_facts(digest, width, a, b);
+        });
     }
 }
 
@@ -55,15 +51,11 @@ fn every_word_lines(lines: &mut Vec<String>) {
 fn chosen_word_lines(lines: &mut Vec<String>) {
     for width in 17..=64 {
         let mut sequence = Sequence::new(width);
-        for (first, count) in runs(0, 4095, RUN) {
-            let mut digest = Digest::new();
-            for _place in first..first + count {
-                let a = sequence.next_word(width);
-                let b = sequence.next_word(width);
-                take_facts(&mut digest, width, a, b);
-            }
-            lines.push(run_line("word", width, first, count, &digest));
-        }
+        push_runs(lines, ("word", width), 0..=4095, RUN, |digest, _place| {
+            let a = sequence.next_word(width);
+            let b = sequence.next_word(width);
+            take_facts(digest, width, a, b);
+        });
     }
 }
 
@@ -103,8 +95,7 @@ fn refused_lines(lines: &mut Vec<String>) {
 fn stray_lines(lines: &mut Vec<String>) {
     for width in 2..=63 {
         let mut digest = Digest::new();
-        let lowest_stray: u64 = 1 << width;
-        for a in [lowest_stray, lowest_stray + 1, 1 << 63, u64::MAX] {
+        for a in stray_words(width) {
             assert!(read(width, a) == Err(Refusal::Stray));
             digest.take_reading(read(width, a));
             digest.take_number(negate(width, a));

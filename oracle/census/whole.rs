@@ -1,7 +1,7 @@
 //! The lines on whole numbers in (docs/CENSUS.md, parts 18 to 22); written from the papers alone.
 
 use crate::census::digest::Digest;
-use crate::census::runs::{run_line, runs, single_line, RUN};
+use crate::census::runs::{push_runs, single_line, RUN};
 use crate::census::ways::{take_round, take_ways_out, take_whole_in, with_negation};
 use crate::words::sequence::{low_bits, Sequence};
 use crate::words::widths::exact_count_limit;
@@ -17,13 +17,9 @@ pub fn push(lines: &mut Vec<String>) {
 /// Part 18: the whole numbers from -70,000 to 70,000.
 fn whole_lines(lines: &mut Vec<String>) {
     for width in (2..=20).chain([24, 32, 64]) {
-        for (first, count) in runs(0, 140_000, 4096) {
-            let mut digest = Digest::new();
-            for place in first..first + count {
-                take_whole_in(&mut digest, width, place as i64 - 70_000);
-            }
-            lines.push(run_line("whole", width, first, count, &digest));
-        }
+        push_runs(lines, ("whole", width), 0..=140_000, 4096, |digest, place| {
+            take_whole_in(digest, width, place as i64 - 70_000);
+        });
     }
 }
 
@@ -83,17 +79,13 @@ fn power_lines(lines: &mut Vec<String>) {
 fn tally_lines(lines: &mut Vec<String>) {
     for width in 2..=64 {
         let mut sequence = Sequence::new(6000 + width);
-        for (first, count) in runs(0, 511, RUN) {
-            let mut digest = Digest::new();
-            for _place in first..first + count {
-                let whole = i128::from(chosen_whole(&mut sequence));
-                for near in whole - 1..=whole + 1 {
-                    let near = near.try_into().expect("no draw leaves signed 64 bits");
-                    take_round(&mut digest, width, near);
-                }
+        push_runs(lines, ("tally", width), 0..=511, RUN, |digest, _place| {
+            let whole = i128::from(chosen_whole(&mut sequence));
+            for near in whole - 1..=whole + 1 {
+                let near = near.try_into().expect("no draw leaves signed 64 bits");
+                take_round(digest, width, near);
             }
-            lines.push(run_line("tally", width, first, count, &digest));
-        }
+        });
     }
 }
 

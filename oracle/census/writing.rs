@@ -1,8 +1,8 @@
 //! The lines on writing and moving (docs/CENSUS.md, parts 7 to 12); written from the papers alone.
 
 use crate::census::digest::Digest;
-use crate::census::runs::{run_line, runs, single_line, RUN};
-use crate::words::refusals::{count_of_words, BAD_WIDTHS};
+use crate::census::runs::{push_runs, single_line, RUN};
+use crate::words::refusals::{count_of_words, stray_words, BAD_WIDTHS};
 use crate::words::sequence::{low_bits, Sequence};
 use crate::words::widths::largest_word;
 use crate::writing::answers::write;
@@ -29,13 +29,9 @@ pub fn take_four_writings(digest: &mut Digest, width: u32, (m, k): Pair) {
 /// Part 7: the values of all positive words of the widths 2 to 16, and the midpoints between them.
 fn write_lines(lines: &mut Vec<String>) {
     for width in 2..=16 {
-        for (first, count) in runs(1, largest_word(width).unwrap(), RUN) {
-            let mut digest = Digest::new();
-            for a in first..first + count {
-                take_writings_around(&mut digest, width, a);
-            }
-            lines.push(run_line("write", width, first, count, &digest));
-        }
+        push_runs(lines, ("write", width), 1..=largest_word(width).unwrap(), RUN, |digest, a| {
+            take_writings_around(digest, width, a);
+        });
     }
 }
 
@@ -74,15 +70,11 @@ fn past_lines(lines: &mut Vec<String>) {
 fn move_lines(lines: &mut Vec<String>) {
     for from in 2..=16 {
         let targets = target_widths(from);
-        for (first, count) in runs(0, count_of_words(from) as u64 - 1, RUN) {
-            let mut digest = Digest::new();
-            for word in first..first + count {
-                for &to in &targets {
-                    digest.take_answers(move_word(from, to, word));
-                }
+        push_runs(lines, ("move", from), 0..=count_of_words(from) as u64 - 1, RUN, |digest, word| {
+            for &to in &targets {
+                digest.take_answers(move_word(from, to, word));
             }
-            lines.push(run_line("move", from, first, count, &digest));
-        }
+        });
     }
 }
 
@@ -98,15 +90,11 @@ fn target_widths(from: u32) -> Vec<u32> {
 fn draw_lines(lines: &mut Vec<String>) {
     for width in 2..=64 {
         let mut sequence = Sequence::new(1000 + width);
-        for (first, count) in runs(0, 4095, RUN) {
-            let mut digest = Digest::new();
-            for _place in first..first + count {
-                let draw = Draw::next(&mut sequence, width);
-                take_four_writings(&mut digest, width, draw.offer);
-                digest.take_answers(move_word(width, draw.target, draw.word));
-            }
-            lines.push(run_line("draw", width, first, count, &digest));
-        }
+        push_runs(lines, ("draw", width), 0..=4095, RUN, |digest, _place| {
+            let draw = Draw::next(&mut sequence, width);
+            take_four_writings(digest, width, draw.offer);
+            digest.take_answers(move_word(width, draw.target, draw.word));
+        });
     }
 }
 
@@ -146,8 +134,7 @@ fn unmoved_lines(lines: &mut Vec<String>) {
 fn strayed_lines(lines: &mut Vec<String>) {
     for width in 2..=63 {
         let mut digest = Digest::new();
-        let lowest_stray: u64 = 1 << width;
-        for word in [lowest_stray, lowest_stray + 1, 1 << 63, u64::MAX] {
+        for word in stray_words(width) {
             for to in [64, 65, width] {
                 digest.take_answers(move_word(width, to, word));
             }

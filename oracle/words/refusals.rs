@@ -28,6 +28,11 @@ pub fn make_width(width: u32) -> Result<u32, Refusal> {
 /// Bad widths to try.
 pub const BAD_WIDTHS: [u32; 5] = [0, 1, 65, 2147483648, 4294967295];
 
+/// Stray words to try, of a width below 64.
+pub fn stray_words(width: u32) -> [u64; 4] {
+    [1 << width, (1 << width) + 1, 1 << 63, u64::MAX]
+}
+
 /// "A word has a bit set at or above its width." The width is looked at first: that is paper 01's order for words.
 pub fn accept_word(width: u32, word: u64) -> Result<(), Refusal> {
     make_width(width)?;

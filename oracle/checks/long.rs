@@ -4,10 +4,9 @@ use crate::census::long::{chosen_long, offers_around_midpoint};
 use crate::census::writing::Draw;
 use crate::checks::midpoints::first_neighbours;
 use crate::checks::writing::{check_over_all_words, check_writing, exactly, only_rounded};
-use crate::words::refusals::{Refusal, BAD_WIDTHS};
 use crate::words::sequence::Sequence;
 use crate::words::widths::{largest_word, smallest_word};
-use crate::writing::answers::{write, Answers};
+use crate::writing::answers::write;
 use crate::writing::offers::Offer;
 
 pub fn check() {
@@ -16,7 +15,6 @@ pub fn check() {
     check_every_word_considered();
     check_same_value();
     check_ends();
-    check_refusals();
 }
 
 /// Paper 01's figures of writing and what lies a hair beside them, and offers worked out by hand.
@@ -83,28 +81,16 @@ fn check_same_value() {
     }
 }
 
-/// "Zero gives the zero word." Sizes past the ends give the end words of their sign: all sizes are above 2^-255 and
-/// below 2^255, and the greatest one of all, at width 64, is 2^255 - 2^202, as p is 52 there.
+/// Sizes past the ends give the end words of their sign. Every word has a size above 2^-255, and the greatest size of
+/// all, at width 64, is 2^255 - 2^202, as p is 52 there.
 fn check_ends() {
     let most = u128::MAX;
     for width in 2..=64 {
-        for k in [i32::MIN, -1, 0, 1, i32::MAX] {
-            check_writing(width, (0, k), exactly(0));
-        }
         for offer in [(1, i32::MIN), (most, i32::MIN), (most, -401), (most, -400), (most, -383), (1 << 127, -382)] {
             check_writing(width, offer, only_rounded(smallest_word(width).unwrap()));
         }
         for offer in [(1, i32::MAX), (most, i32::MAX), (1, 256), (1, 255), (1 << 127, 128), (most, 127)] {
             check_writing(width, offer, only_rounded(largest_word(width).unwrap()));
-        }
-    }
-}
-
-/// "The refusals are WIDTH and then, by the strict rule, INEXACT."
-fn check_refusals() {
-    for bad in BAD_WIDTHS {
-        for x in [0, 1, u128::MAX] {
-            assert!(write(bad, &Offer::minus(x, 0)) == Answers::alike(Err(Refusal::Width)));
         }
     }
 }

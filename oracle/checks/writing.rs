@@ -1,4 +1,4 @@
-//! Checks of the papers' statements on writing and moving; written from the papers alone.
+//! Checks of the papers' statements on writing; written from the papers alone.
 
 use crate::census::writing::Draw;
 use crate::exact::number::Whole;
@@ -10,7 +10,6 @@ use crate::writing::answers::{write, Answers};
 use crate::writing::around::{beside, itself, midpoint_above, Beside, Pair};
 use crate::writing::nearest::value_of;
 use crate::writing::offers::Offer;
-
 use std::cmp::Ordering;
 
 pub fn check() {
@@ -131,14 +130,14 @@ fn answers_over_all_words(width: u32, number: &Whole) -> Answers {
     Answers { rounded: Ok(nearest.unwrap().0), strict }
 }
 
+/// Holds one writing, with either sign, against the search over all words.
 pub fn check_over_all_words(width: u32, (m, k): Pair) {
     for offer in [Offer::plus(m, k), Offer::minus(m, k)] {
         assert!(write(width, &offer) == answers_over_all_words(width, &offer.number()), "{offer:?} at width {width}");
     }
 }
 
-/// Holds writing against the search over all words: at the widths 2 to 8 for every value and on and beside every
-/// midpoint; up to width 16 for some draws.
+/// Tries this at the widths 2 to 8 for every value and on and beside every midpoint; up to width 16 for some draws.
 fn check_every_word_considered() {
     for width in 2..=8 {
         let largest = largest_word(width).unwrap();

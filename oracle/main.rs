@@ -1,11 +1,6 @@
 //! The independent program: it reads, writes and moves linear takums, alone and in columns, takes whole numbers and
 //! binary64 in and out, reads sheet blocks, and prints the census and the figures. It is written from the papers alone.
 //!
-//! - `oracle` prints the census, `oracle figures` the figures.
-//! - `oracle list` prints what the lister must print of standard input.
-//! - `oracle sheet` writes the example sheet of a rack, `oracle sheet N` a pseudo-random sheet of N blocks, and
-//!   `oracle sheet stack` a sheet of many short blocks.
-//!
 //! The papers are paper 01 (the requirements), document 004, Definition 2 (the linear takum), and docs/CENSUS.md and
 //! docs/FIGURES.md (the lines to print). Nothing here was taken from the library. Every word is turned into its exact
 //! value. The sign, h and m of a reading and every comparison are found from exact values; a reading's p is the word's
@@ -15,53 +10,22 @@
 //!
 //! The assertions are statements of the papers, or follow from them. If one of them fails, the program stops.
 //!
-//! The files, each standing on those before it:
-//! - exact.rs, whole numbers of any size, and search.rs, the search in rising values;
-//! - refusals.rs, words.rs (the value of a word), widths.rs and reading.rs;
-//! - offers.rs, nearest.rs, writing.rs and moving.rs;
-//! - whole.rs and binary64.rs;
-//! - columns.rs, blocks.rs and lister.rs; rack.rs, long_sheets.rs and stack.rs, the sheets that are made;
-//! - census.rs, ways.rs and results.rs, what the lines are made with;
-//! - the files named _lines, which print the parts of docs/CENSUS.md; figures.rs, the lines of docs/FIGURES.md;
-//! - the files named _checks, which hold all this against the papers' statements and figures.
+//! The folders, each standing on those before it:
+//! - exact/, whole numbers of any size, and the search in rising values;
+//! - words/, the value and the reading of a word, the widths, the refusals, and pseudo-random words;
+//! - writing/, writing a value and moving a word; numbers/, whole numbers and binary64;
+//! - sheets/, columns, blocks and the lister, and the sheets that are made;
+//! - census/, the lines of docs/CENSUS.md, and figures/, those of docs/FIGURES.md;
+//! - checks/, which holds all this against the papers' statements and figures.
 
-mod binary64;
-mod binary64_checks;
-mod binary64_lines;
-mod block_checks;
-mod block_lines;
-mod blocks;
 mod census;
-mod column_checks;
-mod column_lines;
-mod columns;
+mod checks;
 mod exact;
-mod fault_lines;
 mod figures;
-mod figures_checks;
-mod lister;
-mod long_sheets;
-mod moving;
-mod nearest;
-mod offers;
-mod out_lines;
-mod rack;
-mod reading;
-mod reading_checks;
-mod reading_lines;
-mod refusals;
-mod results;
-mod search;
-mod stack;
-mod ways;
-mod whole;
-mod whole_checks;
-mod whole_lines;
-mod widths;
+mod numbers;
+mod sheets;
 mod words;
 mod writing;
-mod writing_checks;
-mod writing_lines;
 
 use std::io::{stdin, stdout, BufWriter, Read, Result, Write};
 
@@ -69,56 +33,61 @@ use std::io::{stdin, stdout, BufWriter, Read, Result, Write};
 // machine numbers are words, exponents and counts, and where 2^n itself is needed, the type has 128 bits. Everything
 // larger is a `Whole`. To see it, build with `-C overflow-checks=on` as well: the lines are the same.
 
+const USAGE: &str = "\
+usage: oracle words                  prints the first text of the census (docs/CENSUS.md)
+       oracle numbers                prints the second
+       oracle sheets                 prints the third
+       oracle figures                prints the figures (docs/FIGURES.md)
+       oracle list < SHEET           prints what the lister must print
+       oracle sheet > SHEET          writes the example sheet of a rack
+       oracle sheet N > SHEET        writes a pseudo-random sheet of N blocks
+       oracle sheet stack > SHEET    writes a sheet of many short blocks
+       oracle --help                 prints this text";
+
 fn main() {
     let arguments: Vec<String> = std::env::args().skip(1).collect();
     let arguments: Vec<&str> = arguments.iter().map(String::as_str).collect();
     let written = match arguments[..] {
-        [] => write_census(),
+        ["words"] => write_words(),
+        ["numbers"] => write_numbers(),
+        ["sheets"] => write_sheets(),
         ["figures"] => write_figures(),
         ["list"] => write_listing(),
-        ["sheet"] => stdout().write_all(&rack::rack_sheet()),
-        ["sheet", "stack"] => stdout().write_all(&stack::stack_sheet()),
+        ["sheet"] => stdout().write_all(&sheets::rack::rack_sheet()),
+        ["sheet", "stack"] => stdout().write_all(&sheets::stack::stack_sheet()),
         ["sheet", count] => match count.parse() {
             Ok(count) => write_long_sheet(count),
             Err(_) => leave_with_usage(),
         },
+        ["--help"] => writeln!(stdout(), "{USAGE}"),
         _ => leave_with_usage(),
     };
     written.expect("standard input gives its bytes and standard output takes them");
 }
 
 fn leave_with_usage() -> ! {
-    eprintln!("usage: oracle | oracle figures | oracle list < SHEET | oracle sheet [N | stack] > SHEET");
+    eprintln!("{USAGE}");
     std::process::exit(2);
 }
 
-fn write_census() -> Result<()> {
-    exact::check();
-    reading_checks::check();
-    writing_checks::check();
-    whole_checks::check();
-    binary64_checks::check();
-    column_checks::check();
-    block_checks::check();
+fn write_words() -> Result<()> {
+    checks::check_words();
+    write_lines(&census::words())
+}
 
-    let mut lines = Vec::new();
-    reading_lines::push(&mut lines);
-    writing_lines::push(&mut lines);
-    out_lines::push(&mut lines);
-    whole_lines::push(&mut lines);
-    binary64_lines::push(&mut lines);
-    ways::push_refusals(&mut lines);
-    column_lines::push(&mut lines);
-    block_lines::push(&mut lines);
-    fault_lines::push(&mut lines);
-    write_lines(&lines)
+fn write_numbers() -> Result<()> {
+    checks::check_numbers();
+    write_lines(&census::numbers())
+}
+
+fn write_sheets() -> Result<()> {
+    checks::check_sheets();
+    write_lines(&census::sheets())
 }
 
 fn write_figures() -> Result<()> {
-    figures_checks::check();
-
-    let mut lines = Vec::new();
-    figures::push(&mut lines);
+    let lines = figures::lines();
+    checks::check_figures(&lines);
     write_lines(&lines)
 }
 
@@ -131,12 +100,12 @@ fn write_listing() -> Result<()> {
     let mut input = Vec::new();
     stdin().read_to_end(&mut input)?;
     let mut output = BufWriter::new(stdout().lock());
-    lister::list(&input, &mut output)?;
+    sheets::lister::list(&input, &mut output)?;
     output.flush()
 }
 
 fn write_long_sheet(count: u32) -> Result<()> {
     let mut output = BufWriter::new(stdout().lock());
-    long_sheets::write_long_sheet(count, &mut output)?;
+    sheets::long::write_long_sheet(count, &mut output)?;
     output.flush()
 }

@@ -1,7 +1,7 @@
 //! The text of what the independent program answers.
-use crate::binary64::Binary64;
-use crate::reading::Reading;
-use crate::refusals::Refusal;
+use crate::numbers::binary64::Binary64;
+use crate::words::reading::Reading;
+use crate::words::refusals::Refusal;
 
 /// The text of a refusal: paper 01's number and name.
 pub fn refused(refusal: Refusal) -> String {

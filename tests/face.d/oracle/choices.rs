@@ -1,11 +1,12 @@
 //! Pseudo-random choices of widths, words, values and numbers, the edges among them.
-use crate::binary64::{finest, nearest_pattern, with_sign, INFINITY, NAN};
-use crate::census::{low_bits, Sequence, BAD_WIDTHS};
-use crate::nearest::value_of;
-use crate::offers::{itself, just_above, just_below, Offer};
-use crate::refusals::make_width;
-use crate::whole::whole_in;
-use crate::widths::{largest_word, nar_word};
+use crate::exact::number::Whole;
+use crate::numbers::binary64::{finest, nearest_pattern, with_sign, INFINITY, NAN};
+use crate::numbers::whole::whole_in;
+use crate::words::refusals::{make_width, BAD_WIDTHS};
+use crate::words::sequence::{low_bits, Sequence};
+use crate::words::widths::{largest_word, nar_word};
+use crate::writing::around::{beside, itself, midpoint_above};
+use crate::writing::offers::Offer;
 
 pub struct Choices(Sequence);
 
@@ -80,10 +81,15 @@ impl Choices {
     }
 
     /// The midpoint between two neighbouring positive words, held times 2^400.
-    fn midpoint(&mut self, width: u32) -> crate::exact::Whole {
+    fn midpoint(&mut self, width: u32) -> Whole {
         let largest = largest_word(width).unwrap();
         let a = if largest == 1 { 0 } else { 1 + self.below(largest - 1) };
-        value_of(width, a).plus(&value_of(width, a + 1)).divided_by_power_of_two(1)
+        midpoint_above(width, a)
+    }
+
+    /// A significand of any length.
+    fn significand(&mut self) -> u128 {
+        u128::from(self.number() >> self.below(64))
     }
 
     /// A value to write: any, one on or beside a midpoint between two words, or one with any exponent.
@@ -93,14 +99,14 @@ impl Choices {
             0 | 1 if make_width(width).is_ok() => {
                 let midpoint = self.midpoint(width);
                 match self.below(3) {
-                    0 => itself(&midpoint).unwrap_or_else(|| just_below(&midpoint)),
-                    1 => just_below(&midpoint),
-                    _ => just_above(&midpoint),
+                    0 => itself(&midpoint).unwrap_or_else(|| beside(&midpoint).below),
+                    1 => beside(&midpoint).below,
+                    _ => beside(&midpoint).above,
                 }
             }
-            2 => (self.number() >> self.below(64), self.number() as i32 >> self.below(32)),
-            3 => (self.one_of(&[0, 1, u64::MAX, 1 << 63]), self.one_of(&[i32::MIN, -308, -307, -255, 0, 191, 254, 255, i32::MAX])),
-            _ => (self.number() >> self.below(64), self.below(640) as i32 - 352),
+            2 => (self.significand(), self.number() as i32 >> self.below(32)),
+            3 => (u128::from(self.one_of(&[0, 1, u64::MAX, 1 << 63])), self.one_of(&[i32::MIN, -308, -307, -255, 0, 191, 254, 255, i32::MAX])),
+            _ => (self.significand(), self.below(640) as i32 - 352),
         };
         Offer { minus, m, k }
     }

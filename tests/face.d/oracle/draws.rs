@@ -1,13 +1,13 @@
 //! One pseudo-random case: the call, what it is given, and what the independent program answers.
 use crate::answers::{binary64, reading, sign, text, word};
-use crate::binary64::{binary64_in, binary64_out};
 use crate::choices::Choices;
 use crate::lent::{column, sheet_block};
-use crate::moving::move_word;
-use crate::reading::{compare, negate, read};
-use crate::whole::{whole_in, whole_out_cut, whole_out_strict};
-use crate::widths::{exact_count_limit, largest_word, nar_word, smallest_word};
-use crate::writing::{write, Answers};
+use crate::numbers::binary64::{binary64_in, binary64_out};
+use crate::numbers::whole::{whole_in, whole_out_cut, whole_out_strict};
+use crate::words::reading::{compare, negate, read};
+use crate::words::widths::{exact_count_limit, largest_word, nar_word, smallest_word};
+use crate::writing::answers::{write, Answers};
+use crate::writing::moving::move_word;
 
 pub fn case(choices: &mut Choices) -> String {
     match choices.below(64) {

@@ -1,9 +1,9 @@
 //! Pseudo-random columns and blocks, with faults that come alone and together.
 use crate::answers::{refused, row, text};
-use crate::blocks::{end_of_words, good_block, read_block, room_of, seal, store, BLOCK_SIZE, BLOCK_WIDTHS};
 use crate::choices::Choices;
-use crate::columns::{move_column, ColumnRefusal, Rule};
-use crate::refusals::make_width;
+use crate::sheets::blocks::{end_of_words, good_block, read_block, room_of, seal, store, BLOCK_SIZE, BLOCK_WIDTHS};
+use crate::sheets::columns::{move_column, ColumnRefusal, Rule};
+use crate::words::refusals::make_width;
 
 /// How much room the results have for `count` words: seldom too little.
 fn room_for(choices: &mut Choices, count: usize) -> usize {

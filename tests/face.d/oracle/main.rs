@@ -1,7 +1,7 @@
 //! Writes pseudo-random cases, as many as its argument says, with the answers of the independent program in oracle/; tests/face.d/README.md says
 //! what a case is.
 //!
-//! The files below are those of oracle/, unchanged; this program only chooses what to ask them and puts their answers into words.
+//! The folders below are those of oracle/, unchanged; this program only chooses what to ask them and puts their answers into words.
 #![allow(dead_code)] // what only the census needs
 
 mod answers;
@@ -9,35 +9,15 @@ mod choices;
 mod draws;
 mod lent;
 
-#[path = "../../../oracle/binary64.rs"]
-mod binary64;
-#[path = "../../../oracle/blocks.rs"]
-mod blocks;
-#[path = "../../../oracle/census.rs"]
-mod census;
-#[path = "../../../oracle/columns.rs"]
-mod columns;
-#[path = "../../../oracle/exact.rs"]
+#[path = "../../../oracle/exact/mod.rs"]
 mod exact;
-#[path = "../../../oracle/moving.rs"]
-mod moving;
-#[path = "../../../oracle/nearest.rs"]
-mod nearest;
-#[path = "../../../oracle/offers.rs"]
-mod offers;
-#[path = "../../../oracle/reading.rs"]
-mod reading;
-#[path = "../../../oracle/refusals.rs"]
-mod refusals;
-#[path = "../../../oracle/search.rs"]
-mod search;
-#[path = "../../../oracle/whole.rs"]
-mod whole;
-#[path = "../../../oracle/widths.rs"]
-mod widths;
-#[path = "../../../oracle/words.rs"]
+#[path = "../../../oracle/numbers/mod.rs"]
+mod numbers;
+#[path = "../../../oracle/sheets/mod.rs"]
+mod sheets;
+#[path = "../../../oracle/words/mod.rs"]
 mod words;
-#[path = "../../../oracle/writing.rs"]
+#[path = "../../../oracle/writing/mod.rs"]
 mod writing;
 
 use choices::Choices;

@@ -1,0 +1,82 @@
+//! The digest of a line, and how it takes an answer in (docs/CENSUS.md); written from the papers alone.
+
+use crate::words::reading::Reading;
+use crate::words::refusals::Refusal;
+use crate::words::sequence::{scramble, D0};
+use crate::writing::answers::Answers;
+
+/// The digest of one line.
+pub struct Digest(u64);
+
+impl Digest {
+    pub fn new() -> Digest {
+        Digest(D0)
+    }
+
+    pub fn take(&mut self, x: u64) {
+        self.0 = scramble(self.0.wrapping_add(x));
+    }
+
+    fn take_signed(&mut self, z: i64) {
+        if z >= 0 {
+            self.take(0);
+            self.take(z as u64);
+        } else {
+            self.take(1);
+            self.take((-1 - z) as u64);
+        }
+    }
+
+    pub fn take_refusal(&mut self, refusal: Refusal) {
+        self.take(3);
+        self.take(refusal as u64);
+    }
+
+    /// A word, a width or a limit.
+    pub fn take_number(&mut self, answer: Result<u64, Refusal>) {
+        match answer {
+            Err(refusal) => self.take_refusal(refusal),
+            Ok(number) => {
+                self.take(0);
+                self.take(number);
+            }
+        }
+    }
+
+    /// A comparison or a whole number.
+    pub fn take_signed_number(&mut self, answer: Result<i64, Refusal>) {
+        match answer {
+            Err(refusal) => self.take_refusal(refusal),
+            Ok(number) => {
+                self.take(0);
+                self.take_signed(number);
+            }
+        }
+    }
+
+    pub fn take_reading(&mut self, answer: Result<Reading, Refusal>) {
+        match answer {
+            Err(refusal) => self.take_refusal(refusal),
+            Ok(Reading::Zero) => self.take(0),
+            Ok(Reading::NaR) => self.take(1),
+            Ok(Reading::Number { minus, h, m, p }) => {
+                self.take(2);
+                self.take(u64::from(minus));
+                self.take_signed(h);
+                self.take(m);
+                self.take(p as u64);
+            }
+        }
+    }
+
+    /// First the rounded answer, then the strict one.
+    pub fn take_answers(&mut self, answers: Answers) {
+        self.take_number(answers.rounded);
+        self.take_number(answers.strict);
+    }
+
+    /// 16 lower-case hex digits.
+    pub fn text(&self) -> String {
+        format!("{:016x}", self.0)
+    }
+}

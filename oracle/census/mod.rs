@@ -1,0 +1,43 @@
+//! The census: the lines of its three texts (docs/CENSUS.md); written from the papers alone.
+
+pub mod binary64;
+pub mod blocks;
+pub mod columns;
+mod digest;
+mod faults;
+pub mod long;
+pub mod out;
+mod reading;
+mod results;
+mod runs;
+mod ways;
+pub mod whole;
+pub mod writing;
+
+/// The text of words: parts 1 to 12, then 41 to 44.
+pub fn words() -> Vec<String> {
+    let mut lines = Vec::new();
+    reading::push(&mut lines);
+    writing::push(&mut lines);
+    long::push(&mut lines);
+    lines
+}
+
+/// The text of numbers: parts 13 to 27.
+pub fn numbers() -> Vec<String> {
+    let mut lines = Vec::new();
+    out::push(&mut lines);
+    whole::push(&mut lines);
+    binary64::push(&mut lines);
+    ways::push_refusals(&mut lines);
+    lines
+}
+
+/// The text of sheets: parts 28 to 40.
+pub fn sheets() -> Vec<String> {
+    let mut lines = Vec::new();
+    columns::push(&mut lines);
+    blocks::push(&mut lines);
+    faults::push(&mut lines);
+    lines
+}

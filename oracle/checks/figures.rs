@@ -1,0 +1,152 @@
+//! Checks of the printed figures against paper 01; written from the papers alone.
+//!
+//! Each line stands below the sentence of the paper that gives it, or that it follows from; the paper's marks P are
+//! left out. The words that the paper doesn't name were worked out by hand from the fields of Definition 2: S, D, R, C
+//! and F from the top.
+
+/// Every line below is printed, and no other is.
+pub fn check(lines: &[String]) {
+    let expected = [&READING[..], &LIMITS, &WRITING, &ERRORS_THAT_LOOK_RIGHT, &WHOLE_NUMBERS, &BINARY64].concat();
+    for line in &expected {
+        assert!(lines.iter().any(|printed| printed == line), "not printed: {line}");
+    }
+    for line in lines {
+        assert!(expected.contains(&line.as_str()), "not from the paper: {line}");
+    }
+    assert!(lines.len() == expected.len());
+}
+
+const READING: [&str; 14] = [
+    // "0xFFF at width 12 has e = -255 and F = 0 and is -2^-254."
+    "width 12 word fff is -1 * 2^-254",
+    // "0x4800 is 2; 0x4A00 is 3." "514 is 0x5A01."
+    "width 16 word 4800 is 1 * 2^1",
+    "width 16 word 4a00 is 3 * 2^0",
+    "width 16 word 5a01 is 257 * 2^1",
+    // "Width 8: 7 is 0x4F, 8 is 0x50." "0x7E is 2^223."
+    "width 8 word 4f is 7 * 2^0",
+    "width 8 word 50 is 1 * 2^3",
+    "width 8 word 7e is 1 * 2^223",
+    // "Width 2: 01 is 1, 11 is -1, 10 is NaR."
+    "width 2 word 1 is 1 * 2^0",
+    "width 2 word 3 is -1 * 2^0",
+    "width 2 word 2 is nar",
+    // "Width 0 and width 65 are refused 1; 0x10000 at width 16 is refused 2."
+    "width 0 is refused 1",
+    "width 65 is refused 1",
+    "width 16 word 10000 is refused 2",
+    // "Reading a negative word as a sign beside a size. 0xBC00 then comes out wrong." "0xBC00 is -1.5."
+    "width 16 word bc00 is -3 * 2^-1",
+];
+
+/// "Limits: 1 at widths 2, 3 and 4; 2 at 5; 8 at 8; 64 at 12; 512 at 16; 2^24 at 32; 2^55 at 64."
+const LIMITS: [&str; 9] = [
+    "width 2 limit 1",
+    "width 3 limit 1",
+    "width 4 limit 1",
+    "width 5 limit 2",
+    "width 8 limit 8",
+    "width 12 limit 64",
+    "width 16 limit 512",
+    "width 32 limit 16777216",
+    "width 64 limit 36028797018963968",
+];
+
+const WRITING: [&str; 18] = [
+    // "514 is 0x5A01; 515 rounded is 0x5A02", which is 516.
+    "width 16 writing 257 * 2^1 rounded gives 5a01",
+    "width 16 writing 257 * 2^1 strict gives 5a01",
+    "width 16 writing 515 * 2^0 rounded gives 5a02",
+    "width 16 writing 515 * 2^0 strict is refused 4",
+    // "2^-300 writes as 0x0001; 2^300 as 0x7FFF."
+    "width 16 writing 1 * 2^-300 rounded gives 1",
+    "width 16 writing 1 * 2^300 rounded gives 7fff",
+    // "Width 8: 7 is 0x4F, 8 is 0x50, 9 and 10 rounded are 0x50, 9 strict is INEXACT."
+    "width 8 writing 7 * 2^0 rounded gives 4f",
+    "width 8 writing 7 * 2^0 strict gives 4f",
+    "width 8 writing 1 * 2^3 rounded gives 50",
+    "width 8 writing 1 * 2^3 strict gives 50",
+    "width 8 writing 9 * 2^0 rounded gives 50",
+    "width 8 writing 9 * 2^0 strict is refused 4",
+    "width 8 writing 5 * 2^1 rounded gives 50",
+    // "Width 2: ... every positive value writes as 01."
+    "width 2 writing 1 * 2^0 rounded gives 1",
+    "width 2 writing 3 * 2^0 rounded gives 1",
+    "width 2 writing 1 * 2^-300 rounded gives 1",
+    "width 2 writing 1 * 2^300 rounded gives 1",
+    // "0xBC00 is -1.5."
+    "width 16 writing -3 * 2^-1 strict gives bc00",
+];
+
+const ERRORS_THAT_LOOK_RIGHT: [&str; 11] = [
+    // "At width 8, 2^231 is nearest to 0x7E by value."
+    "width 8 writing 1 * 2^231 rounded gives 7e",
+    // "513 + 2^-20 at width 64 goes to 514 at 16; through 32 it would go to 512." Times 2^20 it is 537919489. It is
+    // 512 * (1 + 2^-9 + 2^-29), and p is 56, so F is 2^47 + 2^27 after the 0x5A of 512.
+    "width 64 writing 537919489 * 2^-20 strict gives 5a00800008000000",
+    "width 64 moving 5a00800008000000 to width 16 rounded gives 5a01",
+    "width 64 moving 5a00800008000000 to width 32 rounded gives 5a008000",
+    "width 32 moving 5a008000 to width 16 rounded gives 5a00",
+    // "Sending tiny values to zero because zero is nearer."
+    "width 16 writing -1 * 2^-300 rounded gives ffff",
+    "width 64 writing 1 * 2^-2147483648 rounded gives 1",
+    // "Adding one past all ones in the fraction without letting the carry run into the characteristic and regime."
+    // These go up to 2 (0 1 001 0), 4 (0 1 001 1), 2^7 (0 1 011 000) and 2^15 (0 1 100 0000), F being 0.
+    "width 16 writing 18446744073709551615 * 2^-63 rounded gives 4800",
+    "width 16 writing 18446744073709551615 * 2^-62 rounded gives 4c00",
+    "width 16 writing 18446744073709551615 * 2^-57 rounded gives 5800",
+    "width 16 writing 18446744073709551615 * 2^-49 rounded gives 6000",
+];
+
+const WHOLE_NUMBERS: [&str; 23] = [
+    // "515 rounded is 0x5A02", and 0x5A01 being 514, that is 516. "512 at 16; 2^24 at 32": at 32 bits 515 has a word,
+    // 512 * (1 + 3 * 2^-9), and p is 24, so F is 3 * 2^15 after the 0x5A of 512.
+    "width 16 whole number 515 rounded gives 5a02",
+    "width 16 word 5a02 cut is 516",
+    "width 16 whole number 515 strict is refused 4",
+    "width 32 whole number 515 strict gives 5a018000",
+    "width 32 word 5a018000 strict is 515",
+    // "512 writes as 0x5A00. 513 rounded is 0x5A00, strict is INEXACT." "Negation is two's complement negation."
+    "width 16 whole number 512 strict gives 5a00",
+    "width 16 whole number 513 strict is refused 4",
+    "width 16 whole number -512 strict gives a600",
+    "width 16 whole number -513 strict is refused 4",
+    // "1,023 rounded is 0x5B00." "9 and 10 rounded are 0x50."
+    "width 16 whole number 1023 rounded gives 5b00",
+    "width 8 whole number 10 rounded gives 50",
+    // "-0.5 cut is 0", 0x3800 being 0.5. "0xBC00 is -1.5." "0x8000 is NaR": "a whole number is wanted of NaR".
+    "width 16 word c800 cut is 0",
+    "width 16 word c800 strict is refused 4",
+    "width 16 word bc00 cut is -1",
+    "width 16 word 8000 cut is refused 3",
+    "width 16 word 10000 cut is refused 2",
+    "width 65 word 0 cut is refused 1",
+    // "A word of value -2^63 goes out; 2^63 is refused 5." 2^63 is 0 1 110 000000. At width 64 the words below it lie
+    // 2^8 apart, so it is the nearest to 2^63 - 1.
+    "width 16 whole number -9223372036854775808 strict gives 9000",
+    "width 64 whole number 9223372036854775807 strict is refused 4",
+    "width 64 whole number 9223372036854775807 rounded gives 7000000000000000",
+    "width 16 word 9000 strict is -9223372036854775808",
+    "width 16 word 7000 strict is refused 5",
+    "width 16 word 7000 cut is refused 5",
+];
+
+const BINARY64: [&str; 13] = [
+    // "0x4400 is 1.5; 0xBC00 is -1.5": exponent field 1023 and the highest fraction bit.
+    "width 16 binary64 3ff8000000000000 strict gives 4400",
+    "width 16 binary64 bff8000000000000 strict gives bc00",
+    // "NaN and both infinities give NaR, both zeros give zero, every other number is written rounded or strict." The
+    // least and the greatest number lie past the ends of the width.
+    "width 16 binary64 0 strict gives 0",
+    "width 16 binary64 8000000000000000 strict gives 0",
+    "width 16 binary64 1 rounded gives 1",
+    "width 16 binary64 7fefffffffffffff rounded gives 7fff",
+    "width 16 binary64 7ff0000000000000 strict gives 8000",
+    "width 16 binary64 nan strict gives 8000",
+    // "binary64 out answers either a number or "no reading" for NaR." "Zero goes out as positive zero."
+    "width 16 word 4400 as binary64 is 3ff8000000000000",
+    "width 16 word bc00 as binary64 is bff8000000000000",
+    "width 16 word 0 as binary64 is 0",
+    "width 16 word 8000 as binary64 is no reading",
+    "width 16 word 10000 as binary64 is refused 2",
+];

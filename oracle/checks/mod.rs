@@ -1,0 +1,49 @@
+//! Checks of all this against the papers' statements and figures; written from the papers alone.
+//!
+//! Each assertion is a statement of the papers or of docs/CENSUS.md, or follows from one. If one of them fails, the
+//! program stops.
+
+mod binary64;
+mod blocks;
+mod columns;
+mod exact;
+mod figures;
+mod jamming;
+mod long;
+mod midpoints;
+mod moving;
+mod offers;
+mod patterns;
+mod reading;
+mod whole;
+mod writing;
+
+/// What the words of the census stand on.
+pub fn check_words() {
+    exact::check();
+    reading::check();
+    offers::check();
+    writing::check();
+    moving::check();
+    long::check();
+    jamming::check();
+}
+
+/// What its numbers stand on besides.
+pub fn check_numbers() {
+    whole::check();
+    patterns::check();
+    binary64::check();
+    midpoints::check();
+}
+
+/// What its sheets stand on besides.
+pub fn check_sheets() {
+    columns::check();
+    blocks::check();
+}
+
+/// The lines of the figures.
+pub fn check_figures(lines: &[String]) {
+    figures::check(lines);
+}

@@ -1,0 +1,36 @@
+//! What the lister must print (paper 01, "The lister"); written from the papers alone.
+
+use crate::numbers::whole::whole_out_cut;
+use crate::sheets::blocks::{read_block, BLOCK_SIZE};
+use crate::words::refusals::Refusal;
+use std::io::{Result, Write};
+
+/// Lists the blocks of an input. Only the last piece can be short; it is not 512 bytes long, so reading it is refused 7.
+pub fn list(input: &[u8], output: &mut impl Write) -> Result<()> {
+    // The room that the width with the most words needs; no block is refused for want of it.
+    let mut words = [0; 496];
+    for (place, piece) in input.chunks(BLOCK_SIZE).enumerate() {
+        match read_block(piece, &mut words) {
+            Err(refusal) => writeln!(output, "block {place} refused {}", refusal as u64)?,
+            Ok(heading) => {
+                // "The word in lower-case hex with all its digits": four bits make a digit.
+                let digits = heading.width as usize / 4;
+                for (position, &word) in words[..heading.count].iter().enumerate() {
+                    let whole = whole_text(heading.width, word);
+                    writeln!(output, "{} {position} {word:0digits$x} {whole}", heading.number)?;
+                }
+            }
+        }
+    }
+    Ok(())
+}
+
+/// "The cut whole number, or `nar`, or `over` for refusal 5."
+fn whole_text(width: u32, word: u64) -> String {
+    match whole_out_cut(width, word) {
+        Ok(whole) => whole.to_string(),
+        Err(Refusal::NaR) => "nar".to_string(),
+        Err(Refusal::Over) => "over".to_string(),
+        Err(refusal) => panic!("a word of a block is never refused {}", refusal as u64),
+    }
+}

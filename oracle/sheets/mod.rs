@@ -1,0 +1,9 @@
+//! Columns, sheet blocks and the lister, and the sheets that are made for its tests; written from the papers alone.
+
+pub mod blocks;
+pub mod columns;
+pub mod faults;
+pub mod lister;
+pub mod long;
+pub mod rack;
+pub mod stack;

@@ -1,0 +1,47 @@
+//! Writing a value as a word, rounded and strict, with the refusals; written from the papers alone.
+
+use crate::exact::number::Whole;
+use crate::words::refusals::{make_width, Refusal};
+use crate::writing::nearest::{nearest_word, value_of};
+use crate::writing::offers::Offer;
+
+/// The two answers to one question: that of rounded writing or moving, and that of strict.
+#[derive(Clone, Copy, Debug, PartialEq, Eq)]
+pub struct Answers {
+    pub rounded: Result<u64, Refusal>,
+    pub strict: Result<u64, Refusal>,
+}
+
+impl Answers {
+    /// Where rounded and strict do not differ.
+    pub fn alike(answer: Result<u64, Refusal>) -> Answers {
+        Answers { rounded: answer, strict: answer }
+    }
+}
+
+/// Writes an offered value at a width.
+pub fn write(width: u32, offer: &Offer) -> Answers {
+    match make_width(width) {
+        Err(refusal) => Answers::alike(Err(refusal)),
+        Ok(width) => write_number(width, &offer.number()),
+    }
+}
+
+/// Writes a number, held times 2^400, at a good width.
+///
+/// Paper 01 has three cases for a nonzero size: at or above the largest, at or below the smallest, and all else. In all
+/// three the answer is the nearest of the nonzero words of that sign. So there is only one case here;
+/// checks/writing.rs tries the ends.
+pub fn write_number(width: u32, number: &Whole) -> Answers {
+    if number.is_zero() {
+        // "Zero gives the zero word", and that word has exactly this value.
+        return Answers::alike(Ok(0));
+    }
+    let word = nearest_word(width, number);
+    let value = value_of(width, word);
+    assert!(!value.is_zero() && value.is_negative() == number.is_negative());
+    // Strict: "The word with exactly that value, or INEXACT if there is none." A word with exactly that value has
+    // distance 0 and every other word has more. So if there is one, it is the nearest.
+    let strict = if value == *number { Ok(word) } else { Err(Refusal::Inexact) };
+    Answers { rounded: Ok(word), strict }
+}

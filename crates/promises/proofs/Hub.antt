@@ -12,7 +12,7 @@ use Rattle.word.specs.Reads.{num}
 use Rattle.word.proofs.Units.{unit-some}
 use Rattle.round.specs.declared.value.LongValue.{LongValue}
 use Rattle.round.specs.declared.value.Rule.{Rule}
-use Rattle.round.specs.Nearest.{IsRounded, IsExact, IsWritten, WritesShort, WritesSize, WritesLong}
+use Rattle.round.specs.Writes.{IsRounded, IsExact, IsWritten, WritesShort, WritesSize, WritesLong}
 use Rattle.round.proofs.Jamming as jams
 use Rattle.round.proofs.Jamming.{between-written, enough-bits-jam, jamming, sixty-five-bits-dont-jam}
 use Rattle.round.proofs.OneOutcome.{writes-short-one}

@@ -4,12 +4,12 @@ use mathlib.Core.Bool.{Bool}
 use Prim.Native.Nat.{ℕ, _+_, _-_, _*_, _^_, _≤_, _<_}
 use lib.IntN.{ℤ, pos, _+ℤ_, _-ℤ_}
 use Rattle.bounds.specs.declared.answer.Answer.{Answer}
-use Rattle.word.specs.declared.size.Size.{Size}
+use Rattle.sizes.specs.declared.size.Size.{Size}
 use Rattle.word.specs.Reads.{num, den}
 use Rattle.round.specs.declared.value.LongValue.{LongValue}
 use Rattle.round.specs.declared.value.Rule.{Rule}
 use Rattle.round.specs.Jamming.{Between, jammed}
-use Rattle.round.specs.Nearest.{IsRounded, IsExact, IsWritten, WritesShort, WritesSize, WritesLong}
+use Rattle.round.specs.Writes.{IsRounded, IsExact, IsWritten, WritesShort, WritesSize, WritesLong}
 use Rattle.write.specs.declared.value.Value.{Value}
 use Rattle.write.specs.Writes.{Writes}
 use Rattle.promises.specs.Writing.{GivenOrInexact}

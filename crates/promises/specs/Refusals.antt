@@ -15,18 +15,18 @@ use Rattle.bounds.specs.declared.width.Limit.{Limit}
 use Rattle.bounds.specs.declared.width.Made.{Made}
 use Rattle.bounds.specs.Refusals.{widthTest, wordTest, roomTest, IsWord}
 use Rattle.bounds.specs.Widths.{Makes, GivesWord, GivesLimit}
-use Rattle.word.specs.declared.order.Comparison.{Comparison}
+use Rattle.order.specs.declared.order.Comparison.{Comparison}
 use Rattle.word.specs.declared.reading.Reading.{Reading}
-use Rattle.word.specs.declared.size.Size.{Size}
-use Rattle.word.specs.declared.size.WordSize.{WordSize}
+use Rattle.sizes.specs.declared.size.Size.{Size}
+use Rattle.sizes.specs.declared.size.WordSize.{WordSize}
 use Rattle.word.specs.Takum.{real, NaR, takum}
 use Rattle.word.specs.Reads.{num, den, Reads}
-use Rattle.word.specs.Sizes.{ReadsSize}
-use Rattle.word.specs.Orders.{Compares, Negates}
+use Rattle.sizes.specs.Sizes.{ReadsSize}
+use Rattle.order.specs.Orders.{Compares, Negates}
 use Rattle.round.specs.declared.value.LongValue.{LongValue}
 use Rattle.round.specs.declared.value.Rule.{Rule}
 use Rattle.write.specs.declared.value.Value.{Value}
-use Rattle.round.specs.Nearest.{IsExact, WritesShort, WritesSize, WritesLong}
+use Rattle.round.specs.Writes.{IsExact, WritesShort, WritesSize, WritesLong}
 use Rattle.write.specs.Writes.{Writes, Moves}
 use Rattle.whole.specs.declared.taking.Taking.{Taking}
 use Rattle.whole.specs.declared.taking.Whole.{Whole}

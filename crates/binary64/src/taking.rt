@@ -1,8 +1,8 @@
 // Taking a word out as a binary64 number.
 use bounds::refusal::Refusal;
 use bounds::width::Width;
-use word::size::WordSize;
-use word::size::read_size;
+use sizes::size::WordSize;
+use sizes::size::read_size;
 ghost use mathlib.Core.Path.{_≡_};
 ghost use Prim.Native.Nat.{_*_, _^_, _≤_, _<_};
 ghost use lib.Dec.{eqb};

@@ -5,7 +5,7 @@ use census::digest::take;
 use census::digest::take_kind;
 use census::digest::take_refusal;
 use census::digest::take_signed;
-use word::order::Comparison;
+use order::order::Comparison;
 use word::reading::Reading;
 
 pub(crate) fn take_made(digest: u64, made: Made) -> u64 {

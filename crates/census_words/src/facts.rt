@@ -4,8 +4,8 @@ use crate::answers::take_reading;
 use bounds::width::Width;
 use census::bits::low_bits;
 use census::digest::take_answer;
-use word::order::compare;
-use word::order::negate;
+use order::order::compare;
+use order::order::negate;
 use word::reading::read;
 ghost use Prim.Native.Nat.{_≤_};
 

@@ -7,7 +7,7 @@ use bounds::width::Width;
 use census::bits::ALL_BITS;
 use census::bits::TOP_BIT;
 use census::digest::take_answer;
-use word::order::compare;
+use order::order::compare;
 
 pub(crate) fn take_unread(digest: u64, n: u32) -> u64 {
     let width = Width { bits: n };

@@ -6,11 +6,12 @@ use Prim.Native.Nat.{ℕ, _-_, _^_, _≤_, _<_}
 use native.Mathlib.Nat.{pos-of-ne-zero}
 use native.Mathlib.Omega.{arith}
 use lib.Pow.{pow-pos}
-use Rattle.word.specs.declared.order.Comparison.{Comparison}
+use Rattle.order.specs.declared.order.Comparison.{Comparison}
 use Rattle.word.specs.Takum.{takum}
 use Rattle.bounds.specs.Widths.{narWord, largest, smallest}
 use Rattle.word.specs.Reads.{Reads}
-use Rattle.word.specs.Orders.{Compares, Negates, negated}
+use Rattle.order.specs.Orders.{Compares, Negates}
+use Rattle.word.specs.Orders.{negated}
 use Rattle.bounds.proofs.Powers.{twice}
 use Rattle.bounds.proofs.Verdicts.{word-passes, words-pass, answered}
 use Rattle.word.proofs.Words.{takum-NaR}

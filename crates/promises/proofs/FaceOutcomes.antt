@@ -7,7 +7,7 @@ use lib.IntN.{ℤ}
 use lib.ListN.{length}
 use Rattle.bounds.specs.Widths.{GivesWord, GivesLimit}
 use Rattle.word.specs.Reads.{Reads}
-use Rattle.word.specs.Orders.{Compares, Negates}
+use Rattle.order.specs.Orders.{Compares, Negates}
 use Rattle.round.specs.declared.value.Rule.{Rule}
 use Rattle.write.specs.declared.value.Value.{Value}
 use Rattle.write.specs.Writes.{Writes, Moves}

@@ -14,11 +14,12 @@ use Rattle.bounds.specs.Refusals.{IsWord}
 use Rattle.bounds.specs.Widths.{largest, smallest, narWord, IsLimit, GivesWord, GivesLimit}
 use Rattle.bounds.proofs.Powers.{not-more}
 use Rattle.bounds.proofs.Verdicts.{width-through, word-through, words-through}
-use Rattle.word.specs.declared.order.Comparison.{Comparison}
+use Rattle.order.specs.declared.order.Comparison.{Comparison}
 use Rattle.word.specs.declared.reading.Reading.{Reading}
 use Rattle.word.specs.Takum.{Takum, real, NaR, takum, fractionBits}
 use Rattle.word.specs.Reads.{IsReading, Reads}
-use Rattle.word.specs.Orders.{signed, order, opposite, negated, Compares, Negates}
+use Rattle.word.specs.Orders.{signed, order, opposite, negated}
+use Rattle.order.specs.Orders.{Compares, Negates}
 use Rattle.word.proofs.Values.{order-of-values, order-same, NaR-below, above-NaR, words-differ, negated-word, negation-negates}
 use Rattle.round.specs.Nearest.{HasValue}
 use Rattle.write.specs.Writes.{isNegative}

@@ -10,18 +10,19 @@ use Rattle.bounds.specs.declared.answer.Answer.{Answer}
 use Rattle.bounds.specs.declared.refusal.Refusal.{Refusal}
 use Rattle.bounds.specs.declared.refusal.Verdict.{Verdict}
 use Rattle.word.specs.declared.fields.Fields.{Fields}
-use Rattle.word.specs.declared.size.Size.{Size}
-use Rattle.word.specs.declared.order.Comparison.{Comparison}
+use Rattle.sizes.specs.declared.size.Size.{Size}
+use Rattle.order.specs.declared.order.Comparison.{Comparison}
 use Rattle.word.specs.declared.reading.Reading.{Reading}
 use Rattle.bounds.specs.declared.width.Limit.{Limit}
 use Rattle.bounds.specs.declared.width.Made.{Made}
 use Rattle.word.specs.Takum.{takum, fractionBits}
 use Rattle.word.specs.Cuts.{Cuts}
-use Rattle.word.specs.Sizes.{Sizes}
+use Rattle.sizes.specs.Sizes.{Sizes}
 use Rattle.bounds.specs.Refusals.{numberOf, widthTest, wordTest, roomTest, _then_}
 use Rattle.bounds.specs.Widths.{Greatest, greatest, none, IsLimit, Makes, GivesWord, GivesLimit}
 use Rattle.word.specs.Reads.{IsReading, Reads}
-use Rattle.word.specs.Orders.{signed, order, negated, Compares, Negates}
+use Rattle.word.specs.Orders.{signed, order, negated}
+use Rattle.order.specs.Orders.{Compares, Negates}
 use Rattle.bounds.proofs.Answers.{wordOf, GivesAWord}
 use Rattle.bounds.proofs.Verdicts.{decided-one}
 use Rattle.word.proofs.Binades.{reading-one}

@@ -5,7 +5,7 @@ use native.Mathlib.Omega.{arith}
 use Rattle.bounds.specs.Widths.{Makes, GivesWord, GivesLimit}
 use Rattle.word.specs.Takum.{takum, fractionBits}
 use Rattle.word.specs.Reads.{Reads}
-use Rattle.word.specs.Orders.{Compares, Negates}
+use Rattle.order.specs.Orders.{Compares, Negates}
 use Rattle.whole.specs.Wholes.{IsTakenWhole}
 use Rattle.binary64.specs.Takes as taken
 use Rattle.column.specs.Columns.{MovesColumn}

@@ -19,11 +19,11 @@ use Rattle.bounds.specs.Refusals.{numberOf, widthTest, strayTest, wordTest, _th
 use Rattle.bounds.specs.Widths.{narWord}
 use Rattle.bounds.proofs.Powers.{not-more}
 use Rattle.bounds.proofs.Verdicts.{width-through, word-through}
-use Rattle.word.specs.declared.order.Comparison.{Comparison}
+use Rattle.order.specs.declared.order.Comparison.{Comparison}
 use Rattle.word.specs.declared.reading.Reading.{Reading}
 use Rattle.word.specs.Takum.{Takum, real, NaR, takum}
 use Rattle.word.specs.Reads.{IsReading}
-use Rattle.word.specs.Orders.{Compares}
+use Rattle.order.specs.Orders.{Compares}
 use Rattle.word.proofs.Words.{takum-NaR}
 use Rattle.word.proofs.Values.{real-inj, not-NaR}
 use Rattle.round.specs.declared.value.Rule.{Rule}

@@ -4,16 +4,17 @@ use mathlib.Core.Bool.{false}
 use Prim.Native.Nat.{ℕ, _-_, _*_, _^_, _≤_, _<_}
 use lib.IntN.{ℤ, negsuc, pos, _-ℤ_}
 use Rattle.bounds.specs.declared.answer.Answer.{Answer}
-use Rattle.word.specs.declared.order.Comparison.{Comparison}
+use Rattle.order.specs.declared.order.Comparison.{Comparison}
 use Rattle.word.specs.declared.reading.Reading.{Reading}
 use Rattle.bounds.specs.declared.refusal.Refusal.{Refusal}
 use Rattle.word.specs.Takum.{real, NaR, takum, fractionBits}
 use Rattle.bounds.specs.Refusals.{numberOf, widthTest, strayTest, _then_, IsWord, Decided}
 use Rattle.bounds.specs.Widths.{narWord, largest, smallest}
-use Rattle.word.specs.declared.size.Size.{Size}
+use Rattle.sizes.specs.declared.size.Size.{Size}
 use Rattle.word.specs.Reads.{IsSize, signedSize, IsReading, Reads}
-use Rattle.word.specs.Sizes.{Sizes}
-use Rattle.word.specs.Orders.{order, opposite, Compares, Negates}
+use Rattle.sizes.specs.Sizes.{Sizes}
+use Rattle.word.specs.Orders.{order, opposite}
+use Rattle.order.specs.Orders.{Compares, Negates}
 use Rattle.round.specs.Nearest.{HasValue}
 
 -- ---- demand 1: bad input gets the refusal number that the papers fix. Refusals.antt has the table.

@@ -14,11 +14,11 @@ use Rattle.bounds.specs.declared.width.Limit.{Limit}
 use Rattle.bounds.specs.declared.width.Made.{Made}
 use Rattle.bounds.specs.Refusals.{widthTest, wordTest, IsWord}
 use Rattle.bounds.specs.Widths.{Makes, GivesWord, GivesLimit}
-use Rattle.word.specs.declared.order.Comparison.{Comparison}
+use Rattle.order.specs.declared.order.Comparison.{Comparison}
 use Rattle.word.specs.declared.reading.Reading.{Reading}
 use Rattle.word.specs.Takum.{real, NaR, takum}
 use Rattle.word.specs.Reads.{Reads}
-use Rattle.word.specs.Orders.{Compares, Negates}
+use Rattle.order.specs.Orders.{Compares, Negates}
 use Rattle.round.specs.declared.value.Rule.{Rule}
 use Rattle.write.specs.declared.value.Value.{Value}
 use Rattle.round.specs.Nearest.{IsExact}

@@ -1,8 +1,8 @@
 // Two promises as functions over the public calls: a word negated twice, and a chain of strict moves that comes home.
 use bounds::answer::Answer;
 use bounds::width::Width;
+use order::order::negate;
 use round::value::Rule;
-use word::order::negate;
 use write::moving::move_word;
 ghost use Rattle.promises.specs.Demands.{ComesBack};
 ghost use Rattle.promises.specs.Writing.{ComesHome};

@@ -4,7 +4,7 @@ use mathlib.Core.Bool.{Bool}
 use Prim.Native.Nat.{ℕ, _+_, _*_, _^_}
 use lib.IntN.{ℤ, pos, _+ℤ_, _-ℤ_}
 use Rattle.bounds.specs.declared.answer.Answer.{Answer}
-use Rattle.word.specs.declared.size.Size.{Size}
+use Rattle.sizes.specs.declared.size.Size.{Size}
 use Rattle.word.specs.Reads.{num, den}
 use Rattle.bounds.specs.Refusals.{through, refused}
 use Rattle.bounds.proofs.Verdicts.{width-through, answered, refused-as}

@@ -11,7 +11,7 @@ use Rattle.word.specs.Takum.{takum, real}
 use Rattle.bounds.specs.Refusals.{IsWord}
 use Rattle.word.specs.Orders.{negated}
 use Rattle.word.specs.Reads.{signedSize}
-use Rattle.word.specs.Sizes.{withoutSign}
+use Rattle.sizes.specs.Sizes.{withoutSign}
 use lib.Pow.{pow-pos}
 use Rattle.bounds.proofs.Powers.{twice}
 use Rattle.word.proofs.Signed.{negated-other}

@@ -5,11 +5,11 @@ use Prim.Native.Nat.{ℕ, zero, _+_, _-_, _*_, _^_, _≤_, _<_}
 use native.Mathlib.Omega.{arith}
 use lib.Dec.{ltb}
 use lib.IntN.{ℤ, pos, natAbs, _-ℤ_}
-use Rattle.word.specs.declared.size.Size.{Size}
+use Rattle.sizes.specs.declared.size.Size.{Size}
 use Rattle.word.specs.Reads.{IsSize, signedSize}
-use Rattle.word.specs.Sizes.{withoutSign, Sizes}
+use Rattle.sizes.specs.Sizes.{withoutSign, Sizes}
 use Rattle.word.specs.Takum.{takum, real, p, F, c}
-use Rattle.word.proofs.Tops.{word-number}
+use Rattle.sizes.proofs.Tops.{word-number}
 use Rattle.word.proofs.Values.{real-inj, absolute, no-sign, not-NaR}
 use Rattle.word.proofs.Words.{takum-zero, takum-NaR}
 use Rattle.round.specs.Nearest.{HasValue}

@@ -6,7 +6,7 @@ use Prim.Native.Nat.{ℕ, _+_, _-_, _*_, _%_, _^_, _≤_, _<_, max, min}
 use lib.IntN.{ℤ, pos, _+ℤ_, _-ℤ_}
 use Rattle.bounds.specs.declared.answer.Answer.{Answer}
 use Rattle.bounds.specs.declared.refusal.Refusal.{Refusal}
-use Rattle.word.specs.declared.size.Size.{Size}
+use Rattle.sizes.specs.declared.size.Size.{Size}
 use Rattle.word.specs.Takum.{real, takum}
 use Rattle.word.specs.Reads.{num, den, signedSize}
 use Rattle.bounds.specs.Refusals.{widthTest, IsWord, Decided}

@@ -9,7 +9,7 @@ use lib.Ieee.{binary64, ofBits}
 use lib.ListN.{length}
 use Rattle.bounds.specs.Refusals.{numberOf}
 use Rattle.bounds.specs.declared.answer.Answer.{Answer}
-use Rattle.word.specs.declared.order.Comparison.{Comparison}
+use Rattle.order.specs.declared.order.Comparison.{Comparison}
 use Rattle.word.specs.declared.reading.Reading.{Reading}
 use Rattle.bounds.specs.declared.width.Limit.{Limit}
 use Rattle.round.specs.declared.value.Rule.{Rule}

@@ -12,9 +12,9 @@ use lib.Pow.{pow-pos}
 use Rattle.bounds.specs.Widths.{Within, Greatest, greatest, none, IsLimit}
 use Rattle.bounds.proofs.Powers.{Log, leading-log, pow-sum, shl-below}
 use Rattle.bounds.proofs.Limits.{below-power, exponent-lt, within, exponent-small}
-use Rattle.word.specs.declared.size.Size.{Size}
+use Rattle.sizes.specs.declared.size.Size.{Size}
 use Rattle.word.specs.Reads.{num, den, IsSize}
-use Rattle.word.specs.Sizes.{withoutSign}
+use Rattle.sizes.specs.Sizes.{withoutSign}
 use Rattle.word.specs.Takum.{p, F, c}
 use Rattle.word.proofs.Sizes.{size}
 use Rattle.word.proofs.Values.{grown-suc}
@@ -22,7 +22,7 @@ use Rattle.round.specs.Nearest.{HasValue}
 use Rattle.round.proofs.Places.{wordOf, Place, has-value, place-of}
 use Rattle.round.proofs.Rules.{zero-value}
 use Rattle.round.proofs.Sized.{has-form}
-use Rattle.word.proofs.Tops.{nar-shifted}
+use Rattle.sizes.proofs.Tops.{nar-shifted}
 use Rattle.whole.specs.Limits as promise
 use Rattle.whole.proofs.LimitBinades.{beginning, WholeBinade, whole-binade}
 use Rattle.whole.proofs.LimitStrings.{wholeBits, whole-some, whole-below, whole-size}

@@ -1,9 +1,9 @@
 // A whole number out: the whole part of what a word means, cut or strict.
 use bounds::refusal::Refusal;
 use bounds::width::Width;
-use word::size::Size;
-use word::size::WordSize;
-use word::size::read_size;
+use sizes::size::Size;
+use sizes::size::WordSize;
+use sizes::size::read_size;
 ghost use mathlib.Core.Path.{_≡_};
 ghost use Prim.Native.Nat.{_^_, _≤_, _<_};
 ghost use lib.IntN.{pos};

@@ -20,13 +20,9 @@ pub mod Values
 pub mod Numbers
 -- one size in two units: a power of two moves between significand and exponent
 pub mod Units
--- a word at the top of 64 bits: its sign and its size in the normal form
-pub mod Tops
 -- a word that is neither zero nor NaR is a number: sign, exponent and significand
 pub mod Readings
 -- a size has one exponent and one significand of a given length, so a reading is determined by what it means
 pub mod Binades
--- the size in the normal form is a reading with 63 fraction bits: there is one, and its exponent is from -255 to 254
-pub mod Normal
 -- a signed number as its sign and its size in 64 bits
 pub mod Casts

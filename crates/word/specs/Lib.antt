@@ -2,5 +2,4 @@
 pub mod Cuts
 pub mod Orders
 pub mod Reads
-pub mod Sizes
 pub mod Takum

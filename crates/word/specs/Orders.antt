@@ -1,14 +1,10 @@
 -- The order of words of one width, and their negation (paper 01).
-use mathlib.Core.Path.{_≡_}
 use mathlib.Core.Bool.{cond}
 use Prim.Native.Nat.{ℕ, _-_, _%_, _^_}
 use lib.Dec.{ltb}
 use lib.IntN.{ℤ, pos, negsuc, negℤ, _-ℤ_}
 use lib.Signed.{ltZ}
-use Rattle.bounds.specs.declared.answer.Answer.{Answer}
-use Rattle.word.specs.declared.order.Comparison.{Comparison}
 use Rattle.word.specs.Takum.{Takum, real, NaR}
-use Rattle.bounds.specs.Refusals.{widthTest, strayTest, wordTest, _then_, Decided}
 
 -- the word as an n-bit two's complement number
 unfoldable pub signed : ℕ → ℕ → ℤ
@@ -26,10 +22,3 @@ negated n w = (2 ^ n - w) % 2 ^ n
 unfoldable pub opposite : Takum → Takum
 opposite (real z) = real (negℤ z)
 opposite NaR = NaR
-
--- ---- what the calls answer
-unfoldable pub Compares : ℕ → ℕ → ℕ → Comparison → Type 0
-Compares n x y a = Decided (widthTest n then strayTest n x then strayTest n y) (λ q. a ≡ Comparison.Refused q) (a ≡ Comparison.Is (order (signed n x) (signed n y)))
-
-unfoldable pub Negates : ℕ → ℕ → Answer → Type 0
-Negates n w a = Decided (wordTest n w) (λ q. a ≡ Answer.Refused q) (a ≡ Answer.Word (negated n w))

@@ -1,19 +1,12 @@
-// Bits of the 64-bit carrier: powers of two, all ones, and the low bits of a number.
+// Bits of the 64-bit carrier: powers of two, and the low bits of a number.
 ghost use mathlib.Core.Path.{_≡_};
-ghost use Prim.Native.Nat.{_-_, _%_, _^_, _≤_, _<_};
+ghost use Prim.Native.Nat.{_%_, _^_, _<_};
 
 pub(crate) fn power_of_two(k: u32) -> u64
     requires { ⌜ k < 64 ⌝ }
     ensures { λ r. ⌜ r ≡ 2 ^ k ⌝ }
 {
     1 << k
-}
-
-pub(crate) fn ones(n: u32) -> u64
-    requires { ⌜ (2 ≤ n) × (n ≤ 64) ⌝ }
-    ensures { λ r. ⌜ r ≡ 2 ^ n - 1 ⌝ }
-{
-    0xffff_ffff_ffff_ffff >> (64 - n)
 }
 
 pub(crate) fn low_bits(x: u64, count: u32) -> u64

@@ -4,8 +4,8 @@ use bounds::refusal::Verdict;
 use bounds::width::Width;
 use round::value::Rule;
 use round::writing::write_size;
-use word::size::WordSize;
-use word::size::read_size;
+use sizes::size::WordSize;
+use sizes::size::read_size;
 ghost use Rattle.write.specs.Writes.{Moves};
 
 // The word of the target width for what the word of the source width means; NaR gives NaR.

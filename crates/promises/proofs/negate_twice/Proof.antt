@@ -3,7 +3,8 @@ use mathlib.Core.Path.{_≡_, sym, ap, _∙_, subst}
 use Prim.Native.Nat.{ℕ}
 use native.Mathlib.Omega.{arith}
 use borrow.Author.Needs.{needs}
-use Rattle.word.specs.Orders.{negated, Negates}
+use Rattle.word.specs.Orders.{negated}
+use Rattle.order.specs.Orders.{Negates}
 use Rattle.bounds.specs.declared.answer.Answer.{Answer}
 use Rattle.word.proofs.Values.{negated-word, negated-twice}
 use Rattle.promises.specs.Demands.{ComesBack}

@@ -1,6 +1,6 @@
 // What one word's calls hand over: a word, a reading, an order. Calls of widths and numbers that give a word hand it over by the same struct.
 use bounds::answer::Answer;
-use word::order::Comparison;
+use order::order::Comparison;
 use word::reading::Reading;
 ghost use mathlib.Core.Path.{_≡_};
 ghost use Rattle.takum.specs.Handed.{wordHanded, readingHanded, comparisonHanded};

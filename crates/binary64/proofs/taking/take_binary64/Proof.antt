@@ -16,13 +16,13 @@ use mir.Facts.{toZ-ofZ}
 use mir.Syntax.{w32}
 use mir.Val.{SFits, toZ, ofZ, boolByte}
 use Rattle.bounds.specs.declared.refusal.Verdict.{Verdict}
-use Rattle.word.specs.declared.size.Size.{Size}
-use Rattle.word.specs.declared.size.WordSize.{WordSize}
+use Rattle.sizes.specs.declared.size.Size.{Size}
+use Rattle.sizes.specs.declared.size.WordSize.{WordSize}
 use Rattle.bounds.specs.Refusals.{wordTest, through, refused}
 use Rattle.word.specs.Takum.{Takum, takum}
 use Rattle.word.specs.Reads.{IsNumber}
 use Rattle.bounds.proofs.Verdicts.{word-through}
-use Rattle.word.proofs.Normal.{Tells, tells, exponent-small}
+use Rattle.sizes.proofs.Normal.{Tells, tells, exponent-small}
 use Rattle.binary64.specs.declared.taking.Binary64.{Binary64}
 use Rattle.binary64.specs.Takes.{IsTakenBinary64, TakesBinary64}
 use Rattle.binary64.proofs.Closest.{closest-range}

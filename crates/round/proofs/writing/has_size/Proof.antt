@@ -12,7 +12,7 @@ use mir.Facts.{toZ-ofZ}
 use mir.Syntax.{w32, w64}
 use mir.Val.{SFits, toZ, ofZ}
 use Rattle.word.specs.Reads.{IsSize}
-use Rattle.word.specs.Sizes.{Sizes}
+use Rattle.sizes.specs.Sizes.{Sizes}
 use Rattle.round.specs.Nearest.{HasValue}
 use Rattle.round.specs.Offers.{TellsSize}
 use Rattle.round.proofs.Exact.{exactly, only-exactly}

@@ -8,7 +8,7 @@ use lib.Signed.{nonNeg, mag}
 use mir.Facts.{toZ-ofZ}
 use mir.Syntax.{w32}
 use mir.Val.{Fits, SFits, toZ, ofZ}
-use Rattle.word.specs.declared.size.Size.{Size}
+use Rattle.sizes.specs.declared.size.Size.{Size}
 use Rattle.word.proofs.Casts.{tested, not-negative, is-negative, plain-value}
 use Rattle.whole.specs.declared.taking.Whole.{Whole}
 use Rattle.whole.specs.Parts.{TakesSize}

@@ -4,10 +4,10 @@ use lib.IntN.{pos}
 use borrow.Author.Needs.{needs}
 use Rattle.bounds.specs.declared.refusal.Refusal.{Refusal}
 use Rattle.bounds.specs.Refusals.{through, refused}
-use Rattle.word.specs.declared.size.WordSize.{WordSize}
+use Rattle.sizes.specs.declared.size.WordSize.{WordSize}
 use Rattle.word.specs.Takum.{Takum}
 use Rattle.word.specs.Reads.{signedSize}
-use Rattle.word.proofs.Normal.{Tells, tells}
+use Rattle.sizes.proofs.Normal.{Tells, tells}
 use Rattle.write.specs.Writes.{isNegative}
 use Rattle.whole.specs.declared.taking.Whole.{Whole}
 use Rattle.whole.specs.Wholes.{overTest, IsTakenWhole, TakesWhole}

@@ -8,11 +8,11 @@ use Rattle.bounds.specs.declared.refusal.Verdict.{Verdict}
 use Rattle.bounds.specs.Refusals.{widthTest, strayTest, wordTest, _then_, through, refused}
 use Rattle.bounds.specs.Widths.{GivesWord}
 use Rattle.bounds.proofs.Verdicts.{told-move, width-through, answered}
-use Rattle.word.specs.declared.size.Size.{Size}
-use Rattle.word.specs.declared.size.WordSize.{WordSize}
+use Rattle.sizes.specs.declared.size.Size.{Size}
+use Rattle.sizes.specs.declared.size.WordSize.{WordSize}
 use Rattle.word.specs.Reads.{IsNumber}
 use Rattle.word.specs.Takum.{Takum, takum}
-use Rattle.word.proofs.Normal.{Tells, tells}
+use Rattle.sizes.proofs.Normal.{Tells, tells}
 use Rattle.round.specs.Nearest.{WritesShort, WritesSize}
 use Rattle.round.proofs.Rules.{zero-written}
 use Rattle.write.specs.Writes.{isNegative, IsMoved, Moves}

@@ -2,13 +2,14 @@
 use mathlib.Core.Path.{_≡_, refl, sym, ap, ap₂, _∙_}
 use borrow.Author.Needs.{needs, sfits-of}
 use mir.Facts.{toZ-ofZ}
-use Rattle.word.specs.Orders.{order, Compares}
-use Rattle.word.specs.declared.order.Comparison.{Comparison}
+use Rattle.word.specs.Orders.{order}
+use Rattle.order.specs.Orders.{Compares}
+use Rattle.order.specs.declared.order.Comparison.{Comparison}
 use Rattle.bounds.specs.Refusals.{widthTest, strayTest, wordTest, _then_, IsWord, through, refused}
 use Rattle.bounds.proofs.Verdicts.{once, told-two, words-through}
 use Rattle.bounds.specs.declared.refusal.Verdict.{Verdict}
-use Rattle.word.proofs.order.compare.Statement.{statement}
-use Rattle.word.proofs.order.compare.Tie as tie
+use Rattle.order.proofs.order.compare.Statement.{statement}
+use Rattle.order.proofs.order.compare.Tie as tie
 
 -- the verdict as the tests in their order
 told : (c : tie.After-then) {u : Verdict} → c .then .result ≡ u → wordTest (c .before .before .before .args .width .bits) (c .before .before .before .args .x) then strayTest (c .before .before .before .args .width .bits) (c .before .before .before .args .y) ≡ u

@@ -1,12 +1,12 @@
 // The order of words of one width, and their negation.
-use crate::bits::ones;
-use crate::bits::power_of_two;
 use bounds::answer::Answer;
 use bounds::refusal::Refusal;
 use bounds::refusal::Verdict;
 use bounds::width::Width;
 ghost use mathlib.Core.Path.{_≡_};
-ghost use Rattle.word.specs.Orders.{signed, order, Compares, Negates};
+ghost use Prim.Native.Nat.{_-_, _^_, _≤_};
+ghost use Rattle.order.specs.Orders.{Compares, Negates};
+ghost use Rattle.word.specs.Orders.{signed, order};
 ghost use Rattle.bounds.specs.Refusals.{IsWord};
 
 pub enum Comparison {
@@ -45,7 +45,7 @@ fn as_signed(n: u32, word: u64) -> i64
     requires { ⌜ IsWord n word ⌝ }
     ensures { λ r. ⌜ r ≡ signed n word ⌝ }
 {
-    if word < power_of_two(n - 1) {
+    if word < 1 << (n - 1) {
         return word as i64;
     }
     -1 - (ones(n) - word) as i64
@@ -61,4 +61,12 @@ fn sign_of_difference(x: i64, y: i64) -> i32
         return 1;
     }
     0
+}
+
+// n ones.
+fn ones(n: u32) -> u64
+    requires { ⌜ (2 ≤ n) × (n ≤ 64) ⌝ }
+    ensures { λ r. ⌜ r ≡ 2 ^ n - 1 ⌝ }
+{
+    0xffff_ffff_ffff_ffff >> (64 - n)
 }

@@ -5,10 +5,10 @@ use Prim.Native.Nat.{ℕ, _+_, _-_, _*_, _^_}
 use lib.Dec.{ltb}
 use lib.IntN.{pos}
 use Rattle.bounds.specs.Refusals.{wordTest, Decided}
-use Rattle.word.specs.declared.size.Size.{Size}
-use Rattle.word.specs.declared.size.WordSize.{WordSize}
+use Rattle.sizes.specs.declared.size.Size.{Size}
+use Rattle.sizes.specs.declared.size.WordSize.{WordSize}
 use Rattle.word.specs.Takum.{Takum, real, NaR, takum, p, F, c}
 use Rattle.word.specs.Reads.{IsNumber}
 
 -- a word that lies above NaR mirrored to below it
 unfoldable pub withoutSign : ℕ → ℕ → ℕ

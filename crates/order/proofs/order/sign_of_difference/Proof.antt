@@ -1,8 +1,8 @@
 -- `sign_of_difference` meets its contract, test by test. Assumes nothing.
 use mathlib.Core.Path.{sym}
 use Rattle.word.proofs.Signed.{machine-lt, order-below, order-above, order-equal}
-use Rattle.word.proofs.order.sign_of_difference.Statement.{statement}
-use Rattle.word.proofs.order.sign_of_difference.Tie as tie
+use Rattle.order.proofs.order.sign_of_difference.Statement.{statement}
+use Rattle.order.proofs.order.sign_of_difference.Tie as tie
 
 returns : tie.Need-returns
 returns c = sym (order-below _ _ (machine-lt (c .before .fits .x) (c .before .fits .y) (c .if1 .taken)))

@@ -3,9 +3,9 @@ use mathlib.Core.Path.{refl}
 use native.Mathlib.Omega.{arith}
 use borrow.Author.Needs.{needs}
 use borrow.Author.Tests.{lt-ltb, le-ltb}
-use Rattle.word.specs.Sizes.{withoutSign}
-use Rattle.word.proofs.size.without_sign.Statement.{statement}
-use Rattle.word.proofs.size.without_sign.Tie as tie
+use Rattle.sizes.specs.Sizes.{withoutSign}
+use Rattle.sizes.proofs.size.without_sign.Statement.{statement}
+use Rattle.sizes.proofs.size.without_sign.Tie as tie
 
 returns : tie.Need-returns
 unfolding withoutSign

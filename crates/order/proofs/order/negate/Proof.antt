@@ -4,14 +4,15 @@ use Prim.Native.Nat.{ℕ, _+_, _-_, _^_}
 use native.Mathlib.Omega.{arith}
 use native.Mathlib.Nat.{pos-of-ne-zero}
 use borrow.Author.Needs.{needs}
-use Rattle.word.specs.Orders.{negated, Negates}
+use Rattle.word.specs.Orders.{negated}
+use Rattle.order.specs.Orders.{Negates}
 use Rattle.bounds.specs.declared.answer.Answer.{Answer}
 use Rattle.word.proofs.Signed.{negated-zero, negated-other}
 use Rattle.bounds.specs.Refusals.{wordTest, IsWord, through, refused}
 use Rattle.bounds.proofs.Verdicts.{word-through}
 use Rattle.bounds.specs.declared.refusal.Verdict.{Verdict}
-use Rattle.word.proofs.order.negate.Statement.{statement}
-use Rattle.word.proofs.order.negate.Tie as tie
+use Rattle.order.proofs.order.negate.Statement.{statement}
+use Rattle.order.proofs.order.negate.Tie as tie
 
 -- what the verdict tells of the word
 told : (c : tie.After-test-word) {u : Verdict} → c .test-word .result ≡ u → wordTest (c .before .args .width .bits) (c .before .args .word) ≡ u

@@ -1,11 +1,11 @@
 // The sign and the size of a string and of a word, in the normal form that every number that is written or taken out goes through.
-use crate::fields::cut;
 use bounds::refusal::Refusal;
 use bounds::refusal::Verdict;
 use bounds::width::Width;
+use word::fields::cut;
 ghost use mathlib.Core.Path.{_≡_};
 ghost use Prim.Native.Nat.{_^_};
-ghost use Rattle.word.specs.Sizes.{withoutSign, Sizes, ReadsSize};
+ghost use Rattle.sizes.specs.Sizes.{withoutSign, Sizes, ReadsSize};
 
 // The size m * 2^(h - 63), m having its top bit set, and its sign.
 pub struct Size {

@@ -5,12 +5,12 @@ use native.Mathlib.Nat.{mul-assoc, mul-div-cancel, zero-lt-suc}
 use native.Mathlib.Omega.{arith}
 use borrow.Author.Needs.{needs, sfits-of}
 use mir.Facts.{toZ-ofZ}
 use Rattle.word.specs.Cuts.{Cuts}
-use Rattle.word.specs.Sizes.{withoutSign}
+use Rattle.sizes.specs.Sizes.{withoutSign}
 use Rattle.word.specs.Takum as Takum
 use Rattle.bounds.proofs.Powers.{pow-sum}
-use Rattle.word.proofs.size.size_of.Statement.{statement}
-use Rattle.word.proofs.size.size_of.Tie as tie
+use Rattle.sizes.proofs.size.size_of.Statement.{statement}
+use Rattle.sizes.proofs.size.size_of.Tie as tie
 
 few : (t : ℕ) → Takum.p 64 t ≤ 63
 unfolding Takum.p

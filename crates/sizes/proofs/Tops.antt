@@ -9,17 +9,17 @@ use lib.Dec.{ltb, lit≤}
 use lib.IntN.{ℤ, pos, negℤ, natAbs, _-ℤ_}
 use lib.Pow.{pow-pos, shl-exact}
 use Rattle.bounds.specs.Refusals.{IsWord}
-use Rattle.word.specs.declared.size.Size.{Size}
+use Rattle.sizes.specs.declared.size.Size.{Size}
 use Rattle.word.specs.Takum.{real, S, p, F, c, value, takum}
 use Rattle.word.specs.Reads.{IsSize, signedSize, IsNumber}
-use Rattle.word.specs.Sizes.{withoutSign, Sizes}
+use Rattle.sizes.specs.Sizes.{withoutSign, Sizes}
 use Rattle.bounds.proofs.Powers.{pow-sum, shl-below}
 use Rattle.word.proofs.Sizes.{size}
 use Rattle.word.proofs.Meaning.{string-positive}
 use Rattle.word.proofs.Words.{Lies, at-zero, above, at-NaR, under, lies, takum-positive, takum-negative}
 use Rattle.word.proofs.Values.{real-inj}
 use Rattle.word.proofs.Numbers.{positive-number, same-number}
 use Rattle.word.proofs.Units.{raise-size, lower-by}
 
 -- ---- a string with sign 0, and its size with the top bit of its significand at 2^63
 module _ (u : ℕ) (half : u < 2 ^ 63) where

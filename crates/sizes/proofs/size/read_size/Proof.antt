@@ -6,12 +6,12 @@ use borrow.Author.Needs.{needs}
 use Rattle.bounds.specs.Refusals.{wordTest, IsWord, through, refused}
 use Rattle.bounds.specs.declared.refusal.Verdict.{Verdict}
 use Rattle.bounds.proofs.Verdicts.{word-through}
 use Rattle.word.specs.Takum.{takum}
-use Rattle.word.specs.Sizes.{Sizes, IsWordSize, ReadsSize}
+use Rattle.sizes.specs.Sizes.{Sizes, IsWordSize, ReadsSize}
 use Rattle.word.proofs.Words.{takum-zero, takum-NaR}
-use Rattle.word.proofs.Tops.{nar-shifted, shifted-is, NaR-at-top, word-number}
-use Rattle.word.proofs.size.read_size.Statement.{statement}
-use Rattle.word.proofs.size.read_size.Tie as tie
+use Rattle.sizes.proofs.Tops.{nar-shifted, shifted-is, NaR-at-top, word-number}
+use Rattle.sizes.proofs.size.read_size.Statement.{statement}
+use Rattle.sizes.proofs.size.read_size.Tie as tie
 
 -- what the verdict tells of the word
 told : (c : tie.After-test-word) {u : Verdict} → c .test-word .result ≡ u → wordTest (c .before .args .width .bits) (c .before .args .word) ≡ u

@@ -1,6 +1,6 @@
 -- `as_signed` meets its contract: below half the words the number is the word, above it is the word less 2^n. Assumes nothing.
 use mathlib.Core.Path.{_≡_, sym, ap, _∙_, subst}
-use Prim.Native.Nat.{ℕ, _-_, _^_, _≤_, _<_}
+use Prim.Native.Nat.{ℕ, _-_, _*_, _%_, _^_, _≤_, _<_}
 use native.Mathlib.Nat.{lt-of-lt-of-le}
 use native.Mathlib.Omega.{arith}
 use borrow.Author.Needs.{needs}
@@ -9,12 +9,12 @@ use lib.IntN.{ℤ, negsuc, _-ℤ_}
 use mir.Syntax.{w64}
 use mir.Val.{SFits, toZ, ofZ}
 use mir.Facts.{toZ-pos, toZ-ofZ}
 use Rattle.word.proofs.Signed.{signed-low, signed-high, minus-one-less}
-use Rattle.bounds.proofs.Powers.{twice}
+use Rattle.bounds.proofs.Powers.{one-shl, twice}
 use Rattle.word.specs.Orders.{signed}
 use Rattle.bounds.specs.Refusals.{IsWord}
-use Rattle.word.proofs.order.as_signed.Statement.{statement}
-use Rattle.word.proofs.order.as_signed.Tie as tie
+use Rattle.order.proofs.order.as_signed.Statement.{statement}
+use Rattle.order.proofs.order.as_signed.Tie as tie
 
 small : (n w : ℕ) → IsWord n w → w < 2 ^ (n - 1) → w < 2 ^ 63
 small n w word h = lt-of-lt-of-le h (pow-mono {i = n - 1} {j = 63} (omega arith))
@@ -33,23 +33,30 @@ module _ (n w all : ℕ) (is : all ≡ 2 ^ n - 1) (word : IsWord n w) (half : 2 
   high : toZ w64 (ofZ w64 (negsuc 0 -ℤ toZ w64 (all - w))) ≡ signed n w
   high = toZ-ofZ high-fits ∙ less ∙ ap (λ (x : ℕ). negsuc (x - w)) is ∙ sym (signed-high n w half (word .fits))
 
-below : (c : tie.Then1) → c .before .before .args .word < 2 ^ (c .before .before .args .n - 1)
-below c = subst (λ (x : ℕ). c .before .before .args .word < x) (c .before .power-of-two .ensures) (c .if1 .taken)
+-- the word of NaR, as the machine shifts a bit to it
+nar : (s : tie.Start) → 1 * 2 ^ (s .args .n - 1) % 2 ^ 64 ≡ 2 ^ (s .args .n - 1)
+nar s = one-shl 64 (s .args .n - 1) (omega (arith, s .pre .most, s .pre .least))
 
-from-half : (c : tie.After-ones) → 2 ^ (c .before .before .before .args .n - 1) ≤ c .before .before .before .args .word
-from-half c = subst (λ (x : ℕ). x ≤ c .before .before .before .args .word) (c .before .before .power-of-two .ensures) (c .before .if1 .left)
+below : (c : tie.Then1) → c .before .args .word < 2 ^ (c .before .args .n - 1)
+below c = subst (λ (x : ℕ). c .before .args .word < x) (nar (c .before)) (c .if1 .taken)
 
-sub-power-of-two : tie.Need-sub-power-of-two
-sub-power-of-two c = search needs
+from-half : (c : tie.After-ones) → 2 ^ (c .before .before .args .n - 1) ≤ c .before .before .args .word
+from-half c = subst (λ (x : ℕ). x ≤ c .before .before .args .word) (nar (c .before .before)) (c .before .if1 .left)
 
-power-of-two-requires : tie.Need-power-of-two-requires
-power-of-two-requires c κs = search needs
+sub-if1 : tie.Need-sub-if1
+sub-if1 c = search needs
+
+cast-if1 : tie.Need-cast-if1
+cast-if1 c = search needs
+
+shl-if1 : tie.Need-shl-if1
+shl-if1 c = search needs
 
 cast-result : tie.Need-cast-result
-cast-result c = record { sfits = small _ _ (c .before .before .pre) (below c) }
+cast-result c = record { sfits = small _ _ (c .before .pre) (below c) }
 
 returns : tie.Need-returns
-returns c = toZ-pos w64 (small _ _ (c .before .before .pre) (below c)) ∙ sym (signed-low _ _ (below c))
+returns c = toZ-pos w64 (small _ _ (c .before .pre) (below c)) ∙ sym (signed-low _ _ (below c))
 
 ones-requires : tie.Need-ones-requires
 ones-requires c κs = search needs
@@ -58,20 +65,21 @@ sub-result : tie.Need-sub-result
 sub-result c = search needs
 
 cast-result-2 : tie.Need-cast-result-2
-cast-result-2 c = record { sfits = gap _ _ _ (c .ones .ensures) (c .before .before .before .pre) (from-half c) }
+cast-result-2 c = record { sfits = gap _ _ _ (c .ones .ensures) (c .before .before .pre) (from-half c) }
 
 sub-result-2 : tie.Need-sub-result-2
-sub-result-2 c = high-fits _ _ _ (c .ones .ensures) (c .before .before .before .pre) (from-half c)
+sub-result-2 c = high-fits _ _ _ (c .ones .ensures) (c .before .before .pre) (from-half c)
 
 returns-2 : tie.Need-returns-2
-returns-2 c = high _ _ _ (c .ones .ensures) (c .before .before .before .pre) (from-half c)
+returns-2 c = high _ _ _ (c .ones .ensures) (c .before .before .pre) (from-half c)
 
 pub as-signed-spec : {M : Type 1} → statement M
 as-signed-spec =
     tie.close
     (tie.spec
-    sub-power-of-two
-    power-of-two-requires
+    sub-if1
+    cast-if1
+    shl-if1
     cast-result
     returns
     ones-requires

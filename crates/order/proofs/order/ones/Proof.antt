@@ -2,8 +2,8 @@
 use native.Mathlib.Omega.{arith}
 use borrow.Author.Needs.{needs}
 use Rattle.bounds.proofs.Powers.{ones-shr}
-use Rattle.word.proofs.bits.ones.Statement.{statement}
-use Rattle.word.proofs.bits.ones.Tie as tie
+use Rattle.order.proofs.order.ones.Statement.{statement}
+use Rattle.order.proofs.order.ones.Tie as tie
 
 sub-result : tie.Need-sub-result
 sub-result c = search needs

@@ -7,17 +7,17 @@ use lib.IntN.{ℤ, pos}
 use lib.Signed.{mag}
 use Rattle.bounds.specs.declared.refusal.Verdict.{Verdict}
 use Rattle.bounds.specs.Refusals.{wordTest, IsWord, through, refused}
 use Rattle.word.specs.declared.reading.Reading.{Reading}
-use Rattle.word.specs.declared.size.Size.{Size}
-use Rattle.word.specs.declared.size.WordSize.{WordSize}
+use Rattle.sizes.specs.declared.size.Size.{Size}
+use Rattle.sizes.specs.declared.size.WordSize.{WordSize}
 use Rattle.word.specs.Takum.{Takum, real, NaR, takum, p, F, c}
 use Rattle.word.specs.Reads.{IsNumber, IsReading}
-use Rattle.word.specs.Sizes.{withoutSign, IsWordSize, ReadsSize}
+use Rattle.sizes.specs.Sizes.{withoutSign, IsWordSize, ReadsSize}
 use Rattle.bounds.proofs.Verdicts.{decided-one}
 use Rattle.word.proofs.Words.{takum-zero, takum-NaR}
 use Rattle.word.proofs.Numbers.{characteristic-of-string}
-use Rattle.word.proofs.Tops.{word-number}
+use Rattle.sizes.proofs.Tops.{word-number}
 use Rattle.word.proofs.Binades.{reading-one, number-not-zero, number-not-NaR}
 
 -- there and back
 reading : WordSize → Reading

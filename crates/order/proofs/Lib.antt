@@ -1,0 +1,1 @@
+-- The functions' proofs alone: the laws of order and negation are those of crate word, Signed and Values.

@@ -5,7 +5,7 @@ use Prim.Native.Nat.{ℕ, _*_, _<_}
 use native.Mathlib.Nat.{mul-comm}
 use Rattle.bounds.specs.declared.answer.Answer.{Answer}
 use Rattle.round.specs.declared.value.Rule.{Rule}
-use Rattle.round.specs.Nearest.{IsWritten}
+use Rattle.round.specs.Writes.{IsWritten}
 use Rattle.round.proofs.Scales.{written-times, written-reduced}
 
 pub written-same : (n : ℕ) (s : Bool) (a b a' b' : ℕ) → 0 < b → 0 < b' → a * b' ≡ a' * b → (rule : Rule) (r : Answer) → IsWritten n rule s a b r → IsWritten n rule s a' b' r

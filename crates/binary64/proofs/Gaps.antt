@@ -14,8 +14,8 @@ use Rattle.bounds.proofs.Powers.{pow-sum}
 use Rattle.word.specs.Reads.{signedSize}
 use Rattle.word.proofs.Signed.{difference}
 use Rattle.write.specs.Writes.{isNegative}
-use Rattle.round.specs.Nearest.{distance}
-use Rattle.round.proofs.Nearest.{distance-below, distance-above, either-side}
+use Rattle.nearest.specs.Nearest.{distance}
+use Rattle.nearest.proofs.Nearest.{distance-below, distance-above, either-side}
 use Rattle.binary64.specs.Nearest.{apart}
 
 unfoldable pub gap : Bool → ℕ → Bool → ℕ → ℕ

@@ -18,7 +18,7 @@ use Rattle.word.specs.Reads.{signedSize}
 use Rattle.word.specs.Takum.{real, takum}
 use Rattle.word.proofs.Values.{value-below}
 use Rattle.write.specs.Writes.{isNegative}
-use Rattle.round.proofs.Nearest.{NearestPlace, place-one}
+use Rattle.nearest.proofs.Nearest.{NearestPlace, place-one}
 use Rattle.binary64.specs.declared.taking.Binary64.{Binary64}
 use Rattle.binary64.specs.Takes.{TakesBinary64}
 use Rattle.binary64.specs.Nearest.{IsFinite, apart, NearestBinary64}

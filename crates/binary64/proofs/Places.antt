@@ -13,8 +13,8 @@ use lib.Ieee.Digits.{size-lt, size-le, size-reaches}
 use lib.Ieee.Nearest.{closest}
 use Rattle.bounds.proofs.Limits.{exponent-lt}
 use Rattle.bounds.proofs.Powers.{pow-sum}
-use Rattle.round.specs.Nearest.{distance}
-use Rattle.round.proofs.Nearest.{NearestPlace, nearer-below, nearer-above, midway}
+use Rattle.nearest.specs.Nearest.{distance}
+use Rattle.nearest.proofs.Nearest.{NearestPlace, nearer-below, nearer-above, midway}
 use Rattle.binary64.proofs.Closest.{Rounds, less, half, more, rounds}
 use Rattle.binary64.proofs.Gaps.{gap}
 use Rattle.binary64.proofs.Rows.{sizeOf, row, row-grows, row-at, last}

@@ -13,7 +13,7 @@ use Rattle.word.specs.Reads.{num, den, signedSize, IsSize, IsNumber}
 use Rattle.word.proofs.Integers.{balance}
 use Rattle.write.specs.Writes.{isNegative}
 use Rattle.word.proofs.Units.{unit-some}
-use Rattle.round.proofs.Exponents.{shift}
+use Rattle.nearest.proofs.Exponents.{shift}
 use Rattle.write.proofs.Meanings.{size-some}
 
 -- an exponent raised by 1023

@@ -15,9 +15,9 @@ use Rattle.bounds.specs.declared.answer.Answer.{Answer}
 use Rattle.word.proofs.Integers.{sub-add}
 use Rattle.word.proofs.Signed.{difference}
 use Rattle.round.specs.declared.value.Rule.{Rule}
-use Rattle.round.specs.Nearest.{IsWritten}
+use Rattle.round.specs.Writes.{IsWritten}
 use Rattle.word.proofs.Units.{unit-some}
-use Rattle.round.proofs.Exponents.{shift}
+use Rattle.nearest.proofs.Exponents.{shift}
 use Rattle.binary64.specs.Writes.{IsWrittenBinary64}
 use Rattle.binary64.proofs.Fractions.{written-same}
 use Rattle.binary64.proofs.Patterns.{signBit, field, digits, lead, lead-small, Unbounded, is-nan, is-inf, pattern-value}

@@ -6,7 +6,7 @@ use Rattle.bounds.specs.declared.answer.Answer.{Answer}
 use Rattle.bounds.specs.Refusals.{widthTest, Decided}
 use Rattle.bounds.specs.Widths.{narWord}
 use Rattle.round.specs.declared.value.Rule.{Rule}
-use Rattle.round.specs.Nearest.{IsWritten}
+use Rattle.round.specs.Writes.{IsWritten}
 
 -- NaN and both infinities give NaR. Every other number is plus or minus m * 2^e, the fraction m * up e / down e, and is written as that value:
 -- it is offered counted in 2^-307. Both zeros have m = 0, and give the zero word.

@@ -21,7 +21,8 @@ use Rattle.word.specs.Reads.{num, den, signedSize, IsReading}
 use Rattle.word.specs.Orders.{opposite}
 use Rattle.word.proofs.Binades.{reading-one}
 use Rattle.word.proofs.Values.{real-inj, not-NaR, words-differ}
-use Rattle.round.specs.Nearest.{HasValue, IsExact}
+use Rattle.nearest.specs.Nearest.{HasValue}
+use Rattle.round.specs.Writes.{IsExact}
 use Rattle.write.specs.Writes.{isNegative}
 use Rattle.word.proofs.Units.{unit-some}
 use Rattle.round.proofs.Rounding.{rounded-one, exact-rounded}

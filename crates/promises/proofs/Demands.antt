@@ -15,8 +15,8 @@ use Rattle.word.specs.Orders.{negated}
 use Rattle.bounds.proofs.Powers.{twice}
 use Rattle.bounds.proofs.Verdicts.{word-passes, words-pass, answered}
 use Rattle.word.proofs.Words.{takum-NaR}
-use Rattle.round.specs.Nearest.{HasValue}
-use Rattle.round.proofs.Places.{two, wordOf, has-value, size-some, not-decreasing, place-of}
+use Rattle.nearest.specs.Nearest.{HasValue}
+use Rattle.nearest.proofs.Places.{two, wordOf, has-value, size-some, not-decreasing, place-of}
 use Rattle.round.proofs.Sized.{sized}
 use Rattle.word.proofs.Values.{grown, NaR-word, order-of-values, order-same, NaR-below, above-NaR, negated-word, negation-negates, words-differ}
 use Rattle.word.proofs.Binades.{meaning-one}

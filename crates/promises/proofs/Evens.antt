@@ -12,8 +12,8 @@ use Rattle.bounds.proofs.Powers.{not-more}
 use Rattle.bounds.proofs.Limits.{no-more}
 use Rattle.word.specs.Takum.{power, regimeOf, characteristicOf, S, D, R, r, p, C, F, c, e, value, meaning, N, padded, takum}
 use Rattle.word.proofs.Heads.{both}
-use Rattle.round.specs.Nearest.{HasValue}
-use Rattle.round.proofs.Places.{wordOf, has-value, value-is}
+use Rattle.nearest.specs.Nearest.{HasValue}
+use Rattle.nearest.proofs.Places.{wordOf, has-value, value-is}
 use Rattle.whole.specs.Limits.{EveryWholeNumberUpToTheLimitHasAWord}
 use Rattle.whole.proofs.LimitWords.{every-whole-number-up-to-the-limit-has-a-word}
 use Rattle.promises.proofs.Tests.{same, is-word, has, has-is}

@@ -16,7 +16,7 @@ use Rattle.bounds.proofs.Verdicts.{width-through, word-through, move-through}
 use Rattle.word.specs.Takum.{Takum, real, NaR, takum}
 use Rattle.word.specs.Reads.{num, den}
 use Rattle.word.proofs.Values.{not-NaR}
-use Rattle.round.specs.Nearest.{IsExact, IsWritten}
+use Rattle.round.specs.Writes.{IsExact, IsWritten}
 use Rattle.write.specs.Writes.{IsMoved, isNegative, Writes, Moves}
 use Rattle.whole.specs.declared.taking.Whole.{Whole}
 use Rattle.whole.specs.Wholes.{IsWholePart, WritesWhole, TakesWhole}

@@ -21,7 +21,7 @@ use Rattle.word.specs.Reads.{IsReading, Reads}
 use Rattle.word.specs.Orders.{signed, order, opposite, negated}
 use Rattle.order.specs.Orders.{Compares, Negates}
 use Rattle.word.proofs.Values.{order-of-values, order-same, NaR-below, above-NaR, words-differ, negated-word, negation-negates}
-use Rattle.round.specs.Nearest.{HasValue}
+use Rattle.nearest.specs.Nearest.{HasValue}
 use Rattle.write.specs.Writes.{isNegative}
 use Rattle.whole.specs.Limits as limits
 use Rattle.whole.proofs.LimitWords.{every-whole-number-up-to-the-limit-has-a-word, the-limit-plus-one-has-no-word}

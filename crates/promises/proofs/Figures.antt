@@ -14,7 +14,8 @@ use Rattle.word.specs.Reads.{num, den, IsSize, signedSize}
 use Rattle.word.proofs.Heads.{both}
 use Rattle.bounds.proofs.Verdicts.{width-fits, answered}
 use Rattle.round.specs.declared.value.Rule.{Rule}
-use Rattle.round.specs.Nearest.{HasValue, other, IsWritten}
+use Rattle.nearest.specs.Nearest.{HasValue}
+use Rattle.round.specs.Writes.{other, IsWritten}
 use Rattle.write.specs.Writes.{isNegative, Writes}
 use Rattle.round.proofs.Rounding.{tie-nearest, none-between, written-one}
 use Rattle.whole.specs.Wholes.{WritesWhole}

@@ -13,9 +13,10 @@ use Rattle.bounds.proofs.Powers.{shl-below}
 use Rattle.word.specs.Takum.{power, regimeOf, characteristicOf, S, D, R, r, p, C, F, c, e, value, meaning, N, padded, takum}
 use Rattle.word.proofs.Values.{grown}
 use Rattle.word.proofs.Words.{zeros-appended}
-use Rattle.round.specs.Nearest.{HasValue, distance, IsRounded, zero, other}
-use Rattle.round.proofs.Nearest.{distance-below, distance-above}
-use Rattle.round.proofs.Places.{Place, place-of, value-is, not-decreasing}
+use Rattle.nearest.specs.Nearest.{HasValue, distance}
+use Rattle.round.specs.Writes.{IsRounded, zero, other}
+use Rattle.nearest.proofs.Nearest.{distance-below, distance-above}
+use Rattle.nearest.proofs.Places.{Place, place-of, value-is, not-decreasing}
 use Rattle.whole.specs.Limits.{EveryWholeNumberUpToTheLimitHasAWord}
 use Rattle.whole.proofs.LimitWords.{every-whole-number-up-to-the-limit-has-a-word}
 use Rattle.promises.proofs.Tests.{same, is-word, has, has-is}

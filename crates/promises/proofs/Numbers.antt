@@ -18,7 +18,8 @@ use Rattle.bounds.specs.Widths.{narWord, IsLimit, GivesLimit}
 use Rattle.bounds.proofs.Consecutive.{rule-gives-inequality, inequality-gives-rule, greatest-of-inequality}
 use Rattle.bounds.proofs.Verdicts.{width-fits, width-through, word-passes, answered}
 use Rattle.round.specs.declared.value.Rule.{Rule}
-use Rattle.round.specs.Nearest.{HasValue, IsRounded, IsWritten}
+use Rattle.nearest.specs.Nearest.{HasValue}
+use Rattle.round.specs.Writes.{IsRounded, IsWritten}
 use Rattle.write.specs.Writes.{isNegative}
 use Rattle.whole.specs.declared.taking.Taking.{Taking}
 use Rattle.whole.specs.declared.taking.Whole.{Whole}

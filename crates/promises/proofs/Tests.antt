@@ -9,7 +9,7 @@ use Rattle.bounds.specs.Refusals.{IsWord}
 use Rattle.word.specs.Reads.{signedSize}
 use Rattle.word.proofs.Heads.{both}
 use Rattle.word.proofs.Integers.{same-integer, same-integer-is}
-use Rattle.round.specs.Nearest.{HasValue}
+use Rattle.nearest.specs.Nearest.{HasValue}
 
 -- two meanings are the same
 unfoldable pub same : Takum → Takum → Bool

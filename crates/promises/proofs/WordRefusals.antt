@@ -28,7 +28,8 @@ use Rattle.word.proofs.Words.{takum-NaR}
 use Rattle.word.proofs.Values.{real-inj, not-NaR}
 use Rattle.round.specs.declared.value.Rule.{Rule}
 use Rattle.write.specs.declared.value.Value.{Value}
-use Rattle.round.specs.Nearest.{HasValue, IsExact, IsWritten}
+use Rattle.nearest.specs.Nearest.{HasValue}
+use Rattle.round.specs.Writes.{IsExact, IsWritten}
 use Rattle.write.specs.Writes.{isNegative, IsMoved, Writes, Moves}
 use Rattle.bounds.proofs.Powers.{twice}
 use Rattle.write.proofs.Moves.{moved-to-the-same, strict-keeps}

@@ -10,7 +10,7 @@ use Rattle.word.proofs.Meaning.{value-at, exponent-whole}
 use Rattle.word.proofs.Numbers.{characteristic-of-string}
 use Rattle.word.proofs.Values.{value-below}
 use Rattle.word.proofs.Words.{takum-number}
-use Rattle.round.proofs.Exponents.{raise}
+use Rattle.nearest.proofs.Exponents.{raise}
 use Rattle.promises.specs.Words as promise
 use Rattle.promises.specs.Words.{IsFromMinus255To254}
 

@@ -24,10 +24,11 @@ use Rattle.word.proofs.Values.{grown, words-differ, no-sign, order-of-values}
 use Rattle.word.proofs.Words.{zeros-appended}
 use Rattle.round.specs.declared.value.Rule.{Rule}
 use Rattle.write.specs.declared.value.Value.{Value}
-use Rattle.round.specs.Nearest.{Nearest, IsRounded, zero, other, IsExact, IsWritten}
+use Rattle.nearest.specs.Nearest.{Nearest}
+use Rattle.round.specs.Writes.{IsRounded, zero, other, IsExact, IsWritten}
 use Rattle.write.specs.Writes.{isNegative, IsMoved, Writes, Moves}
 use Rattle.word.proofs.Units.{unit-some}
-use Rattle.round.proofs.Places.{two, wordOf, has-value, from-word}
+use Rattle.nearest.proofs.Places.{two, wordOf, has-value, from-word}
 use Rattle.round.proofs.Rules.{zero-written}
 use Rattle.write.proofs.Meanings.{number-written}
 use Rattle.round.proofs.Rounding.{rounded-exists, rounded-one, rounded-not-zero-nor-NaR, past-the-largest, before-the-smallest, rounded-negated, exact-written, written-one}

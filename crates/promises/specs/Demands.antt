@@ -15,7 +15,7 @@ use Rattle.word.specs.Reads.{IsSize, signedSize, IsReading, Reads}
 use Rattle.sizes.specs.Sizes.{Sizes}
 use Rattle.word.specs.Orders.{order, opposite}
 use Rattle.order.specs.Orders.{Compares, Negates}
-use Rattle.round.specs.Nearest.{HasValue}
+use Rattle.nearest.specs.Nearest.{HasValue}
 
 -- ---- demand 1: bad input gets the refusal number that the papers fix. Refusals.antt has the table.
 -- an answer that hands back the refusal with this number and nothing else

@@ -13,7 +13,8 @@ use Rattle.bounds.specs.Refusals.{numberOf, IsWord}
 use Rattle.word.specs.Takum.{Takum, real, NaR, takum, fractionBits}
 use Rattle.word.specs.Reads.{num, den, IsNumber}
 use Rattle.word.specs.Orders.{order, opposite}
-use Rattle.round.specs.Nearest.{HasValue, IsRounded, IsExact}
+use Rattle.nearest.specs.Nearest.{HasValue}
+use Rattle.round.specs.Writes.{IsRounded, IsExact}
 use Rattle.write.specs.Writes.{isNegative}
 use Rattle.whole.specs.Wholes.{IsWholePart}
 use Rattle.binary64.specs.Nearest.{NearestBinary64}

@@ -14,7 +14,7 @@ use Rattle.bounds.specs.Refusals.{IsWord}
 use Rattle.bounds.specs.Widths.{narWord, Within, GivesLimit}
 use Rattle.word.specs.Orders.{signed, order, negated}
 use Rattle.round.specs.declared.value.Rule.{Rule}
-use Rattle.round.specs.Nearest.{HasValue}
+use Rattle.nearest.specs.Nearest.{HasValue}
 use Rattle.write.specs.Writes.{isNegative}
 use Rattle.whole.specs.declared.taking.Taking.{Taking}
 use Rattle.whole.specs.declared.taking.Whole.{Whole}

@@ -21,7 +21,7 @@ use Rattle.word.specs.Reads.{Reads}
 use Rattle.order.specs.Orders.{Compares, Negates}
 use Rattle.round.specs.declared.value.Rule.{Rule}
 use Rattle.write.specs.declared.value.Value.{Value}
-use Rattle.round.specs.Nearest.{IsExact}
+use Rattle.round.specs.Writes.{IsExact}
 use Rattle.write.specs.Writes.{Writes, Moves}
 use Rattle.whole.specs.declared.taking.Taking.{Taking}
 use Rattle.whole.specs.declared.taking.Whole.{Whole}

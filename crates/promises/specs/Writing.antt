@@ -15,7 +15,8 @@ use Rattle.word.specs.Reads.{num, den, IsSize, signedSize, Reads}
 use Rattle.word.specs.Orders.{signed, order, negated}
 use Rattle.round.specs.declared.value.Rule.{Rule}
 use Rattle.write.specs.declared.value.Value.{Value}
-use Rattle.round.specs.Nearest.{HasValue, IsRounded, IsExact}
+use Rattle.nearest.specs.Nearest.{HasValue}
+use Rattle.round.specs.Writes.{IsRounded, IsExact}
 use Rattle.write.specs.Writes.{Writes, Moves}
 use Rattle.promises.specs.Demands.{RefusedAs}
 

@@ -4,8 +4,8 @@ use Prim.Native.Nat.{ℕ, _*_, _^_, _≤_, _<_}
 use lib.IntN.{ℤ, pos, _+ℤ_, _-ℤ_, -ℤ-+ℤ-cancel}
 use Rattle.word.specs.Reads.{IsSize}
 use Rattle.word.proofs.Binades.{size-one}
-use Rattle.round.specs.declared.size.Rest.{Rest}
-use Rattle.round.specs.Offers.{IsOffered}
+use Rattle.nearest.specs.declared.size.Rest.{Rest}
+use Rattle.nearest.specs.Offers.{IsOffered}
 use Rattle.round.proofs.Scales.{size-same, same-size}
 
 module _ (e h : ℤ) (M m v : ℕ) (normal : IsSize M (e -ℤ pos 63) v) (a b : ℕ) (some : 0 < b) (offered : IsOffered m Rest.Nothing (h -ℤ pos 63) a b) where

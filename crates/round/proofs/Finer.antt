@@ -10,10 +10,10 @@ use lib.IntN.{ℤ, pos, negsuc, _+ℤ_, _-ℤ_, +ℤ-comm, -ℤ-+ℤ-cancel}
 use lib.Pow.{pow-pos}
 use Rattle.word.specs.Reads.{num, den, IsSize}
 use Rattle.word.proofs.Units.{unit-some, raise-size, lower-by}
-use Rattle.round.specs.declared.size.Rest.{Rest}
-use Rattle.round.specs.declared.size.Side.{Side}
-use Rattle.round.specs.Nearest.{IsExact}
-use Rattle.round.specs.Offers.{Amounts, IsOffered, Tells}
+use Rattle.nearest.specs.declared.size.Rest.{Rest}
+use Rattle.nearest.specs.declared.size.Side.{Side}
+use Rattle.round.specs.Writes.{IsExact}
+use Rattle.nearest.specs.Offers.{Amounts, IsOffered, Tells}
 use Rattle.round.specs.Jamming.{Between}
 use Rattle.round.proofs.Scales.{coarser, finer}
 use Rattle.round.proofs.Signs.{exact-some}

@@ -17,12 +17,14 @@ use Rattle.bounds.proofs.Answers.{wordOf}
 use Rattle.bounds.proofs.Powers.{pow-sum, not-more}
 use Rattle.word.proofs.Units.{unit-some}
 use Rattle.round.specs.declared.value.Rule.{Rule}
-use Rattle.round.specs.declared.size.Rest.{Rest}
-use Rattle.round.specs.declared.size.Side.{Side}
-use Rattle.round.specs.Nearest.{HasValue, Nearest, other, IsWritten}
-use Rattle.round.specs.Offers.{Amounts, IsOffered, IsNearest, Tells, withSign}
+use Rattle.nearest.specs.declared.size.Rest.{Rest}
+use Rattle.nearest.specs.declared.size.Side.{Side}
+use Rattle.nearest.specs.Nearest.{HasValue, Nearest}
+use Rattle.round.specs.Writes.{other, IsWritten}
+use Rattle.nearest.specs.Offers.{Amounts, IsOffered, IsNearest, Tells}
+use Rattle.round.specs.Offers.{withSign}
 use Rattle.round.specs.Jamming.{Between, jammed}
-use Rattle.round.proofs.Classes.{class-nearest}
+use Rattle.nearest.proofs.Classes.{class-nearest}
 use Rattle.round.proofs.Finer.{coarser-between, no-word-between}
 use Rattle.round.proofs.Rounding.{over-nearest, tie-nearest, written-one}
 use Rattle.round.proofs.Scales.{plain-offer, coarser}

@@ -1,31 +1,7 @@
 -- The laws of the hub, one idea a file, in reading order.
 
--- ---- what the nearest word is
--- the nearest of an increasing row of sizes, ties to the even place: there is one, and only one
-pub mod Nearest
--- the nonzero words of one sign are such a row
-pub mod Places
 -- with the other sign it is the word of the same place; a word with exactly the value is the nearest
 pub mod Signs
--- ---- how one function, the hub, finds it
--- exponents raised by 255, so that none is negative
-pub mod Exponents
--- an exact size, with a rest below its last unit, against a half and against a midpoint
-pub mod Halves
--- the strings of one binade: their sizes are the significands one after the other
-pub mod Strings
--- how the strings of a characteristic begin, by computed tests
-pub mod Starts
--- the first bits of a size are the last string at or below it, and cut to n bits the last word
-pub mod Floors
--- where the cut falls before the fraction, a word and the next are powers of two, at most 64 binades apart
-pub mod Coarse
--- on which side of the midpoint of its two neighbours a size lies
-pub mod Sides
--- so the hub gives the nearest positive word, past either end and inside
-pub mod Hub
--- and a whole class of sizes has one
-pub mod Classes
 -- ---- one size in several units
 -- every size is offered as a fraction, and both parts of a fraction times one number are the same size
 pub mod Scales

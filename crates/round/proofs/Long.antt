@@ -10,9 +10,10 @@ use lib.Pow.{shr-lt, split}
 use Rattle.word.specs.Reads.{num, den}
 use Rattle.bounds.proofs.Powers.{pow-sum, shl-below, shl-out, Log, leading-log}
 use Rattle.word.proofs.Units.{unit-some, lower-by}
-use Rattle.round.specs.declared.size.Rest.{Rest}
-use Rattle.round.specs.declared.size.Side.{Side}
-use Rattle.round.specs.Offers.{Amounts, IsOffered, IsRest, Tells, topBits}
+use Rattle.nearest.specs.declared.size.Rest.{Rest}
+use Rattle.nearest.specs.declared.size.Side.{Side}
+use Rattle.nearest.specs.Offers.{Amounts, IsOffered, Tells}
+use Rattle.round.specs.Offers.{IsRest, topBits}
 use Rattle.round.proofs.Scales.{raise-offer, coarser}
 
 -- ---- what lies below the last unit is under a half of it, a half, or over

@@ -8,8 +8,8 @@ use lib.IntN.{ℤ, pos, _+ℤ_, _-ℤ_, +ℤ-negℤ-cancel}
 use lib.Pow.{shl-exact}
 use Rattle.word.specs.Reads.{num, den}
 use Rattle.bounds.proofs.Powers.{pow-sum, Log, leading-log}
-use Rattle.round.specs.declared.size.Rest.{Rest}
-use Rattle.round.specs.Offers.{IsOffered}
+use Rattle.nearest.specs.declared.size.Rest.{Rest}
+use Rattle.nearest.specs.Offers.{IsOffered}
 use Rattle.round.proofs.Scales.{raise-offer}
 use Rattle.word.proofs.Units.{lower-by}
 

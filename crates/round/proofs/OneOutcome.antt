@@ -11,7 +11,7 @@ use Rattle.bounds.proofs.Verdicts.{width-through, answered, refused-as}
 use Rattle.word.proofs.Units.{unit-some}
 use Rattle.round.specs.declared.value.Rule.{Rule}
 use Rattle.round.specs.declared.value.LongValue.{LongValue}
-use Rattle.round.specs.Nearest.{WritesShort, WritesSize, WritesLong}
+use Rattle.round.specs.Writes.{WritesShort, WritesSize, WritesLong}
 use Rattle.round.proofs.Rounding.{written-one}
 
 pub writes-short-one : (n : ℕ) (rule : Rule) (negative : Bool) (m : ℕ) (k : ℤ) (a b : Answer) → WritesShort n rule negative m k a → WritesShort n rule negative m k b → a ≡ b

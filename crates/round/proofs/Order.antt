@@ -14,9 +14,9 @@ use Rattle.word.specs.Orders.{signed, order}
 use Rattle.word.specs.Reads.{signedSize}
 use Rattle.word.proofs.Signed.{signed-low, signed-high, order-above}
 use Rattle.word.proofs.Values.{grown, grown-lt, no-sign, order-kept}
-use Rattle.round.specs.Nearest.{IsRounded, zero, other}
-use Rattle.round.proofs.Nearest.{NearestPlace, place-order}
-use Rattle.round.proofs.Places.{wordOf, from-word}
+use Rattle.round.specs.Writes.{IsRounded, zero, other}
+use Rattle.nearest.proofs.Nearest.{NearestPlace, place-order}
+use Rattle.nearest.proofs.Places.{wordOf, from-word}
 
 -- ---- the order of signed sizes
 greater : (x y : ℤ) → order x y ≡ pos 1 → ltZ y x ≡ true

@@ -13,9 +13,10 @@ use Rattle.word.proofs.Values.{grown, words-differ}
 use Rattle.word.specs.Takum.{real}
 use Rattle.word.specs.Reads.{signedSize}
 use Rattle.round.specs.declared.value.Rule.{Rule}
-use Rattle.round.specs.Nearest.{HasValue, Nearest, IsRounded, zero, other, IsExact, IsWritten}
-use Rattle.round.proofs.Nearest.{at-first, at-last, nearer-above, midway}
-use Rattle.round.proofs.Places.{increasing, not-decreasing, two, wordOf, Place, place-of, value-is, to-word, from-word, nearest-exists, nearest-one}
+use Rattle.nearest.specs.Nearest.{HasValue, Nearest}
+use Rattle.round.specs.Writes.{IsRounded, zero, other, IsExact, IsWritten}
+use Rattle.nearest.proofs.Nearest.{at-first, at-last, nearer-above, midway}
+use Rattle.nearest.proofs.Places.{increasing, not-decreasing, two, wordOf, Place, place-of, value-is, to-word, from-word, nearest-exists, nearest-one}
 use Rattle.round.proofs.Rules.{zero-value}
 use Rattle.round.proofs.Signs.{exact-nearest}
 

@@ -14,13 +14,16 @@ use Rattle.bounds.specs.declared.refusal.Refusal.{Refusal}
 use Rattle.word.proofs.Values.{no-sign}
 use Rattle.word.proofs.Words.{takum-zero}
 use Rattle.round.specs.declared.value.Rule.{Rule}
-use Rattle.round.specs.declared.size.Rest.{Rest}
-use Rattle.round.specs.Nearest.{HasValue, Nearest, zero, other, IsWritten}
-use Rattle.round.specs.Offers.{Amounts, IsOffered, IsRest, IsNearest, RoundsSize, TellsSize, withSign, WritesNormal, WritesFiner, Settles}
+use Rattle.nearest.specs.declared.size.Rest.{Rest}
+use Rattle.nearest.specs.Nearest.{HasValue, Nearest}
+use Rattle.round.specs.Writes.{zero, other, IsWritten}
+use Rattle.nearest.specs.Offers.{Amounts, IsOffered, IsNearest}
+use Rattle.round.specs.Offers.{IsRest, RoundsSize, TellsSize, withSign, WritesNormal, WritesFiner, Settles}
 use Rattle.word.proofs.Units.{unit-some}
+use Rattle.nearest.proofs.OneOutcome.{some-size}
 use Rattle.round.proofs.Finer.{no-finer-word}
 use Rattle.round.proofs.Long.{finer-offer}
-use Rattle.round.proofs.Places.{nearest-one}
+use Rattle.nearest.proofs.Places.{nearest-one}
 use Rattle.round.proofs.Scales.{plain-offer, written-times}
 use Rattle.round.proofs.Signs.{signed-nearest, nearest-positive, exact-some, exact-nearest}
 
@@ -33,21 +36,12 @@ unfolding IsWritten
 zero-written n lo hi Rule.Rounded s a b q = zero q refl
 zero-written n lo hi Rule.Strict s a b q = record { z = 0; is = zero-value n lo hi s; same = zero-mul b ∙ sym q }
 
--- every class has a size
-some-rest : (rest : Rest) → (below : ℕ) × (below < 2 ^ 64) × IsRest below rest
-unfolding IsRest
-some-rest Rest.Nothing = (0, lit< tt, refl)
-some-rest Rest.UnderHalf = (1, lit< tt, (lit< tt, lit< tt))
-some-rest Rest.Half = (2 ^ 63, lit< tt, refl)
-some-rest Rest.OverHalf = (2 ^ 63 + 1, lit< tt, lit< tt)
-
 module _ (n : ℕ) (lo : 2 ≤ n) (hi : n ≤ 64) (h : ℤ) (m : ℕ) (rest : Rest) (w : ℕ) (near : IsNearest n h m rest w) where
   pub is-positive : (0 < w) × (w < 2 ^ (n - 1))
   unfolding IsNearest
   is-positive =
-      let x = some-rest rest in
-      let some = unit-some (h -ℤ pos 127 +ℤ pos 307) .1 in
-      nearest-positive n lo hi _ _ w (near _ _ some (finer-offer m (x .0) rest h _ _ some (x .1) (x .2) (plain-offer (m * 2 ^ 64 + x .0) (h -ℤ pos 127))))
+      let t = some-size m rest (h -ℤ pos 63) in
+      nearest-positive n lo hi (t .0) (t .1) w (near (t .0) (t .1) (t .2) (t .3))
 
   pub signed-size : (s : Bool) → RoundsSize n s h m rest (withSign n s w)
   unfolding RoundsSize IsNearest

@@ -9,13 +9,14 @@ use lib.IntN.{ℤ, pos, _+ℤ_}
 use Rattle.word.specs.Reads.{num, den, IsSize}
 use Rattle.bounds.specs.declared.answer.Answer.{Answer}
 use Rattle.round.specs.declared.value.Rule.{Rule}
-use Rattle.round.specs.declared.size.Rest.{Rest}
-use Rattle.round.specs.declared.size.Side.{Side}
-use Rattle.round.specs.Nearest.{distance, Nearest, IsRounded, zero, other, IsExact, IsWritten}
-use Rattle.round.specs.Offers.{IsOffered, Amounts, Tells}
+use Rattle.nearest.specs.declared.size.Rest.{Rest}
+use Rattle.nearest.specs.declared.size.Side.{Side}
+use Rattle.nearest.specs.Nearest.{distance, Nearest}
+use Rattle.round.specs.Writes.{IsRounded, zero, other, IsExact, IsWritten}
+use Rattle.nearest.specs.Offers.{IsOffered, Amounts, Tells}
 use Rattle.word.proofs.Units.{unit-some, cross, aside}
-use Rattle.round.proofs.Halves.{cancel}
-use Rattle.round.proofs.Nearest.{distance-below, distance-above, either-side}
+use Rattle.nearest.proofs.Halves.{cancel}
+use Rattle.nearest.proofs.Nearest.{distance-below, distance-above, either-side}
 
 -- every m * 2^k is offered as a fraction
 pub plain-offer : (m : ℕ) (k : ℤ) → IsOffered m Rest.Nothing k (m * num (k +ℤ pos 307)) (den (k +ℤ pos 307))

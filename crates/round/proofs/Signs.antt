@@ -16,10 +16,11 @@ use lib.Pow.{pow-pos}
 use Rattle.bounds.proofs.Powers.{twice}
 use Rattle.word.proofs.Signed.{negated-other}
 use Rattle.word.proofs.Values.{words-differ}
-use Rattle.round.specs.Nearest.{HasValue, distance, Nearest, IsExact}
+use Rattle.nearest.specs.Nearest.{HasValue, distance, Nearest}
+use Rattle.round.specs.Writes.{IsExact}
 use Rattle.round.specs.Offers.{withSign}
-use Rattle.round.proofs.Nearest.{distance-below, distance-above, either-side}
-use Rattle.round.proofs.Places.{wordOf, has-value, value-is, to-word, from-word}
+use Rattle.nearest.proofs.Nearest.{distance-below, distance-above, either-side}
+use Rattle.nearest.proofs.Places.{wordOf, has-value, value-is, to-word, from-word}
 
 -- the distance is nothing only from the number itself
 no-distance : (a x : ℕ) → distance a x ≡ 0 → x ≡ a

@@ -12,7 +12,7 @@ use Rattle.word.specs.Takum.{takum, real, p, F, c}
 use Rattle.sizes.proofs.Tops.{word-number}
 use Rattle.word.proofs.Values.{real-inj, absolute, no-sign, not-NaR}
 use Rattle.word.proofs.Words.{takum-zero, takum-NaR}
-use Rattle.round.specs.Nearest.{HasValue}
+use Rattle.nearest.specs.Nearest.{HasValue}
 
 module _ (n : ℕ) (lo : 2 ≤ n) (hi : n ≤ 64) (negative : Bool) (z w : ℕ) (nonzero : zero < z) (value : HasValue n negative z w) where
   -- two sizes of what it means are the same

@@ -1,4 +1,4 @@
 -- What the contracts of this crate cite.
-pub mod Nearest
+pub mod Writes
 pub mod Offers
 pub mod Jamming

@@ -1,32 +1,16 @@
--- Serves private functions only: the normal size that size::nearest takes, (m + rest) * 2^(h - 63), and what it and its parts answer.
+-- Serves private functions only: what is written for a size in its normal form, and for what goes past 64 bits.
 use mathlib.Core.Path.{_≡_}
 use mathlib.Core.Bool.{Bool, true, false, cond}
-use Prim.Native.Nat.{ℕ, _+_, _-_, _*_, _/_, _%_, _^_, _≤_, _<_}
+use Prim.Native.Nat.{ℕ, _+_, _-_, _*_, _/_, _^_, _≤_, _<_}
 use lib.IntN.{ℤ, pos, _+ℤ_, _-ℤ_}
-use Rattle.word.specs.Takum as Takum
 use Rattle.word.specs.Orders.{negated}
 use Rattle.word.specs.Reads.{num, den}
 use Rattle.bounds.specs.declared.answer.Answer.{Answer}
+use Rattle.nearest.specs.declared.size.Rest.{Rest}
+use Rattle.nearest.specs.Nearest.{HasValue, Nearest}
+use Rattle.nearest.specs.Offers.{IsOffered}
 use Rattle.round.specs.declared.value.Rule.{Rule}
-use Rattle.round.specs.declared.size.Rest.{Rest}
-use Rattle.round.specs.declared.size.Side.{Side}
-use Rattle.round.specs.declared.size.Start.{Start}
-use Rattle.round.specs.Nearest.{HasValue, Nearest, IsWritten}
-
--- a is (m + rest) * unit
-unfoldable pub Amounts : ℕ → Rest → ℕ → ℕ → Type 0
-Amounts m Rest.Nothing a unit = a ≡ m * unit
-Amounts m Rest.UnderHalf a unit = (m * unit < a) × (2 * a < (2 * m + 1) * unit)
-Amounts m Rest.Half a unit = 2 * a ≡ (2 * m + 1) * unit
-Amounts m Rest.OverHalf a unit = ((2 * m + 1) * unit < 2 * a) × (a < (m + 1) * unit)
-
--- the exact size a / b, counted in 2^-307, is (m + rest) * 2^k; both are multiplied by the denominators b and that of 2^(k + 307)
-unfoldable pub IsOffered : ℕ → Rest → ℤ → ℕ → ℕ → Type 0
-IsOffered m rest k a b = Amounts m rest (a * den (k +ℤ pos 307)) (num (k +ℤ pos 307) * b)
-
--- the positive word that is nearest to every exact size that is so offered
-unfoldable pub IsNearest : ℕ → ℤ → ℕ → Rest → ℕ → Type 0
-IsNearest n h m rest w = (a b : ℕ) → 0 < b → IsOffered m rest (h -ℤ pos 63) a b → Nearest n false a b w
+use Rattle.round.specs.Writes.{IsWritten}
 
 -- the word of the sign that is nearest to every exact size that is so offered
 unfoldable pub RoundsSize : ℕ → Bool → ℤ → ℕ → Rest → ℕ → Type 0
@@ -40,52 +24,6 @@ TellsSize n w h m false = (negative : Bool) (z a b : ℕ) → 0 < z → HasValue
 -- the word with the sign
 unfoldable pub withSign : ℕ → Bool → ℕ → ℕ
 withSign n negative w = cond negative (negated n w) w
-
--- every string of 64 bits that begins with sign 0 and these bits has this regime and the characteristic c
-pub record Begins (c : ℤ) (start : Start) : Type 0 where
-  pub regime : start .r ≤ 7
-  pub sign : (f : ℕ) → f < 2 ^ (59 - start .r) → Takum.S 64 (start .bits * 2 ^ (59 - start .r) + f) ≡ 0
-  pub has-regime : (f : ℕ) → f < 2 ^ (59 - start .r) → Takum.r 64 (start .bits * 2 ^ (59 - start .r) + f) ≡ start .r
-  pub has-characteristic : (f : ℕ) → f < 2 ^ (59 - start .r) → Takum.c 64 (start .bits * 2 ^ (59 - start .r) + f) ≡ c
-
--- the first 64 bits of the string of a size with significand m
-unfoldable pub firstBits : Start → ℕ → ℕ
-firstBits start m = start .bits * 2 ^ (59 - start .r) + (m - 2 ^ 63) / 2 ^ (4 + start .r)
-
--- a side tells how x compares with y
-unfoldable pub Tells : Side → ℕ → ℕ → Type 0
-Tells Side.Under x y = x < y
-Tells Side.Midway x y = x ≡ y
-Tells Side.Over x y = y < x
-
--- beyond + rest against half, whatever both are added to
-unfoldable pub TellsHalf : ℕ → ℕ → Rest → Side → Type 0
-TellsHalf beyond half rest side = (base unit a : ℕ) → 0 < unit → Amounts (base + beyond) rest a unit → Tells side a ((base + half) * unit)
-
--- low or low + 1 as the side tells, halfway the one whose lowest bit is 0
-unfoldable pub chosenOf : ℕ → Side → ℕ
-chosenOf low Side.Under = low
-chosenOf low Side.Midway = low + low % 2
-chosenOf low Side.Over = low + 1
-
--- how far the bits that are cut off may stay under a half for low + 1 to be chosen, in units too small to matter
-unfoldable pub marginOf : ℕ → Rest → ℕ
-marginOf low Rest.Nothing = low % 2
-marginOf low Rest.UnderHalf = 1
-marginOf low Rest.Half = 1
-marginOf low Rest.OverHalf = 1
-
--- what is chosen by the bits cut off: they are `beyond`, shifted to the top of 64 bits, and a half stands there as 2^63
-unfoldable pub ChoosesByCut : ℕ → ℕ → Rest → ℕ → Type 0
-ChoosesByCut low cut rest w = (t beyond half : ℕ) → cut ≡ beyond * 2 ^ t → 2 ^ 63 ≡ half * 2 ^ t → (side : Side) × TellsHalf beyond half rest side × (w ≡ chosenOf low side)
-
--- an exponent from -255 to 254 (`mag` of it is at most 254) raised by 255, so that it isn't negative
-unfoldable pub IsRaised : ℤ → ℕ → Type 0
-IsRaised h e = h +ℤ pos 255 ≡ pos e
-
--- (m + rest) 2^(e - 63) against the midpoint of 2^i and 2^j: where the size is a, those two are y and z, in the same unit
-unfoldable pub TellsPowers : ℕ → ℕ → ℕ → ℕ → Rest → Side → Type 0
-TellsPowers i j e m rest side = (unit a : ℕ) → 0 < unit → Amounts m rest a unit → (y z : ℕ) → y * 2 ^ e ≡ 2 ^ (63 + i) * unit → z * 2 ^ e ≡ 2 ^ (63 + j) * unit → Tells side (2 * a) (y + z)
 
 -- what is written for the size m * 2^(h - 63) with its sign
 unfoldable pub WritesNormal : ℕ → Rule → Bool → ℤ → ℕ → Answer → Type 0

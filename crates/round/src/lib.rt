@@ -1,4 +1,3 @@
 // The hub: whatever is written, however long, becomes the nearest word here, or exactly it, by a rule.
-mod size;
 pub mod value;
 pub mod writing;

@@ -1,17 +1,17 @@
 // Writing a long value as a word: every number that is written passes here.
-use crate::size::Rest;
-use crate::size::nearest;
 use crate::value::LongValue;
 use crate::value::Rule;
 use bounds::answer::Answer;
 use bounds::refusal::Refusal;
 use bounds::refusal::Verdict;
 use bounds::width::Width;
+use nearest::size::Rest;
+use nearest::size::nearest;
 use sizes::size::Size;
 use sizes::size::size_of;
 ghost use mathlib.Core.Path.{_≡_};
 ghost use Prim.Native.Nat.{_+_, _-_, _*_, _^_, _≤_, _<_};
-ghost use Rattle.round.specs.Nearest.{WritesLong, WritesShort, WritesSize};
+ghost use Rattle.round.specs.Writes.{WritesLong, WritesShort, WritesSize};
 ghost use Rattle.round.specs.Offers.{RoundsSize, Settles, TellsSize, IsRest, WritesFiner, WritesTimes, topBits, withSign};
 
 // The word for a long value: the nearest, or exactly that value or INEXACT.
@@ -42,7 +42,7 @@ pub fn write_short(width: Width, rule: Rule, negative: bool, m: u64, k: i32) -> 
     let zeros = u64::leading_zeros(m);
     let h = k as i64 + (63 - zeros) as i64;
     let full = m << zeros;
-    let word = rounded(width.bits, negative, h, full, Rest::Nothing);
+    let word = rounded(width, negative, h, full, Rest::Nothing);
     by_rule(width, rule, h, full, word)
 }
 
@@ -61,7 +61,7 @@ pub fn write_size(width: Width, rule: Rule, size: Size) -> Answer
     let zeros = u64::leading_zeros(m);
     let h = size.h as i64 - zeros as i64;
     let full = m << zeros;
-    let word = rounded(width.bits, size.negative, h, full, Rest::Nothing);
+    let word = rounded(width, size.negative, h, full, Rest::Nothing);
     by_rule(width, rule, h, full, word)
 }
 
@@ -75,7 +75,7 @@ fn write_full(width: Width, rule: Rule, negative: bool, high: u64, low: u64, k: 
     let m = top_bits(high, low, zeros);
     let below = low << zeros;
     if below == 0 {
-        let word = rounded(width.bits, negative, h, m, Rest::Nothing);
+        let word = rounded(width, negative, h, m, Rest::Nothing);
         return by_rule(width, rule, h, m, word);
     }
     write_finer(width, rule, negative, h, m, below)
@@ -96,7 +96,7 @@ fn write_finer(width: Width, rule: Rule, negative: bool, h: i64, m: u64, below: 
     ensures { λ r. ⌜ WritesFiner (width .bits) rule negative h m below r ⌝ }
 {
     match rule {
-        Rule::Rounded => Answer::Word(rounded(width.bits, negative, h, m, rest_of(below))),
+        Rule::Rounded => Answer::Word(rounded(width, negative, h, m, rest_of(below))),
         Rule::Strict => Answer::Refused(Refusal::Inexact),
     }
 }
@@ -119,11 +119,15 @@ fn rest_of(below: u64) -> Rest
 
 // The word that is nearest to the size (m + rest) * 2^(h - 63) with its sign. Whoever writes calls this and then `by_rule`: so this is
 // compiled once, and the rule where it is known.
-fn rounded(n: u32, negative: bool, h: i64, m: u64, rest: Rest) -> u64
-    requires { ⌜ (2 ≤ n) × (n ≤ 64) × (2 ^ 63 ≤ m) ⌝ }
-    ensures { λ w. ⌜ RoundsSize n negative h m rest w ⌝ }
+fn rounded(width: Width, negative: bool, h: i64, m: u64, rest: Rest) -> u64
+    requires { ⌜ (2 ≤ width .bits) × (width .bits ≤ 64) × (2 ^ 63 ≤ m) ⌝ }
+    ensures { λ w. ⌜ RoundsSize (width .bits) negative h m rest w ⌝ }
 {
-    with_sign(n, negative, nearest(n, h, m, rest))
+    // The width is good, so the refusal never comes.
+    match nearest(width, h, m, rest) {
+        Answer::Word(word) => with_sign(width.bits, negative, word),
+        Answer::Refused(_) => 0,
+    }
 }
 
 // The nearest word by the rule: by the strict one only where it has the size m * 2^(h - 63). If any word has it, that is the nearest.

@@ -16,7 +16,7 @@ use Rattle.bounds.proofs.Answers.{GivesAWord}
 use Rattle.bounds.proofs.Verdicts.{then-through, open-when, width-fits, word-passes, answered}
 use Rattle.round.specs.declared.value.Rule.{Rule}
 use Rattle.write.specs.Writes.{isNegative}
-use Rattle.round.specs.Nearest.{IsWritten}
+use Rattle.round.specs.Writes.{IsWritten}
 use Rattle.round.proofs.Rounding.{exact-written}
 use Rattle.whole.specs.declared.taking.Taking.{Taking}
 use Rattle.whole.specs.declared.taking.Whole.{Whole}

@@ -8,9 +8,9 @@ use lib.IntN.{pos}
 use Rattle.bounds.proofs.Powers.{Log, pow-sum}
 use Rattle.bounds.proofs.Limits.{exponent-lt}
 use Rattle.word.proofs.Sizes.{size}
-use Rattle.round.specs.Offers.{IsRaised, Begins}
-use Rattle.round.proofs.Starts.{upper-begins}
-use Rattle.round.proofs.Strings.{Binade, binade-of, size-in-binade}
+use Rattle.nearest.specs.Offers.{IsRaised, Begins}
+use Rattle.nearest.proofs.Starts.{upper-begins}
+use Rattle.nearest.proofs.Strings.{Binade, binade-of, size-in-binade}
 
 -- sign 0, direction 1, the regime ρ = floor(log2 (h + 1)) and the characteristic h
 unfoldable pub beginning : ℕ → ℕ → ℕ

@@ -19,8 +19,8 @@ use Rattle.word.proofs.Cut.{regime-le}
 use Rattle.word.proofs.Sizes.{size}
 use Rattle.word.proofs.Meaning.{value-at, string-positive, exponent-whole}
 use Rattle.word.proofs.Values.{grown-suc}
-use Rattle.round.specs.Nearest.{HasValue}
-use Rattle.round.proofs.Places.{Place, place-of}
+use Rattle.nearest.specs.Nearest.{HasValue}
+use Rattle.nearest.proofs.Places.{Place, place-of}
 use Rattle.whole.proofs.LimitWords.{at-most}
 
 -- a characteristic that isn't negative gives the regime: r = floor(log2 (c + 1))

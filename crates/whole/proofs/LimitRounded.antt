@@ -11,8 +11,9 @@ use Rattle.bounds.proofs.Powers.{not-more}
 use Rattle.word.specs.Takum.{real}
 use Rattle.word.specs.Reads.{signedSize}
 use Rattle.word.proofs.Values.{absolute}
-use Rattle.round.specs.Nearest.{distance, Nearest, IsRounded, zero, other}
-use Rattle.round.proofs.Nearest.{distance-below}
+use Rattle.nearest.specs.Nearest.{distance, Nearest}
+use Rattle.round.specs.Writes.{IsRounded, zero, other}
+use Rattle.nearest.proofs.Nearest.{distance-below}
 use Rattle.whole.specs.Limits as promise
 use Rattle.whole.proofs.InAndOut.{Written}
 use Rattle.whole.proofs.LimitEvens.{even-from-the-limit}

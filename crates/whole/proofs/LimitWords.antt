@@ -18,8 +18,8 @@ use Rattle.sizes.specs.Sizes.{withoutSign}
 use Rattle.word.specs.Takum.{p, F, c}
 use Rattle.word.proofs.Sizes.{size}
 use Rattle.word.proofs.Values.{grown-suc}
-use Rattle.round.specs.Nearest.{HasValue}
-use Rattle.round.proofs.Places.{wordOf, Place, has-value, place-of}
+use Rattle.nearest.specs.Nearest.{HasValue}
+use Rattle.nearest.proofs.Places.{wordOf, Place, has-value, place-of}
 use Rattle.round.proofs.Rules.{zero-value}
 use Rattle.round.proofs.Sized.{has-form}
 use Rattle.sizes.proofs.Tops.{nar-shifted}

@@ -6,7 +6,8 @@ use native.Mathlib.Nat.{mul-one, zero-lt-suc}
 use Rattle.bounds.specs.declared.answer.Answer.{Answer}
 use Rattle.bounds.specs.Widths.{IsLimit}
 use Rattle.round.specs.declared.value.Rule.{Rule}
-use Rattle.round.specs.Nearest.{HasValue, IsWritten}
+use Rattle.nearest.specs.Nearest.{HasValue}
+use Rattle.round.specs.Writes.{IsWritten}
 use Rattle.round.proofs.Rounding.{exact-written}
 use Rattle.whole.specs.Limits as promise
 use Rattle.whole.proofs.LimitWords.{every-whole-number-up-to-the-limit-has-a-word}

@@ -3,7 +3,7 @@
 use mathlib.Core.Bool.{Bool}
 use Prim.Native.Nat.{ℕ, _+_, _*_, _^_, _≤_}
 use Rattle.bounds.specs.Widths.{IsLimit}
-use Rattle.round.specs.Nearest.{HasValue}
+use Rattle.nearest.specs.Nearest.{HasValue}
 
 -- every whole number from -l to l has a word
 unfoldable pub EveryWholeNumberUpToTheLimitHasAWord : Type 0

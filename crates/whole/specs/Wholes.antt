@@ -10,7 +10,7 @@ use Rattle.word.specs.Takum.{Takum, real, NaR, takum}
 use Rattle.word.specs.Reads.{signedSize}
 use Rattle.bounds.specs.Refusals.{unless, widthTest, wordTest, _then_, Decided}
 use Rattle.round.specs.declared.value.Rule.{Rule}
-use Rattle.round.specs.Nearest.{IsWritten}
+use Rattle.round.specs.Writes.{IsWritten}
 use Rattle.write.specs.Writes.{isNegative}
 use Rattle.whole.specs.declared.taking.Taking.{Taking}
 use Rattle.whole.specs.declared.taking.Whole.{Whole}

@@ -12,7 +12,7 @@ use Rattle.word.specs.Reads.{num, den, IsSize, IsNumber, signedSize}
 use Rattle.bounds.specs.declared.answer.Answer.{Answer}
 use Rattle.word.proofs.Units.{unit-some}
 use Rattle.round.specs.declared.value.Rule.{Rule}
-use Rattle.round.specs.Nearest.{IsWritten}
+use Rattle.round.specs.Writes.{IsWritten}
 use Rattle.round.proofs.Scales.{written-times, written-reduced}
 use Rattle.write.specs.Writes.{isNegative, IsMoved}
 

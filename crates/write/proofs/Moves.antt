@@ -17,7 +17,7 @@ use Rattle.word.proofs.Values.{NaR-word}
 use Rattle.word.proofs.Words.{takum-NaR, zeros-appended}
 use Rattle.bounds.proofs.Powers.{pow-sum, shl-below}
 use Rattle.round.specs.declared.value.Rule.{Rule}
-use Rattle.round.specs.Nearest.{IsExact, IsWritten}
+use Rattle.round.specs.Writes.{IsExact, IsWritten}
 use Rattle.write.specs.Writes.{isNegative, IsMoved, Moves}
 use Rattle.round.proofs.Rounding.{exact-written, rounded-exists}
 

@@ -9,7 +9,7 @@ use Rattle.word.specs.Reads.{num, den}
 use Rattle.bounds.specs.Refusals.{widthTest, strayTest, _then_, Decided}
 use Rattle.bounds.specs.Widths.{narWord}
 use Rattle.round.specs.declared.value.Rule.{Rule}
-use Rattle.round.specs.Nearest.{IsWritten}
+use Rattle.round.specs.Writes.{IsWritten}
 use Rattle.write.specs.declared.value.Value.{Value}
 
 unfoldable pub isNegative : ℤ → Bool

@@ -13,7 +13,7 @@ use mir.Val.{SFits, toZ, ofZ}
 use Rattle.word.specs.Reads.{num, den}
 use Rattle.bounds.specs.Widths.{GivesWord}
 use Rattle.word.proofs.Signed.{sub-mag}
-use Rattle.round.specs.Nearest.{IsWritten}
+use Rattle.round.specs.Writes.{IsWritten}
 use Rattle.write.specs.Writes.{Writes}
 use Rattle.binary64.specs.Writes.{WritesBinary64}
 use Rattle.binary64.proofs.Decisions.{decided-as}

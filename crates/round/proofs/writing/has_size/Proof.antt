@@ -13,7 +13,7 @@ use mir.Syntax.{w32, w64}
 use mir.Val.{SFits, toZ, ofZ}
 use Rattle.word.specs.Reads.{IsSize}
 use Rattle.sizes.specs.Sizes.{Sizes}
-use Rattle.round.specs.Nearest.{HasValue}
+use Rattle.nearest.specs.Nearest.{HasValue}
 use Rattle.round.specs.Offers.{TellsSize}
 use Rattle.round.proofs.Exact.{exactly, only-exactly}
 use Rattle.round.proofs.Sized.{has-form}

@@ -10,8 +10,9 @@ use lib.IntN.{ℤ, pos, _+ℤ_, _-ℤ_}
 use lib.Pow.{pow-pos}
 use Rattle.word.specs.Reads.{num, den}
 use Rattle.word.proofs.Units.{unit-some}
-use Rattle.round.specs.declared.size.Rest.{Rest}
-use Rattle.round.specs.Offers.{IsOffered, IsRest, topBits, WritesNormal, Settles, WritesFiner, WritesTimes}
+use Rattle.nearest.specs.declared.size.Rest.{Rest}
+use Rattle.nearest.specs.Offers.{IsOffered}
+use Rattle.round.specs.Offers.{IsRest, topBits, WritesNormal, Settles, WritesFiner, WritesTimes}
 use Rattle.round.proofs.Held.{raised-fits, held-sum, wide}
 use Rattle.round.proofs.Long.{few-zeros, high-shifted, top-full, long-offer, finer-offer}
 use Rattle.round.proofs.writing.write_full.Statement.{statement}

@@ -11,7 +11,7 @@ use borrow.Author.Needs.{needs, sfits-of}
 use Rattle.bounds.specs.declared.refusal.Verdict.{Verdict}
 use Rattle.bounds.specs.Refusals.{widthTest, through, refused}
 use Rattle.bounds.proofs.Verdicts.{width-through}
-use Rattle.round.specs.Nearest.{WritesShort, WritesLong}
+use Rattle.round.specs.Writes.{WritesShort, WritesLong}
 use Rattle.round.specs.Offers.{WritesTimes}
 use Rattle.round.proofs.writing.write_long.Statement.{statement}
 use Rattle.round.proofs.writing.write_long.Tie as tie

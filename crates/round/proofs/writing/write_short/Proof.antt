@@ -12,7 +12,7 @@ use Rattle.bounds.specs.Refusals.{widthTest, through, refused}
 use Rattle.bounds.proofs.Verdicts.{width-through}
 use Rattle.word.specs.Reads.{num}
 use Rattle.word.proofs.Units.{unit-some}
-use Rattle.round.specs.Nearest.{WritesShort}
+use Rattle.round.specs.Writes.{WritesShort}
 use Rattle.round.specs.Offers.{WritesNormal, Settles}
 use Rattle.round.proofs.Normal.{zeros-le, shifted-full, shifted-offer}
 use Rattle.round.proofs.Rules.{zero-written}

@@ -14,7 +14,7 @@ use Rattle.bounds.specs.Refusals.{widthTest, through, refused}
 use Rattle.bounds.proofs.Verdicts.{width-through}
 use Rattle.word.specs.Reads.{num}
 use Rattle.word.proofs.Units.{unit-some, lower-by}
-use Rattle.round.specs.Nearest.{WritesShort, WritesSize}
+use Rattle.round.specs.Writes.{WritesShort, WritesSize}
 use Rattle.round.specs.Offers.{WritesNormal, Settles}
 use Rattle.round.proofs.Normal.{zeros-le, shifted-full, shifted-offer}
 use Rattle.round.proofs.Rules.{zero-written}

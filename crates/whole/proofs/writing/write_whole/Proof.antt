@@ -10,7 +10,7 @@ use mir.Facts.{toZ-ofZ}
 use Rattle.bounds.specs.declared.answer.Answer.{Answer}
 use Rattle.word.specs.Reads.{num, den}
 use Rattle.bounds.specs.Refusals.{widthTest, Decided}
-use Rattle.round.specs.Nearest.{IsWritten}
+use Rattle.round.specs.Writes.{IsWritten}
 use Rattle.write.specs.Writes.{isNegative, Writes}
 use Rattle.whole.specs.Wholes.{WritesWhole}
 use Rattle.whole.proofs.writing.write_whole.Statement.{statement}

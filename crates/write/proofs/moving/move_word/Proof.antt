@@ -13,7 +13,7 @@ use Rattle.sizes.specs.declared.size.WordSize.{WordSize}
 use Rattle.word.specs.Reads.{IsNumber}
 use Rattle.word.specs.Takum.{Takum, takum}
 use Rattle.sizes.proofs.Normal.{Tells, tells}
-use Rattle.round.specs.Nearest.{WritesShort, WritesSize}
+use Rattle.round.specs.Writes.{WritesShort, WritesSize}
 use Rattle.round.proofs.Rules.{zero-written}
 use Rattle.write.specs.Writes.{isNegative, IsMoved, Moves}
 use Rattle.write.proofs.Meanings.{number-moved}

@@ -5,7 +5,7 @@ use mir.Facts.{toZ-ofZ}
 use mir.Syntax.{w32}
 use mir.Val.{toZ, ofZ}
 use borrow.Author.Needs.{needs, sfits-of}
-use Rattle.round.specs.Nearest.{WritesShort}
+use Rattle.round.specs.Writes.{WritesShort}
 use Rattle.write.specs.Writes.{Writes}
 use Rattle.write.proofs.writing.write.Statement.{statement}
 use Rattle.write.proofs.writing.write.Tie as tie

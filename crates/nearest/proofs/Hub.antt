@@ -1,0 +1,157 @@
+-- One normal size, the nearest positive word: past either end, and inside by its first bits and the side of the midpoint. Assumes nothing.
+use mathlib.Core.Path.{_≡_, refl, sym, ap, _∙_, subst}
+use mathlib.Core.Bool.{false}
+use Prim.Native.Nat.{ℕ, zero, suc, _+_, _-_, _*_, _/_, _%_, _^_, _≤_, _<_}
+use native.Mathlib.Nat.{mul-one, add-mul, mul-le-mul-right, mul-le-mul, le-trans, le-of-eq, le-of-lt, lt-of-lt-of-le, lt-of-le-of-lt, lt-of-mul-lt-mul-right, zero-lt-suc, mul-assoc, mul-right-comm, mul-pos, one-mul, le-add-right}
+use native.Mathlib.Numerals.{add-one}
+use native.Mathlib.Omega.{arith}
+use lib.IntN.{ℤ, pos, negsuc, _-ℤ_}
+use lib.Pow.{pow-pos, pow-mono, shr-lt}
+use Rattle.word.specs.Takum.{S, c}
+use Rattle.word.specs.Reads.{num, den}
+use Rattle.bounds.proofs.Powers.{pow-sum, shl-below, shr-none}
+use Rattle.word.proofs.Sizes.{size-above, size-below}
+use Rattle.word.proofs.Values.{grown, grown-suc}
+use Rattle.nearest.specs.declared.size.Rest.{Rest}
+use Rattle.nearest.specs.declared.size.Side.{Side}
+use Rattle.nearest.specs.declared.size.Start.{Start}
+use Rattle.nearest.specs.Nearest.{HasValue, Nearest}
+use Rattle.nearest.specs.Offers.{Begins, firstBits, Amounts, IsOffered, IsNearest, IsRaised, Tells, TellsPowers, chosenOf, ChoosesByCut}
+use Rattle.nearest.proofs.Exponents.{offset-up, offset-down, raised-same}
+use Rattle.nearest.proofs.Halves.{within}
+use Rattle.nearest.proofs.Nearest.{NearestPlace, at-first, at-last, nearer-below, nearer-above, midway}
+use Rattle.nearest.proofs.Strings.{binade-of}
+use Rattle.nearest.proofs.Floors.{floorString, floor-lt, word-low, word-high}
+use Rattle.nearest.proofs.Sides.{TellsMidpoint, floor-is, Given, fine-cut, coarse-tells}
+use Rattle.nearest.proofs.Places.{increasing, two, wordOf, has-value, to-word}
+
+-- a start leaves room for its sign
+pub start-lt : (h : ℤ) (start : Start) → Begins h start → start .bits < 2 ^ (4 + start .r)
+unfolding S
+start-lt h start begins =
+    lt-of-mul-lt-mul-right (2 ^ (59 - start .r))
+    (subst (λ (x : ℕ). start .bits * 2 ^ (59 - start .r) < x) (sym (pow-sum (4 + start .r) (59 - start .r) 63 (omega (arith, begins .regime)))) (lt-of-le-of-lt (le-add-right (start .bits * 2 ^ (59 - start .r)) 0) (shr-none 63 (start .bits * 2 ^ (59 - start .r) + 0) (begins .sign 0 (pow-pos (59 - start .r))))))
+
+module _ (n : ℕ) (lo : 2 ≤ n) (hi : n ≤ 64) where
+  last : ℕ
+  last = 2 ^ (n - 1) - 1
+
+  place : (a b v : ℕ) → NearestPlace (grown n) (2 ^ (n - 1)) a b v → Nearest n false a b v
+  unfolding wordOf
+  place a b v x = to-word n lo hi false a b v x
+
+  top-lt : (v : ℕ) → v < 2 ^ (n - 1) → v * 2 ^ (64 - n) < 2 ^ 63
+  top-lt v h = shl-below (n - 1) (64 - n) 63 h (omega arith)
+
+  -- ---- past the ends
+  pub past-last : (i m : ℕ) (rest : Rest) → 254 < i → 2 ^ 63 ≤ m → IsNearest n (pos i) m rest (2 ^ (n - 1) - 1)
+  unfolding IsNearest IsOffered num den
+  past-last i m rest far full = λ a b some offered.
+      place a b (2 ^ (n - 1) - 1) (at-last (grown n) (2 ^ (n - 1)) a b (increasing n lo hi) some (2 ^ (n - 1) - 1) (omega (arith, two n lo hi)) (omega (arith, two n lo hi)) (large a b some (subst (λ (x : ℤ). Amounts m rest (a * den x) (num x * b)) (offset-up i) offered)))
+    where
+      power : 2 ^ (255 + 307) ≤ m * 2 ^ (i + 244)
+      power = le-trans (le-of-eq (sym (pow-sum 63 499 (255 + 307) refl))) (mul-le-mul full (pow-mono {i = 499} {j = i + 244} (omega (arith, far))))
+
+      large : (a b : ℕ) → zero < b → Amounts m rest (a * 1) (2 ^ (i + 244) * b) → grown n (2 ^ (n - 1) - 1) * b ≤ a
+      large a b some x =
+          le-trans (mul-le-mul-right b (le-trans (le-of-lt (lt-of-le-of-lt (le-of-eq (grown-suc n (2 ^ (n - 1) - 1) (omega (arith, two n lo hi)))) (size-below ((2 ^ (n - 1) - 1) * 2 ^ (64 - n)) (top-lt (2 ^ (n - 1) - 1) (omega (arith, two n lo hi)))))) power))
+          (le-trans (le-of-eq (mul-assoc m (2 ^ (i + 244)) b)) (le-trans (within m rest (2 ^ (i + 244) * b) (a * 1) (mul-pos (pow-pos (i + 244)) some) x .low) (le-of-eq (mul-one a))))
+
+  pub before-first : (i m : ℕ) (rest : Rest) → 254 < i → m < 2 ^ 64 → IsNearest n (negsuc i) m rest 1
+  unfolding IsNearest IsOffered num den
+  before-first i m rest far top = λ a b some offered.
+      place a b 1 (at-first (grown n) (2 ^ (n - 1)) a b (increasing n lo hi) some (omega (arith, two n lo hi)) (small a b some (subst (λ (x : ℤ). Amounts m rest (a * den x) (num x * b)) (offset-down i (omega (arith, far))) offered)))
+    where
+      power : 2 ^ 64 ≤ grown n 1 * 2 ^ suc (i - 244)
+      power = mul-le-mul {n₁ = 2 ^ 52} {m₁ = 2 ^ 12} (le-trans (size-above (1 * 2 ^ (64 - n)) (top-lt 1 (omega (arith, two n lo hi)))) (le-of-eq (sym (grown-suc n 1 (zero-lt-suc 0))))) (pow-mono {i = 12} {j = suc (i - 244)} (omega (arith, far)))
+
+      small : (a b : ℕ) → zero < b → Amounts m rest (a * 2 ^ suc (i - 244)) (1 * b) → a ≤ grown n 1 * b
+      small a b some x =
+          le-of-lt (lt-of-mul-lt-mul-right (2 ^ suc (i - 244))
+          (lt-of-lt-of-le (within m rest (1 * b) (a * 2 ^ suc (i - 244)) (mul-pos (zero-lt-suc 0) some) x .high)
+          (le-trans (le-trans (le-of-eq (ap (λ (y : ℕ). (m + 1) * y) (one-mul b))) (mul-le-mul-right b (le-trans (omega (arith, top)) power))) (le-of-eq (mul-right-comm (grown n 1) (2 ^ suc (i - 244)) b)))))
+
+  -- ---- inside the range
+  module _ (h : ℤ) (e m : ℕ) (rest : Rest) (start : Start) (is : IsRaised h e) (begins : Begins h start) (full : 2 ^ 63 ≤ m) (top : m < 2 ^ 64) (v : ℕ) (v-is : v ≡ firstBits start m / 2 ^ (64 - n)) where
+    word : v ≡ floorString (start .bits) (59 - start .r) m / 2 ^ (64 - n)
+    word = v-is ∙ ap (λ (x : ℕ). x / 2 ^ (64 - n)) (floor-is start m (begins .regime))
+
+    module _ (a b : ℕ) (some : zero < b) (offered : IsOffered m rest (h -ℤ pos 63) a b) where
+      low : zero < v → grown n v * b ≤ a
+      low p =
+          let K = binade-of h e start is begins in
+          subst (λ (x : ℕ). grown n x * b ≤ a) (sym word) (word-low h e (start .bits) (59 - start .r) (K .0) (K .1) m full top rest a b some offered n lo hi (subst (λ (x : ℕ). zero < x) word p))
+
+      high : suc v < 2 ^ (n - 1) → a ≤ grown n (suc v) * b
+      high p =
+          let K = binade-of h e start is begins in
+          subst (λ (x : ℕ). a ≤ grown n (suc x) * b) (sym word) (le-of-lt (word-high h e (start .bits) (59 - start .r) (K .0) (K .1) m full top rest a b some offered n lo hi (subst (λ (x : ℕ). suc x < 2 ^ (n - 1)) word p)))
+
+    pub below-end : v < 2 ^ (n - 1)
+    below-end =
+        let K = binade-of h e start is begins in
+        subst (λ (x : ℕ). x < 2 ^ (n - 1)) (sym word) (shr-lt (n - 1) (64 - n) (subst (λ (x : ℕ). floorString (start .bits) (59 - start .r) m < 2 ^ x) length (floor-lt h e (start .bits) (59 - start .r) (K .0) (K .1) m full top)))
+      where
+        length : 63 ≡ n - 1 + (64 - n)
+        length = omega arith
+
+    pub at-zero : v ≡ 0 → IsNearest n h m rest 1
+    unfolding IsNearest
+    at-zero q = λ a b some offered.
+        place a b 1 (at-first (grown n) (2 ^ (n - 1)) a b (increasing n lo hi) some (omega (arith, two n lo hi)) (subst (λ (x : ℕ). a ≤ grown n (suc x) * b) q (high a b some offered (omega (arith, q, two n lo hi)))))
+
+    pub at-end : v ≡ 2 ^ (n - 1) - 1 → IsNearest n h m rest v
+    unfolding IsNearest
+    at-end q = λ a b some offered. place a b v (at-last (grown n) (2 ^ (n - 1)) a b (increasing n lo hi) some v (omega (arith, q, two n lo hi)) (omega (arith, q, two n lo hi)) (low a b some offered (omega (arith, q, two n lo hi))))
+
+    module _ (first : zero < v) (room : suc v < 2 ^ (n - 1)) where
+      tells : (side : Side) → TellsMidpoint n v e m rest side → (a b : ℕ) → zero < b → IsOffered m rest (h -ℤ pos 63) a b → Tells side (2 * a) (grown n v * b + grown n (suc v) * b)
+      unfolding TellsMidpoint wordOf
+      tells side t a b some offered =
+          subst (Tells side (2 * a)) (add-mul (grown n v) (grown n (suc v)) b)
+          (t h a b (grown n v) (grown n (suc v)) is some offered (has-value n lo hi false v first (omega (arith, room))) (subst (HasValue n false (grown n (suc v))) (sym (add-one v)) (has-value n lo hi false (suc v) (zero-lt-suc v) room)))
+
+      side-under : TellsMidpoint n v e m rest Side.Under → IsNearest n h m rest v
+      unfolding IsNearest Tells
+      side-under t = λ a b some offered.
+          place a b v (nearer-below (grown n) (2 ^ (n - 1)) a b (increasing n lo hi) some v first room (low a b some offered first) (high a b some offered room) (tells Side.Under t a b some offered))
+
+      side-midway : TellsMidpoint n v e m rest Side.Midway → IsNearest n h m rest (v + v % 2)
+      unfolding IsNearest Tells
+      side-midway t = λ a b some offered.
+          place a b (v + v % 2) (midway (grown n) (2 ^ (n - 1)) a b (increasing n lo hi) some v first room (low a b some offered first) (high a b some offered room) (tells Side.Midway t a b some offered))
+
+      side-over : TellsMidpoint n v e m rest Side.Over → IsNearest n h m rest (v + 1)
+      unfolding IsNearest Tells
+      side-over t = λ a b some offered.
+          subst (Nearest n false a b) (sym (add-one v))
+          (place a b (suc v) (nearer-above (grown n) (2 ^ (n - 1)) a b (increasing n lo hi) some v first room (low a b some offered first) (high a b some offered room) (tells Side.Over t a b some offered)))
+
+      -- the word that the side chooses
+      pub by-side : (w : ℕ) (side : Side) → TellsMidpoint n v e m rest side → w ≡ chosenOf v side → IsNearest n h m rest w
+      unfolding chosenOf
+      by-side w Side.Under t q = subst (IsNearest n h m rest) (sym q) (side-under t)
+      by-side w Side.Midway t q = subst (IsNearest n h m rest) (sym q) (side-midway t)
+      by-side w Side.Over t q = subst (IsNearest n h m rest) (sym q) (side-over t)
+
+      -- the word with what the side is told by
+      pub given : Given n v e m start
+      given =
+          record {
+            lo = lo;
+            hi = hi;
+            first = first;
+            room = omega (arith, room);
+            full = full;
+            top = top;
+            is = v-is;
+            begins = λ h' q. subst (λ (z : ℤ). Begins z start) (raised-same h h' e is q) begins;
+          }
+
+      -- where the cut falls before the fraction
+      pub by-powers : (i j : ℕ) → n < 5 + start .r → IsRaised (c 64 (v * 2 ^ (64 - n))) i → IsRaised (c 64 ((v + 1) * 2 ^ (64 - n))) j → (w : ℕ) (side : Side) → TellsPowers i j e m rest side → w ≡ chosenOf v side → IsNearest n h m rest w
+      by-powers i j short i-is j-is w side t q = by-side w side (coarse-tells n v e m start given short i j i-is j-is rest side t) q
+
+      -- and where it falls in the fraction
+      pub by-cut : 5 + start .r ≤ n → (w : ℕ) → ChoosesByCut v (m * 2 ^ (n - start .r - 4) % 2 ^ 64) rest w → IsNearest n h m rest w
+      by-cut fine w t = let x = fine-cut n v e m start given rest w fine t in by-side w (x .0) (x .1) (x .2)

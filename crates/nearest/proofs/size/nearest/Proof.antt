@@ -1,0 +1,66 @@
+-- `nearest` meets its contract: the width, and the nearest word of the size with its top bit set. Assumes nothing.
+use mathlib.Core.Path.{_≡_, refl, sym, _∙_, subst}
+use Prim.Native.Nat.{ℕ, _+_, _%_, _^_, _≤_, _<_}
+use native.Mathlib.Nat.{mod-lt, le-add-right}
+use native.Mathlib.Omega.{arith}
+use lib.IntN.{ℤ}
+use lib.Pow.{pow-pos}
+use mir.Facts.{toZ-ofZ}
+use borrow.Author.Needs.{needs}
+use Rattle.bounds.specs.declared.refusal.Verdict.{Verdict}
+use Rattle.bounds.specs.Refusals.{widthTest, through, refused}
+use Rattle.bounds.proofs.Verdicts.{width-through}
+use Rattle.nearest.specs.Offers.{FindsNearest, IsNearest}
+use Rattle.nearest.proofs.size.nearest.Statement.{statement}
+use Rattle.nearest.proofs.size.nearest.Tie as tie
+
+module _ (g : tie.After-enum-told) where
+  abbrev s : tie.Start
+  s = g .before .before .before
+
+  let-through : widthTest (s .args .width .bits) ≡ Verdict.Through
+  let-through = sym (g .before .before .test .ensures) ∙ g .enum-told .given .1
+
+  bounds : (2 ≤ s .args .width .bits) × (s .args .width .bits ≤ 64)
+  bounds = width-through _ let-through
+
+test-requires : tie.Need-test-requires
+test-requires c κs = search needs
+
+enum-known-verdict : tie.Need-enum-known-verdict
+enum-known-verdict c = search needs
+
+returns : tie.Need-returns
+unfolding FindsNearest
+returns c = refused (sym (c .before .before .before .test .ensures) ∙ c .before .verdict .given .1) refl
+
+enum-told : tie.Need-enum-told
+enum-told c = search needs
+
+rem-nearest-word : tie.Need-rem-nearest-word
+rem-nearest-word c = search needs
+
+add-nearest-word : tie.Need-add-nearest-word
+add-nearest-word c = let below : s c .args .m % 2 ^ 63 < 2 ^ 63 = mod-lt _ (pow-pos 63) in
+    record { fits = omega (arith, below) }
+
+nearest-word-requires : tie.Need-nearest-word-requires
+nearest-word-requires c κs = (bounds c .0, bounds c .1, le-add-right _ _)
+
+returns-2 : tie.Need-returns-2
+unfolding FindsNearest
+returns-2 c = let t = s (c .before) in
+    through (let-through (c .before)) (c .nearest-word .result, refl, subst (λ (z : ℤ). IsNearest (t .args .width .bits) z (2 ^ 63 + t .args .m % 2 ^ 63) (t .args .rest) (c .nearest-word .result)) (toZ-ofZ (t .fits .h)) (c .nearest-word .ensures))
+
+pub nearest-spec : {M : Type 1} → statement M
+nearest-spec =
+    tie.close
+    (tie.spec
+    test-requires
+    enum-known-verdict
+    returns
+    enum-told
+    rem-nearest-word
+    add-nearest-word
+    nearest-word-requires
+    returns-2)

@@ -1,0 +1,224 @@
+// One normal size goes in and the nearest positive word comes out: every number that is written passes here.
+use bounds::answer::Answer;
+use bounds::refusal::Verdict;
+use bounds::width::Width;
+use word::fields::cut;
+ghost use mathlib.Core.Path.{_≡_};
+ghost use Prim.Native.Nat.{_+_, _-_, _*_, _^_, _≤_, _<_};
+ghost use lib.IntN.{pos, negsuc};
+ghost use lib.Signed.{mag};
+ghost use Rattle.word.specs.Takum as Takum;
+ghost use Rattle.bounds.specs.Refusals.{IsWord};
+ghost use Rattle.nearest.specs.Offers.{FindsNearest, IsNearest, Begins, firstBits, IsRaised, TellsHalf, TellsPowers, chosenOf, marginOf, ChoosesByCut};
+
+// What lies below the last unit of a significand.
+pub enum Rest {
+    Nothing,
+    UnderHalf,
+    Half,
+    OverHalf,
+}
+
+// On which side of a midpoint a size lies.
+pub enum Side {
+    Under,
+    Midway,
+    Over,
+}
+
+// How every string of a characteristic begins after its sign: direction, regime and characteristic bits, and the regime.
+struct Start {
+    bits: u64,
+    r: u32,
+}
+
+// The positive word nearest to the size (m + rest) * 2^(h - 63), the top bit of m being taken as set.
+pub fn nearest(width: Width, h: i64, m: u64, rest: Rest) -> Answer
+    ensures { λ r. ⌜ FindsNearest (width .bits) h m rest r ⌝ }
+{
+    let verdict = width.test();
+    if let Verdict::Refused(q) = verdict {
+        return Answer::Refused(q);
+    }
+    Answer::Word(nearest_word(width.bits, h, (1 << 63) + m % (1 << 63), rest))
+}
+
+// The same with its top bit set: past either end the end word.
+fn nearest_word(n: u32, h: i64, m: u64, rest: Rest) -> u64
+    requires { ⌜ (2 ≤ n) × (n ≤ 64) × (2 ^ 63 ≤ m) ⌝ }
+    ensures { λ w. ⌜ IsNearest n h m rest w ⌝ }
+{
+    if 254 < h {
+        return last_word(n);
+    }
+    if h < -255 {
+        return 1;
+    }
+    nearest_inside(n, h as i32, m, rest)
+}
+
+// The same where h is a characteristic.
+fn nearest_inside(n: u32, h: i32, m: u64, rest: Rest) -> u64
+    requires { ⌜ (2 ≤ n) × (n ≤ 64) × (2 ^ 63 ≤ m) × (mag h ≤ 254) ⌝ }
+    ensures { λ w. ⌜ IsNearest n h m rest w ⌝ }
+{
+    let start = start_of(h);
+    let low = first_bits(start, m) >> (64 - n);
+    if low == 0 {
+        return 1;
+    }
+    if low == last_word(n) {
+        return low;
+    }
+    // The nearest is low or the next word, which is one more, across fractions, characteristics and regimes: the carry needs no code.
+    // Where the cut falls in the regime or the characteristic, both are powers of two.
+    if n < 5 + start.r {
+        return chosen(
+            low,
+            side_of_powers(exponent(n, low), exponent(n, low + 1), raised(h), m, rest),
+        );
+    }
+    // Where it falls in the fraction, words are evenly spaced and the bits that are cut off decide.
+    chosen_by_cut(low, m << (n - start.r - 4), rest)
+}
+
+// Low or low + 1, halfway the even one.
+fn chosen(low: u64, side: Side) -> u64
+    requires { ⌜ low + 1 < 2 ^ 63 ⌝ }
+    ensures { λ w. ⌜ w ≡ chosenOf low side ⌝ }
+{
+    match side {
+        Side::Under => low,
+        Side::Midway => low + low % 2,
+        Side::Over => low + 1,
+    }
+}
+
+// The same by the bits that are cut off, which stand at the top of 64 bits and have the rest below them. One test decides, since nobody
+// can foretell which way it goes.
+fn chosen_by_cut(low: u64, cut: u64, rest: Rest) -> u64
+    requires { ⌜ low + 1 < 2 ^ 63 ⌝ }
+    ensures { λ w. ⌜ ChoosesByCut low cut rest w ⌝ }
+{
+    if (1 << 63) - margin(low, rest) < cut {
+        return low + 1;
+    }
+    low
+}
+
+// At half exactly, an odd word goes up; with any rest at half, the size is past it.
+fn margin(low: u64, rest: Rest) -> u64
+    ensures { λ x. ⌜ x ≡ marginOf low rest ⌝ }
+{
+    match rest {
+        Rest::Nothing => low % 2,
+        Rest::UnderHalf => 1,
+        Rest::Half => 1,
+        Rest::OverHalf => 1,
+    }
+}
+
+fn last_word(n: u32) -> u64
+    requires { ⌜ (2 ≤ n) × (n ≤ 64) ⌝ }
+    ensures { λ w. ⌜ w ≡ 2 ^ (n - 1) - 1 ⌝ }
+{
+    (1 << (n - 1)) - 1
+}
+
+fn start_of(c: i32) -> Start
+    requires { ⌜ mag c ≤ 254 ⌝ }
+    ensures { λ s. ⌜ Begins c s ⌝ }
+{
+    if c < 0 {
+        return start_below((-1 - c) as u64 + 1);
+    }
+    start_above(c as u64 + 1)
+}
+
+// The characteristic is size - 1, and the regime floor(log2 size).
+fn start_above(size: u64) -> Start
+    requires { ⌜ (0 < size) × (size ≤ 255) ⌝ }
+    ensures { λ s. ⌜ Begins (pos (size - 1)) s ⌝ }
+{
+    let r = 63 - u64::leading_zeros(size);
+    Start {
+        bits: ((7 + r as u64) << r) + size,
+        r,
+    }
+}
+
+// The characteristic is -size, and the regime floor(log2 size).
+fn start_below(size: u64) -> Start
+    requires { ⌜ (0 < size) × (size ≤ 255) ⌝ }
+    ensures { λ s. ⌜ Begins (negsuc (size - 1)) s ⌝ }
+{
+    let r = 63 - u64::leading_zeros(size);
+    Start {
+        bits: ((9 - r as u64) << r) - 1 - size,
+        r,
+    }
+}
+
+// The first 64 bits of a size's endless string, its sign among them.
+fn first_bits(start: Start, m: u64) -> u64
+    requires { ⌜ (start .r ≤ 7) × (start .bits < 2 ^ (4 + start .r)) × (2 ^ 63 ≤ m) ⌝ }
+    ensures { λ t. ⌜ t ≡ firstBits start m ⌝ }
+{
+    (start.bits << (59 - start.r)) + ((m << 1) >> (5 + start.r))
+}
+
+// The midpoint of 2^i and 2^j is 2^(j - 1) + 2^(i - 1).
+fn side_of_powers(i: u32, j: u32, e: u32, m: u64, rest: Rest) -> Side
+    requires { ⌜ (i < j) × (j ≤ i + 64) × (e < j) × (j < 510) × (2 ^ 63 ≤ m) ⌝ }
+    ensures { λ s. ⌜ TellsPowers i j e m rest s ⌝ }
+{
+    if e + 1 < j {
+        return Side::Under;
+    }
+    let gap = j - i;
+    if gap < 64 {
+        return against(m - (1 << 63), 1 << (63 - gap), rest);
+    }
+    // 64 binades apart, the midpoint lies half a unit past m = 2^63.
+    if m != 1 << 63 {
+        return Side::Over;
+    }
+    match rest {
+        Rest::Nothing => Side::Under,
+        Rest::UnderHalf => Side::Under,
+        Rest::Half => Side::Midway,
+        Rest::OverHalf => Side::Over,
+    }
+}
+
+fn against(beyond: u64, half: u64, rest: Rest) -> Side
+    ensures { λ s. ⌜ TellsHalf beyond half rest s ⌝ }
+{
+    if beyond < half {
+        return Side::Under;
+    }
+    if half < beyond {
+        return Side::Over;
+    }
+    match rest {
+        Rest::Nothing => Side::Midway,
+        Rest::UnderHalf => Side::Over,
+        Rest::Half => Side::Over,
+        Rest::OverHalf => Side::Over,
+    }
+}
+
+// The characteristic of a positive word, raised.
+fn exponent(n: u32, word: u64) -> u32
+    requires { ⌜ IsWord n word × (0 < word) × (word < 2 ^ (n - 1)) ⌝ }
+    ensures { λ e. ⌜ IsRaised (Takum.c 64 (word * 2 ^ (64 - n))) e ⌝ }
+{
+    raised(cut(word << (64 - n)).c)
+}
+
+fn raised(h: i32) -> u32
+    requires { ⌜ mag h ≤ 254 ⌝ }
+    ensures { λ e. ⌜ IsRaised h e ⌝ }
+{
+    (h + 255) as u32
+}

@@ -8,8 +8,9 @@ use lib.Seq.{take-all, take-append-le, drop-append-le}
 use Rattle.bounds.specs.declared.refusal.Refusal.{Refusal}
 use Rattle.bounds.proofs.Verdicts.{refused-as}
 use Rattle.sheet.proofs.Passing.{other-size}
-use Rattle.lister.specs.Listing.{most, ListsBlock, ListsBlocks, none, some}
-use Rattle.lister.specs.Text.{IsRefusedLine}
+use Rattle.listing.specs.Listing.{most, ListsBlock}
+use Rattle.lister.specs.Runs.{ListsBlocks, none, some}
+use Rattle.listing.specs.Text.{IsRefusedLine}
 
 -- empty input prints nothing
 pub nothing-listed : {i : ℕ} {t : List ℕ} → ListsBlocks [] i t → t ≡ []

@@ -6,7 +6,8 @@ use native.Mathlib.Numerals.{add-one}
 use native.Mathlib.Omega.{arith}
 use lib.ListN.{length, take, drop, length-drop, drop-of-length-le}
 use lib.Seq.{drop-drop}
-use Rattle.lister.specs.Listing.{ListsBlock, ListsBlocks, none, some}
+use Rattle.listing.specs.Listing.{ListsBlock}
+use Rattle.lister.specs.Runs.{ListsBlocks, none, some}
 
 module _ (bytes : List ℕ) (place : ℕ) where
   -- the text t stands for the bytes before i: with the text of the others, from the place `here` on, it is the text of all

@@ -1,4 +1,2 @@
--- What the lister prints, and what the contracts of its parts cite.
-pub mod Listing
-pub mod Puts
-pub mod Text
+-- What the lister prints for a run of blocks.
+pub mod Runs

@@ -25,10 +25,9 @@ pub(crate) fn list_all() -> Next
 {
     let mut piece = [0u8; PIECE];
     let mut text = [0u8; TEXT];
-    let mut words = [0u64; 496];
     let mut place = 0;
     while place < 1 << 60 {
-        let next = list_piece(&mut piece, &mut text, &mut words, place);
+        let next = list_piece(&mut piece, &mut text, place);
         if next.ends {
             return next;
         }
@@ -38,13 +37,13 @@ pub(crate) fn list_all() -> Next
 }
 
 // Lists the next piece of the input, its first block having this place. Behind a full one there may be more.
-fn list_piece(piece: &mut [u8], text: &mut [u8], words: &mut [u64], place: u64) -> Next
-    requires { ⌜ (length (now piece) ≡ 8192) × (length (now text) ≡ 761856) × (length (now words) ≡ 496) × (place < 2 ^ 60) ⌝ }
+fn list_piece(piece: &mut [u8], text: &mut [u8], place: u64) -> Next
+    requires { ⌜ (length (now piece) ≡ 8192) × (length (now text) ≡ 761856) × (place < 2 ^ 60) ⌝ }
     ensures { λ r. ⌜ (r .ends ≡ false → r .place ≡ place + 16) ⌝ }
 {
     let filled = fill(piece);
     let count = filled.count;
-    let run = put_blocks(text, words, &piece[..count], place);
+    let run = put_blocks(text, &piece[..count], place);
     if write_out(text, run.length) {
         return Next {
             ends: filled.ends,

@@ -1,10 +1,12 @@
 // The text of a run of blocks: of each in order, with its own place in the input.
-use crate::blocks::put_block;
+use listing::blocks::Listed;
+use listing::blocks::list_block;
 ghost use mathlib.Core.Path.{_≡_};
 ghost use Prim.Native.Nat.{_+_, _*_, _≤_, _<_, _^_};
 ghost use lib.ListN.{length, take, drop};
-ghost use Rattle.lister.specs.Listing.{most, blocks, ListsBlocks};
-ghost use Rattle.lister.specs.Puts.{PutsSome};
+ghost use Rattle.listing.specs.Listing.{textRoom, ListsBlock};
+ghost use Rattle.listing.specs.Puts.{PutsSome};
+ghost use Rattle.lister.specs.Runs.{blocks, ListsBlocks};
 
 // How long the text is, and the place of the block that comes after the run.
 pub(crate) struct Run {
@@ -13,21 +15,32 @@ pub(crate) struct Run {
 }
 
 // The text of all blocks of a piece, the first of them at this place. The last one may be short, and is refused then.
-pub(crate) fn put_blocks(out: &mut [u8], words: &mut [u64], piece: &[u8], place: u64) -> Run
-    requires { ⌜ (length (now words) ≡ most) × (47616 * blocks (length (now piece)) ≤ length (now out)) × (place + blocks (length (now piece)) < 2 ^ 64) ⌝ }
+pub(crate) fn put_blocks(out: &mut [u8], piece: &[u8], place: u64) -> Run
+    requires { ⌜ (47616 * blocks (length (now piece)) ≤ length (now out)) × (place + blocks (length (now piece)) < 2 ^ 64) ⌝ }
     ensures { λ r. ⌜ PutsSome (ListsBlocks (now (piece .entry)) place) (now (out .entry)) 0 (now (out .exit)) (r .length) × (r .place ≡ place + blocks (length (now (piece .entry)))) ⌝ }
 {
     let mut at = 0;
     let mut i = 0;
     let mut here = place;
     while i < piece.len() {
-        at = put_block(out, at, words, block_at(piece, i), here);
+        at = put_block(out, at, block_at(piece, i), here);
         i += 512;
         here += 1;
     }
     Run {
         length: at,
         place: here,
+    }
+}
+
+// The text of one block behind what stands. There is room for it, so it is never refused.
+fn put_block(out: &mut [u8], at: usize, block: &[u8], place: u64) -> usize
+    requires { ⌜ at + textRoom ≤ length (now out) ⌝ }
+    ensures { λ r. ⌜ PutsSome (ListsBlock (now (block .entry)) place) (now (out .entry)) at (now (out .exit)) r × (r ≤ at + textRoom) ⌝ }
+{
+    match list_block(block, place, &mut out[at..]) {
+        Listed::Length(length) => at + length,
+        Listed::Refused(_) => at,
     }
 }
 

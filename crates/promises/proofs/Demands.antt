@@ -3,7 +3,6 @@ use mathlib.Core.Path.{_≡_, refl, sym, ap, _∙_, subst}
 use mathlib.Core.Bool.{false}
 use mathlib.Core.Logic.{_⊎_}
 use Prim.Native.Nat.{ℕ, _-_, _^_, _≤_, _<_}
-use native.Mathlib.Nat.{pos-of-ne-zero}
 use native.Mathlib.Omega.{arith}
 use lib.Pow.{pow-pos}
 use Rattle.order.specs.declared.order.Comparison.{Comparison}
@@ -15,9 +14,9 @@ use Rattle.word.specs.Orders.{negated}
 use Rattle.bounds.proofs.Powers.{twice}
 use Rattle.bounds.proofs.Verdicts.{word-passes, words-pass, answered}
 use Rattle.word.proofs.Words.{takum-NaR}
+use Rattle.sizes.proofs.Tops.{word-number}
 use Rattle.nearest.specs.Nearest.{HasValue}
 use Rattle.nearest.proofs.Places.{two, wordOf, has-value, size-some, not-decreasing, place-of}
-use Rattle.round.proofs.Sized.{sized}
 use Rattle.word.proofs.Values.{grown, NaR-word, order-of-values, order-same, NaR-below, above-NaR, negated-word, negation-negates, words-differ}
 use Rattle.word.proofs.Binades.{meaning-one}
 use Rattle.promises.specs.Demands.{ReadingIsTheDefinition, ReadingTellsWordsApart, ASizeIsTheWordsValue, TheEndWords, TheNaRWord, ComparisonIsTheOrderOfValues, NaRIsBelowEveryValue, EveryValueIsAboveNaR, EveryWordEqualsItself, NegationNegates}
@@ -33,7 +32,7 @@ reading-tells-words-apart n x y a ix iy hx hy = words-differ n x y ix iy (meanin
 
 pub a-size-is-the-words-value : ASizeIsTheWordsValue
 unfolding ASizeIsTheWordsValue narWord
-a-size-is-the-words-value n w x i some other s = let t = sized n w i (pos-of-ne-zero some) other x s in (t .0, t .1, t .3)
+a-size-is-the-words-value n w x i some other s = let t = word-number n w i some other x s in (t .v, t .means, t .size)
 
 -- ---- the words that belong to a width
 pub the-end-words : TheEndWords

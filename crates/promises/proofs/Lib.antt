@@ -19,6 +19,8 @@ pub mod Demands
 pub mod Words
 -- writing and moves
 pub mod Writing
+-- whatever is written through the hub
+pub mod Hub
 -- words that are tested by computation
 pub mod Tests
 -- at width 16 the words from 0x5A00 to 0x5B00 are the even whole numbers from 512 to 1,024, by one computed test

@@ -27,8 +27,10 @@ use Rattle.bounds.proofs.Answers.{wordOf, GivesAWord}
 use Rattle.bounds.proofs.Verdicts.{decided-one}
 use Rattle.word.proofs.Binades.{reading-one}
 use Rattle.round.specs.declared.value.Rule.{Rule}
--- those of a word's size, writing, whole numbers, binary64, columns and blocks stand beside their laws
-pub use Rattle.word.proofs.Normal.{reads-size-one}
+-- those of a word's size, the nearest word, the hub, writing, whole numbers, binary64, columns and blocks stand beside their laws
+pub use Rattle.sizes.proofs.Normal.{reads-size-one}
+pub use Rattle.nearest.proofs.OneOutcome.{finds-nearest-one}
+pub use Rattle.round.proofs.OneOutcome.{writes-short-one, writes-size-one, writes-long-one}
 pub use Rattle.write.proofs.OneOutcome.{writes-one, moves-one}
 pub use Rattle.whole.proofs.OneOutcome.{writes-whole-one, takes-whole-one}
 pub use Rattle.binary64.proofs.OneOutcome.{writes-binary64-one, takes-binary64-one}

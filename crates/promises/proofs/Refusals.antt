@@ -5,6 +5,7 @@ use native.Mathlib.Omega.{arith}
 use Rattle.bounds.specs.Widths.{Makes, GivesWord, GivesLimit}
 use Rattle.word.specs.Takum.{takum, fractionBits}
 use Rattle.word.specs.Reads.{Reads}
+use Rattle.sizes.specs.Sizes.{ReadsSize}
 use Rattle.order.specs.Orders.{Compares, Negates}
 use Rattle.whole.specs.Wholes.{IsTakenWhole}
 use Rattle.binary64.specs.Takes as taken
@@ -12,21 +13,26 @@ use Rattle.column.specs.Columns.{MovesColumn}
 use Rattle.column.proofs.Positions.{first}
 use Rattle.promises.specs.Demands.{ComesBack}
 use Rattle.promises.specs.Refusals.{RefusalsFollowTheTable}
-use Rattle.promises.proofs.WordRefusals.{of-width, of-word, word-none, reading-none, number-none, compare-follows, test-follows, test-word-follows, write-follows, write-whole-follows, write-binary64-follows, move-follows, goes-follows, take-whole-follows}
-use Rattle.promises.proofs.SliceRefusals.{column-follows, position-follows, block-follows}
+use Rattle.promises.proofs.WordRefusals.{of-width, of-word, word-none, reading-none, size-none, number-none, compare-follows, test-follows, test-word-follows, write-short-follows, write-size-follows, write-long-follows, write-follows, write-whole-follows, write-binary64-follows, move-follows, goes-follows, take-whole-follows}
+use Rattle.promises.proofs.SliceRefusals.{test-room-follows, column-follows, position-follows, block-follows}
 
 pub refusals-follow-the-table : RefusalsFollowTheTable
-unfolding Makes GivesWord GivesLimit Reads Compares Negates ComesBack taken.TakesBinary64 taken.IsTakenBinary64
+unfolding Makes GivesWord GivesLimit Reads ReadsSize Compares Negates ComesBack taken.TakesBinary64 taken.IsTakenBinary64
 refusals-follow-the-table = record {
   test = test-follows;
   test-word = test-word-follows;
+  test-room = test-room-follows;
   new = λ n a x. of-width n (λ p q e. let z : _≡_ {A = ℕ} 0 1 = cc in omega arith) x;
   words = λ f n a x. of-width n (word-none (f n) a) x;
   limit = λ n a x. of-width n (λ (l, p, is) q e. let z : _≡_ {A = ℕ} 0 1 = cc in omega arith) x;
   read = λ n w a x. of-word n w (reading-none (takum n w) (fractionBits n w) a) x;
+  read-size = λ n w a x. of-word n w (size-none (takum n w) a) x;
   compare = λ n v w a x. compare-follows n v w a x;
   negate = λ n w a x. of-word n w (word-none _ a) x;
   negate-twice = λ n w a x. of-word n w (word-none w a) x;
+  write-short = write-short-follows;
+  write-size = write-size-follows;
+  write-long = write-long-follows;
   write = write-follows;
   write-whole = write-whole-follows;
   take-whole = take-whole-follows;

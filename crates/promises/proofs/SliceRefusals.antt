@@ -29,8 +29,8 @@ use Rattle.sheet.specs.Reads.{isBlockWidth, allZero, sizeTest, markTest, checkT
 use Rattle.sheet.proofs.Tests.{OneOfFour, each-width, width-is, is-width}
 use Rattle.sheet.proofs.Rooms.{room-for, no-room-for}
 use Rattle.promises.specs.Refusals.{FollowsUpTo, Follows, width, room, size, mark, check, blockWidth, count, fill, moveLines}
-use Rattle.promises.proofs.Lines.{Tells, holds, fails, width-tells, parts, follow, carry, past, good-width}
-use Rattle.promises.proofs.WordRefusals.{move-follows}
+use Rattle.promises.proofs.Lines.{Tells, holds, fails, width-tells, parts, follow, verdict-decided, carry, past, good-width}
+use Rattle.promises.proofs.WordRefusals.{verdict-none, move-follows}
 
 -- ---- the room, of a column and of a block
 room-tells : (count places : ℕ) → Tells (roomTest count places) Refusal.Room (places < count)
@@ -39,6 +39,10 @@ room-tells count places = by (decLt places count)
     by : Dec (places < count) → Tells (roomTest count places) Refusal.Room (places < count)
     by (yes l) = holds (room-short count places l) l
     by (no f) = fails (room-fits count places (not-more f)) f
+
+pub test-room-follows : (count places : ℕ) (a : Verdict) → a ≡ roomTest count places → Follows Verdict.Refused a (room count places ∷ [])
+unfolding Follows FollowsUpTo
+test-room-follows count places a x = follow Refusal.Room (room-tells count places) (verdict-decided x) (λ e. verdict-none a)
 
 -- ---- a column
 pub column-follows : (n n' : ℕ) (rule : Rule) (words : List ℕ) (places : ℕ) (a : Column) → MovesColumn n n' rule words places a → Follows Column.Refused a (width n ∷ width n' ∷ room (length words) places ∷ [])

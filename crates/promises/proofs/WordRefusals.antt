@@ -10,7 +10,7 @@ use native.Mathlib.Omega.{arith}
 use borrow.Author.Tests.{le-leb, lt-leb, lt-ltb, le-ltb, eqb-true, eqb-false}
 use lib.Dec.{eqb, leb, ltb}
 use lib.Ieee.{Float, nan, inf, fin, up, down}
-use lib.IntN.{ℤ, pos, negsuc, natAbs}
+use lib.IntN.{ℤ, pos, negsuc, natAbs, _+ℤ_, _-ℤ_}
 use lib.Pow.{pow-pos}
 use Rattle.bounds.specs.declared.answer.Answer.{Answer}
 use Rattle.bounds.specs.declared.refusal.Refusal.{Refusal}
@@ -21,15 +21,19 @@ use Rattle.bounds.proofs.Powers.{not-more}
 use Rattle.bounds.proofs.Verdicts.{width-through, word-through}
 use Rattle.order.specs.declared.order.Comparison.{Comparison}
 use Rattle.word.specs.declared.reading.Reading.{Reading}
+use Rattle.sizes.specs.declared.size.Size.{Size}
+use Rattle.sizes.specs.declared.size.WordSize.{WordSize}
 use Rattle.word.specs.Takum.{Takum, real, NaR, takum}
-use Rattle.word.specs.Reads.{IsReading}
+use Rattle.word.specs.Reads.{num, den, IsReading}
+use Rattle.sizes.specs.Sizes.{IsWordSize}
 use Rattle.order.specs.Orders.{Compares}
 use Rattle.word.proofs.Words.{takum-NaR}
 use Rattle.word.proofs.Values.{real-inj, not-NaR}
+use Rattle.round.specs.declared.value.LongValue.{LongValue}
 use Rattle.round.specs.declared.value.Rule.{Rule}
 use Rattle.write.specs.declared.value.Value.{Value}
 use Rattle.nearest.specs.Nearest.{HasValue}
-use Rattle.round.specs.Writes.{IsExact, IsWritten}
+use Rattle.round.specs.Writes.{IsExact, IsWritten, WritesShort, WritesSize, WritesLong}
 use Rattle.write.specs.Writes.{isNegative, IsMoved, Writes, Moves}
 use Rattle.bounds.proofs.Powers.{twice}
 use Rattle.write.proofs.Moves.{moved-to-the-same, strict-keeps}
@@ -43,8 +47,9 @@ use Rattle.binary64.specs.declared.taking.Binary64.{Binary64}
 use Rattle.binary64.specs.Takes as taken
 use Rattle.binary64.specs.Writes.{IsWrittenBinary64, WritesBinary64}
 use Rattle.promises.specs.Writing.{numerator, denominator, Goes}
+use Rattle.promises.specs.Hub.{significand, longNumerator, longDenominator}
 use Rattle.promises.specs.Numbers.{IsWhole}
-use Rattle.promises.specs.Refusals.{FollowsUpTo, Follows, width, stray, nar, noWord, noWhole, over, moveLines, IsBinary64, ChainFollows, OutsideSigned64}
+use Rattle.promises.specs.Refusals.{FollowsUpTo, Follows, width, stray, nar, noWord, noWhole, over, shortLines, moveLines, IsBinary64, ChainFollows, OutsideSigned64}
 use Rattle.promises.proofs.Lines.{Tells, holds, fails, width-tells, stray-tells, parts, follow, verdict-decided, retold, then-so, none-hold}
 
 -- the calls of a width, and of a word with its width
@@ -68,6 +73,10 @@ pub reading-none : (t : Takum) (p : ℕ) (a : Reading) → IsReading t p a → (
 unfolding IsReading
 reading-none t p a x q e = subst (IsReading t p) e x
 
+pub size-none : (t : Takum) (a : WordSize) → IsWordSize t a → (q : Refusal) → a ≡ WordSize.Refused q → ⊥
+unfolding IsWordSize
+size-none t a x q e = subst (IsWordSize t) e x
+
 pub number-none : (t : Takum) (a : Binary64) → taken.IsTakenBinary64 t a → (q : Refusal) → a ≡ Binary64.Refused q → ⊥
 unfolding taken.IsTakenBinary64
 number-none (real z) a x q e = let z : _≡_ {A = ℕ} 0 1 = cc in omega arith
@@ -78,7 +87,7 @@ unfolding Follows FollowsUpTo Compares
 compare-follows n x y a h =
     follow Refusal.Width (width-tells n) (parts (parts h)) (λ e h. follow Refusal.Stray (stray-tells n x) h (λ e h. follow Refusal.Stray (stray-tells n y) h (λ e p q k. let z : _≡_ {A = ℕ} 0 1 = cc in omega arith)))
 
-verdict-none : (a : Verdict) → a ≡ Verdict.Through → (q : Refusal) → a ≡ Verdict.Refused q → ⊥
+pub verdict-none : (a : Verdict) → a ≡ Verdict.Through → (q : Refusal) → a ≡ Verdict.Refused q → ⊥
 verdict-none a p q e = let z : _≡_ {A = ℕ} 0 1 = cc in omega arith
 
 pub test-follows : (n : ℕ) (a : Verdict) → a ≡ widthTest n → Follows Verdict.Refused a (width n ∷ [])
@@ -96,6 +105,21 @@ inexact-line n Rule.Rounded s a b HasIt (Answer.Word w) to from x = inr (λ h. r
 inexact-line n Rule.Rounded s a b HasIt (Answer.Refused q) to from x = absurd x
 inexact-line n Rule.Strict s a b HasIt (Answer.Word w) to from x = inr (λ h. h .1 w (to w x), word-none w (Answer.Word w) refl)
 inexact-line n Rule.Strict s a b HasIt (Answer.Refused q) to from x = inl ((refl, λ w h. x .1 w (from w h)), record { q = q; is = refl; known = ap numberOf (x .0) })
+
+pub write-short-follows : (n : ℕ) (rule : Rule) (negative : Bool) (m : ℕ) (k : ℤ) (a : Answer) → WritesShort n rule negative m k a → Follows Answer.Refused a (shortLines n rule negative m k)
+unfolding Follows FollowsUpTo shortLines WritesShort
+write-short-follows n rule negative m k a x =
+    let up = m * num (k +ℤ pos 307) in
+    let down = den (k +ℤ pos 307) in
+    follow Refusal.Width (width-tells n) x (λ e. inexact-line n rule negative up down (IsExact n negative up down) a (λ w y. y) (λ w y. y))
+
+pub write-size-follows : (n : ℕ) (rule : Rule) (s : Size) (a : Answer) → WritesSize n rule s a → Follows Answer.Refused a (shortLines n rule (s .negative) (s .m) (s .h -ℤ pos 63))
+unfolding WritesSize
+write-size-follows n rule s a x = write-short-follows n rule (s .negative) (s .m) (s .h -ℤ pos 63) a x
+
+pub write-long-follows : (n : ℕ) (rule : Rule) (v : LongValue) (a : Answer) → WritesLong n rule v a → Follows Answer.Refused a (width n ∷ noWord rule (IsExact n (v .negative) (longNumerator v) (longDenominator v)) ∷ [])
+unfolding shortLines WritesLong significand longNumerator longDenominator
+write-long-follows n rule v a x = write-short-follows n rule (v .negative) (significand v) (v .k) a x
 
 pub write-follows : (n : ℕ) (rule : Rule) (v : Value) (a : Answer) → Writes n rule v a → Follows Answer.Refused a (width n ∷ noWord rule (IsExact n (v .negative) (numerator v) (denominator v)) ∷ [])
 unfolding Follows FollowsUpTo Writes numerator denominator

@@ -10,6 +10,8 @@ pub mod Demands
 pub mod Words
 -- writing and moves
 pub mod Writing
+-- whatever is written through the hub
+pub mod Hub
 -- whole numbers and binary64
 pub mod Numbers
 -- the nearest binary64

@@ -1,27 +1,32 @@
 -- Demand 1: the refusal numbers of paper 01's table, each given exactly when its line says. A call tries the lines that concern it in the paper's
 -- order, and each call's lines stand below in that order.
 use mathlib.Core.Path.{_≡_}
+use mathlib.Core.Bool.{Bool}
 use mathlib.Core.List.{List, [], _∷_}
 use mathlib.Core.Logic.{_⊎_}
 use Prim.Native.Nat.{ℕ, _+_, _*_, _/_, _^_, _≤_, _<_}
 use lib.Ieee.{Float, nan, inf, fin, up, down}
-use lib.IntN.{ℤ, pos, negsuc}
+use lib.IntN.{ℤ, pos, negsuc, _+ℤ_, _-ℤ_}
 use lib.ListN.{length, getD}
 use Rattle.bounds.specs.declared.answer.Answer.{Answer}
 use Rattle.bounds.specs.declared.refusal.Refusal.{Refusal}
 use Rattle.bounds.specs.declared.refusal.Verdict.{Verdict}
 use Rattle.bounds.specs.declared.width.Limit.{Limit}
 use Rattle.bounds.specs.declared.width.Made.{Made}
-use Rattle.bounds.specs.Refusals.{widthTest, wordTest, IsWord}
+use Rattle.bounds.specs.Refusals.{widthTest, wordTest, roomTest, IsWord}
 use Rattle.bounds.specs.Widths.{Makes, GivesWord, GivesLimit}
 use Rattle.order.specs.declared.order.Comparison.{Comparison}
 use Rattle.word.specs.declared.reading.Reading.{Reading}
+use Rattle.sizes.specs.declared.size.Size.{Size}
+use Rattle.sizes.specs.declared.size.WordSize.{WordSize}
 use Rattle.word.specs.Takum.{real, NaR, takum}
-use Rattle.word.specs.Reads.{Reads}
+use Rattle.word.specs.Reads.{num, den, Reads}
+use Rattle.sizes.specs.Sizes.{ReadsSize}
 use Rattle.order.specs.Orders.{Compares, Negates}
+use Rattle.round.specs.declared.value.LongValue.{LongValue}
 use Rattle.round.specs.declared.value.Rule.{Rule}
 use Rattle.write.specs.declared.value.Value.{Value}
-use Rattle.round.specs.Writes.{IsExact}
+use Rattle.round.specs.Writes.{IsExact, WritesShort, WritesSize, WritesLong}
 use Rattle.write.specs.Writes.{Writes, Moves}
 use Rattle.whole.specs.declared.taking.Taking.{Taking}
 use Rattle.whole.specs.declared.taking.Whole.{Whole}
@@ -37,6 +42,7 @@ use Rattle.sheet.specs.Sums.{sumA, sumB}
 use Rattle.sheet.specs.Reads.{ReadsBlock}
 use Rattle.promises.specs.Demands.{RefusedAs, ComesBack}
 use Rattle.promises.specs.Writing.{numerator, denominator, ComesHome}
+use Rattle.promises.specs.Hub.{longNumerator, longDenominator}
 use Rattle.promises.specs.Numbers.{IsWhole}
 
 -- ---- the lines of the table: a number, and when it is given
@@ -111,6 +117,10 @@ unfoldable pub Follows : {A : Type 0} → (Refusal → A) → A → List Line �
 Follows refused a lines = FollowsUpTo refused a lines ((q : Refusal) → a ≡ refused q → ⊥)
 
 -- ---- the calls and their lines
+-- those of m * 2^k with its sign, written through the hub
+unfoldable pub shortLines : ℕ → Rule → Bool → ℕ → ℤ → List Line
+shortLines n rule negative m k = width n ∷ noWord rule (IsExact n negative (m * num (k +ℤ pos 307)) (den (k +ℤ pos 307))) ∷ []
+
 -- the lines of a word in a move, after those of the widths
 unfoldable pub moveLines : ℕ → ℕ → Rule → ℕ → List Line
 moveLines n n' rule w = stray n w ∷ noWord rule (λ w'. IsWord n' w' × (takum n' w' ≡ takum n w)) ∷ []
@@ -130,14 +140,20 @@ ChainFollows home n w (n' ∷ ns) a = FollowsUpTo Answer.Refused a (width n ∷ 
 pub record RefusalsFollowTheTable : Type 0 where
   pub test : (n : ℕ) (a : Verdict) → a ≡ widthTest n → Follows Verdict.Refused a (width n ∷ [])
   pub test-word : (n w : ℕ) (a : Verdict) → a ≡ wordTest n w → Follows Verdict.Refused a (width n ∷ stray n w ∷ [])
+  pub test-room : (count places : ℕ) (a : Verdict) → a ≡ roomTest count places → Follows Verdict.Refused a (room count places ∷ [])
   pub new : (n : ℕ) (a : Made) → Makes n a → Follows Made.Refused a (width n ∷ [])
   -- largest, smallest and NaR word
   pub words : (f : ℕ → ℕ) (n : ℕ) (a : Answer) → GivesWord f n a → Follows Answer.Refused a (width n ∷ [])
   pub limit : (n : ℕ) (a : Limit) → GivesLimit n a → Follows Limit.Refused a (width n ∷ [])
   pub read : (n w : ℕ) (a : Reading) → Reads n w a → Follows Reading.Refused a (width n ∷ stray n w ∷ [])
+  pub read-size : (n w : ℕ) (a : WordSize) → ReadsSize n w a → Follows WordSize.Refused a (width n ∷ stray n w ∷ [])
   pub compare : (n x y : ℕ) (a : Comparison) → Compares n x y a → Follows Comparison.Refused a (width n ∷ stray n x ∷ stray n y ∷ [])
   pub negate : (n w : ℕ) (a : Answer) → Negates n w a → Follows Answer.Refused a (width n ∷ stray n w ∷ [])
   pub negate-twice : (n w : ℕ) (a : Answer) → ComesBack n w a → Follows Answer.Refused a (width n ∷ stray n w ∷ [])
+  -- through the hub
+  pub write-short : (n : ℕ) (rule : Rule) (negative : Bool) (m : ℕ) (k : ℤ) (a : Answer) → WritesShort n rule negative m k a → Follows Answer.Refused a (shortLines n rule negative m k)
+  pub write-size : (n : ℕ) (rule : Rule) (s : Size) (a : Answer) → WritesSize n rule s a → Follows Answer.Refused a (shortLines n rule (s .negative) (s .m) (s .h -ℤ pos 63))
+  pub write-long : (n : ℕ) (rule : Rule) (v : LongValue) (a : Answer) → WritesLong n rule v a → Follows Answer.Refused a (width n ∷ noWord rule (IsExact n (v .negative) (longNumerator v) (longDenominator v)) ∷ [])
   pub write : (n : ℕ) (rule : Rule) (v : Value) (a : Answer) → Writes n rule v a → Follows Answer.Refused a (width n ∷ noWord rule (IsExact n (v .negative) (numerator v) (denominator v)) ∷ [])
   pub write-whole : (n : ℕ) (rule : Rule) (x : ℤ) (a : Answer) → WritesWhole n rule x a → Follows Answer.Refused a (width n ∷ noWord rule (IsWhole n x) ∷ [])
   pub take-whole : (n : ℕ) (rule : Taking) (w : ℕ) (a : Whole) → TakesWhole n rule w a → Follows Whole.Refused a (width n ∷ stray n w ∷ nar n w ∷ over n w ∷ noWhole rule n w ∷ [])

@@ -1,0 +1,74 @@
+// A line of the listing: block number, position, the word in hex, and its whole number.
+use crate::text::put_byte;
+use crate::text::put_decimal;
+use crate::text::put_digits;
+use crate::text::put_signed;
+use crate::text::put_text;
+use bounds::refusal::Refusal;
+use bounds::width::Width;
+use whole::taking::Taking;
+use whole::taking::Whole;
+use whole::taking::take_whole;
+ghost use Prim.Native.Nat.{_+_, _≤_};
+ghost use lib.ListN.{length};
+ghost use Rattle.listing.specs.Puts.{Puts, PutsSome};
+ghost use Rattle.listing.specs.Text.{refusalText, IsShown, IsField, IsWordText, IsLine};
+
+// The line of one word.
+pub(crate) fn put_line(
+    out: &mut [u8],
+    at: usize,
+    number: u32,
+    position: u32,
+    width: u32,
+    word: u64,
+) -> usize
+    requires { ⌜ (width ≤ 64) × (at + 96 ≤ length (now out)) ⌝ }
+    ensures { λ r. ⌜ PutsSome (IsLine number position width word) (now (out .entry)) at (now (out .exit)) r × (r ≤ at + 96) ⌝ }
+{
+    let block = put_field(out, at, number as u64);
+    let place = put_field(out, block, position as u64);
+    put_word(out, place, width, word)
+}
+
+// A number and a space.
+fn put_field(out: &mut [u8], at: usize, n: u64) -> usize
+    requires { ⌜ at + 21 ≤ length (now out) ⌝ }
+    ensures { λ r. ⌜ PutsSome (IsField n) (now (out .entry)) at (now (out .exit)) r × (r ≤ at + 21) ⌝ }
+{
+    let next = put_decimal(out, at, n);
+    put_byte(out, next, 0x20)
+}
+
+// The word in hex, its whole number, and the end of the line.
+fn put_word(out: &mut [u8], at: usize, width: u32, word: u64) -> usize
+    requires { ⌜ (width ≤ 64) × (at + 39 ≤ length (now out)) ⌝ }
+    ensures { λ r. ⌜ PutsSome (IsWordText width word) (now (out .entry)) at (now (out .exit)) r × (r ≤ at + 39) ⌝ }
+{
+    let shown = take_whole(Width { bits: width }, Taking::Cut, word);
+    let hex = put_digits(out, at, word, 16, (width / 4) as usize);
+    let next = put_byte(out, hex, 0x20);
+    let last = put_shown(out, next, shown);
+    put_byte(out, last, 0x0a)
+}
+
+// The whole number, `nar` or `over`.
+fn put_shown(out: &mut [u8], at: usize, shown: Whole) -> usize
+    requires { ⌜ at + 21 ≤ length (now out) ⌝ }
+    ensures { λ r. ⌜ PutsSome (IsShown shown) (now (out .entry)) at (now (out .exit)) r × (r ≤ at + 21) ⌝ }
+{
+    match shown {
+        Whole::Is(x) => put_signed(out, at, x),
+        Whole::Refused(q) => put_refusal(out, at, q),
+    }
+}
+
+fn put_refusal(out: &mut [u8], at: usize, q: Refusal) -> usize
+    requires { ⌜ at + 21 ≤ length (now out) ⌝ }
+    ensures { λ r. ⌜ Puts (now (out .entry)) at (refusalText q) (now (out .exit)) r ⌝ }
+{
+    if q.number() == 5 {
+        return put_text(out, at, b"over");
+    }
+    put_text(out, at, b"nar")
+}

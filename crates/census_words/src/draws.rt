@@ -1,6 +1,6 @@
 // Part 10: the writings of a drawn size, and the moves of a drawn word to a drawn width.
 use crate::moves::take_moves;
-use crate::sizes::Size;
+use crate::offers::Size;
 use crate::writings::take_size;
 use bounds::width::Width;
 use census::bits::low_bits;

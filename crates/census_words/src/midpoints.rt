@@ -1,10 +1,10 @@
 // Part 7: the writings of the value of a word, and of the sizes at and beside the midpoint between it and the next word.
-use crate::sizes::Size;
-use crate::sizes::full_size;
-use crate::sizes::just_above;
-use crate::sizes::just_below;
-use crate::sizes::odd_size;
-use crate::sizes::size_of;
+use crate::offers::Size;
+use crate::offers::full_size;
+use crate::offers::just_above;
+use crate::offers::just_below;
+use crate::offers::odd_size;
+use crate::offers::size_of;
 use crate::writings::take_size;
 use census::bits::TOP_BIT;
 use census::bits::power_of_two;

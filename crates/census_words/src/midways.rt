@@ -1,10 +1,10 @@
 // Parts 41 and 42: the roundings of long values at and beside the midpoint between a word and the next one.
 use crate::longs::Long;
 use crate::longs::take_long;
-use crate::sizes::Size;
-use crate::sizes::full_size;
-use crate::sizes::odd_size;
-use crate::sizes::size_of;
+use crate::offers::Size;
+use crate::offers::full_size;
+use crate::offers::odd_size;
+use crate::offers::size_of;
 use census::bits::ALL_BITS;
 use census::bits::TOP_BIT;
 use census::bits::bounded;

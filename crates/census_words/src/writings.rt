@@ -1,5 +1,5 @@
 // The four writings of a size: with either sign, rounded and strict.
-use crate::sizes::Size;
+use crate::offers::Size;
 use bounds::width::Width;
 use census::digest::take_answer;
 use census::exponent::exponent;

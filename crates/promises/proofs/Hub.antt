@@ -1,7 +1,7 @@
 -- What specs/Hub.antt promises, from the hub's contracts and the laws of rounding. Assumes nothing.
 use mathlib.Core.Path.{_≡_, refl, sym, _∙_, subst, subst₂}
 use mathlib.Core.Bool.{Bool}
-use Prim.Native.Nat.{ℕ, _+_, _*_, _^_, _≤_, _<_}
+use Prim.Native.Nat.{ℕ, _+_, _*_, _%_, _^_, _≤_, _<_}
 use native.Mathlib.Nat.{mul-comm}
 use native.Mathlib.Omega.{arith}
 use lib.IntN.{ℤ, pos, _+ℤ_, _-ℤ_}
@@ -10,6 +10,7 @@ use Rattle.bounds.specs.Refusals.{through, refused}
 use Rattle.bounds.proofs.Verdicts.{width-fits, width-through, answered, refused-as}
 use Rattle.word.specs.Reads.{num}
 use Rattle.word.proofs.Units.{unit-some}
+use Rattle.nearest.specs.Offers.{IsNearest, FindsNearest}
 use Rattle.round.specs.declared.value.LongValue.{LongValue}
 use Rattle.round.specs.declared.value.Rule.{Rule}
 use Rattle.round.specs.Writes.{IsRounded, IsExact, IsWritten, WritesShort, WritesSize, WritesLong}
@@ -23,6 +24,15 @@ use Rattle.promises.specs.Hub as promise
 use Rattle.promises.specs.Hub.{significand, longNumerator, longDenominator}
 use Rattle.promises.proofs.Lines.{past, good-width, given-or-inexact}
 use Rattle.promises.proofs.WordRefusals.{write-long-follows}
+
+pub the-word-that-is-found-is-the-nearest : promise.TheWordThatIsFoundIsTheNearest
+unfolding promise.TheWordThatIsFoundIsTheNearest FindsNearest IsNearest
+the-word-that-is-found-is-the-nearest n h m rest r lo hi full top x =
+    let (w, q, near) = answered (width-fits n lo hi) x in
+    (w, q, subst (λ (y : ℕ). IsNearest n h y rest w) set near)
+  where
+    set : 2 ^ 63 + m % 2 ^ 63 ≡ m
+    set = omega (arith, full, top)
 
 -- what the contract says at a width from 2 to 64
 written : (n : ℕ) (rule : Rule) (v : LongValue) (r : Answer) → 2 ≤ n → n ≤ 64 → WritesLong n rule v r → IsWritten n rule (v .negative) (longNumerator v) (longDenominator v) r

@@ -7,6 +7,7 @@ use Rattle.word.specs.Takum.{takum, fractionBits}
 use Rattle.word.specs.Reads.{Reads}
 use Rattle.sizes.specs.Sizes.{ReadsSize}
 use Rattle.order.specs.Orders.{Compares, Negates}
+use Rattle.nearest.specs.Offers.{FindsNearest}
 use Rattle.whole.specs.Wholes.{IsTakenWhole}
 use Rattle.binary64.specs.Takes as taken
 use Rattle.column.specs.Columns.{MovesColumn}
@@ -17,7 +18,7 @@ use Rattle.promises.proofs.WordRefusals.{of-width, of-word, word-none, 
 use Rattle.promises.proofs.SliceRefusals.{test-room-follows, column-follows, position-follows, block-follows}
 
 pub refusals-follow-the-table : RefusalsFollowTheTable
-unfolding Makes GivesWord GivesLimit Reads ReadsSize Compares Negates ComesBack taken.TakesBinary64 taken.IsTakenBinary64
+unfolding Makes GivesWord GivesLimit Reads ReadsSize Compares Negates FindsNearest ComesBack taken.TakesBinary64 taken.IsTakenBinary64
 refusals-follow-the-table = record {
   test = test-follows;
   test-word = test-word-follows;
@@ -30,6 +31,7 @@ refusals-follow-the-table = record {
   compare = λ n v w a x. compare-follows n v w a x;
   negate = λ n w a x. of-word n w (word-none _ a) x;
   negate-twice = λ n w a x. of-word n w (word-none w a) x;
+  nearest = λ n h m rest a x. of-width n (λ (w, p, is). word-none w a p) x;
   write-short = write-short-follows;
   write-size = write-size-follows;
   write-long = write-long-follows;

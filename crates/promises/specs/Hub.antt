@@ -1,11 +1,14 @@
 -- What is promised of whatever is written through the hub: the nearest word or exactly the value, one answer for one value, and jamming.
 use mathlib.Core.Path.{_≡_}
-use mathlib.Core.Bool.{Bool}
+use mathlib.Core.Bool.{Bool, false}
 use Prim.Native.Nat.{ℕ, _+_, _-_, _*_, _^_, _≤_, _<_}
 use lib.IntN.{ℤ, pos, _+ℤ_, _-ℤ_}
 use Rattle.bounds.specs.declared.answer.Answer.{Answer}
 use Rattle.sizes.specs.declared.size.Size.{Size}
 use Rattle.word.specs.Reads.{num, den}
+use Rattle.nearest.specs.declared.size.Rest.{Rest}
+use Rattle.nearest.specs.Nearest.{Nearest}
+use Rattle.nearest.specs.Offers.{IsOffered, FindsNearest}
 use Rattle.round.specs.declared.value.LongValue.{LongValue}
 use Rattle.round.specs.declared.value.Rule.{Rule}
 use Rattle.round.specs.Jamming.{Between, jammed}
@@ -24,6 +27,11 @@ longNumerator v = significand v * num (v .k +ℤ pos 307)
 
 unfoldable pub longDenominator : LongValue → ℕ
 longDenominator v = den (v .k +ℤ pos 307)
+
+-- ---- what is found, before the sign and the rule
+-- At widths 2 to 64 the answer is the positive word nearest to every size a / b that is m units, the top bit of m being set, and such a rest below.
+unfoldable pub TheWordThatIsFoundIsTheNearest : Type 0
+TheWordThatIsFoundIsTheNearest = (n : ℕ) (h : ℤ) (m : ℕ) (rest : Rest) (r : Answer) → 2 ≤ n → n ≤ 64 → 2 ^ 63 ≤ m → m < 2 ^ 64 → FindsNearest n h m rest r → (w : ℕ) × (r ≡ Answer.Word w) × ((a b : ℕ) → 0 < b → IsOffered m rest (h -ℤ pos 63) a b → Nearest n false a b w)
 
 -- ---- what is written
 -- Rounded, a long value is never refused at widths 2 to 64, and gives the nearest word, ties to the even word; zero gives the zero word.

@@ -2,8 +2,8 @@
 use borrow.Author.Needs.{needs}
 use mir.Syntax.{w32}
 use Rattle.word.proofs.Casts.{plain-cast, complement-fits, complement-cast}
-use Rattle.census_words.proofs.sizes.place_of.Statement.{statement}
-use Rattle.census_words.proofs.sizes.place_of.Tie as tie
+use Rattle.census_words.proofs.offers.place_of.Statement.{statement}
+use Rattle.census_words.proofs.offers.place_of.Tie as tie
 
 bounded-requires : tie.Need-bounded-requires
 bounded-requires c κs = search needs

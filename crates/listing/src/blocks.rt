@@ -35,7 +35,8 @@ pub fn list_block(block: &[u8], place: u64, out: &mut [u8]) -> Listed
     if let Verdict::Refused(q) = verdict {
         return Listed::Refused(q);
     }
-    let mut words = [0u64; WORDS];
+    // None is read before it is written. Zeros would be a call of the C library's memset for each block, and under the emulator that is slow.
+    let mut words = [1u64; WORDS];
     Listed::Length(put_block(out, &mut words, block, place))
 }
 

@@ -17,6 +17,7 @@ use Rattle.round.specs.Writes.{IsRounded, IsExact, IsWritten, WritesShort, Writ
 use Rattle.round.proofs.Jamming as jams
 use Rattle.round.proofs.Jamming.{between-written, enough-bits-jam, jamming, sixty-five-bits-dont-jam}
 use Rattle.round.proofs.OneOutcome.{writes-short-one}
+use Rattle.round.proofs.Long.{finer-offer}
 use Rattle.round.proofs.Rounding.{written-one}
 use Rattle.round.proofs.Scales.{written-times, written-reduced}
 use Rattle.write.specs.Writes.{Writes}
@@ -27,9 +28,9 @@ use Rattle.promises.proofs.WordRefusals.{write-long-follows}
 
 pub the-word-that-is-found-is-the-nearest : promise.TheWordThatIsFoundIsTheNearest
 unfolding promise.TheWordThatIsFoundIsTheNearest FindsNearest IsNearest
-the-word-that-is-found-is-the-nearest n h m rest r lo hi full top x =
-    let (w, q, near) = answered (width-fits n lo hi) x in
-    (w, q, subst (λ (y : ℕ). IsNearest n h y rest w) set near)
+the-word-that-is-found-is-the-nearest n h m below r lo hi full top fits x =
+    let (w, q, rest, is, near) = answered (width-fits n lo hi) x in
+    (w, q, λ a b some offered. subst (λ (y : ℕ). IsNearest n h y rest w) set near a b some (finer-offer m below rest h a b some fits is offered))
   where
     set : 2 ^ 63 + m % 2 ^ 63 ≡ m
     set = omega (arith, full, top)

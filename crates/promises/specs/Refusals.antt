@@ -23,7 +23,6 @@ use Rattle.word.specs.Takum.{real, NaR, takum}
 use Rattle.word.specs.Reads.{num, den, Reads}
 use Rattle.sizes.specs.Sizes.{ReadsSize}
 use Rattle.order.specs.Orders.{Compares, Negates}
-use Rattle.nearest.specs.declared.size.Rest.{Rest}
 use Rattle.nearest.specs.Offers.{FindsNearest}
 use Rattle.round.specs.declared.value.LongValue.{LongValue}
 use Rattle.round.specs.declared.value.Rule.{Rule}
@@ -152,7 +151,7 @@ pub record RefusalsFollowTheTable : Type 0 where
   pub compare : (n x y : ℕ) (a : Comparison) → Compares n x y a → Follows Comparison.Refused a (width n ∷ stray n x ∷ stray n y ∷ [])
   pub negate : (n w : ℕ) (a : Answer) → Negates n w a → Follows Answer.Refused a (width n ∷ stray n w ∷ [])
   pub negate-twice : (n w : ℕ) (a : Answer) → ComesBack n w a → Follows Answer.Refused a (width n ∷ stray n w ∷ [])
-  pub nearest : (n : ℕ) (h : ℤ) (m : ℕ) (rest : Rest) (a : Answer) → FindsNearest n h m rest a → Follows Answer.Refused a (width n ∷ [])
+  pub nearest : (n : ℕ) (h : ℤ) (m below : ℕ) (a : Answer) → FindsNearest n h m below a → Follows Answer.Refused a (width n ∷ [])
   -- through the hub
   pub write-short : (n : ℕ) (rule : Rule) (negative : Bool) (m : ℕ) (k : ℤ) (a : Answer) → WritesShort n rule negative m k a → Follows Answer.Refused a (shortLines n rule negative m k)
   pub write-size : (n : ℕ) (rule : Rule) (s : Size) (a : Answer) → WritesSize n rule s a → Follows Answer.Refused a (shortLines n rule (s .negative) (s .m) (s .h -ℤ pos 63))

@@ -1,5 +1,5 @@
--- The normal size that is offered to `nearest`, (m + rest) * 2^(h - 63), and what it and its parts answer. All but IsOffered, IsNearest and
--- FindsNearest serve private functions.
+-- The normal size that is offered to `nearest`, (m + rest) * 2^(h - 63), and what it and its parts answer. All but IsOffered, IsNearest, IsRest
+-- and FindsNearest serve private functions.
 use mathlib.Core.Path.{_≡_}
 use mathlib.Core.Bool.{false}
 use Prim.Native.Nat.{ℕ, _+_, _-_, _*_, _/_, _%_, _^_, _≤_, _<_}
@@ -74,7 +74,14 @@ IsRaised h e = h +ℤ pos 255 ≡ pos e
 unfoldable pub TellsPowers : ℕ → ℕ → ℕ → ℕ → Rest → Side → Type 0
 TellsPowers i j e m rest side = (unit a : ℕ) → 0 < unit → Amounts m rest a unit → (y z : ℕ) → y * 2 ^ e ≡ 2 ^ (63 + i) * unit → z * 2 ^ e ≡ 2 ^ (63 + j) * unit → Tells side (2 * a) (y + z)
 
+-- what `below`, counted in 2^-64 of a unit, is of the unit
+unfoldable pub IsRest : ℕ → Rest → Type 0
+IsRest below Rest.Nothing = below ≡ 0
+IsRest below Rest.UnderHalf = (0 < below) × (below < 2 ^ 63)
+IsRest below Rest.Half = below ≡ 2 ^ 63
+IsRest below Rest.OverHalf = 2 ^ 63 < below
+
 -- ---- what the call answers
--- WIDTH; else the positive word that is nearest, the top bit of m being taken as set
-unfoldable pub FindsNearest : ℕ → ℤ → ℕ → Rest → Answer → Type 0
-FindsNearest n h m rest r = Decided (widthTest n) (λ q. r ≡ Answer.Refused q) ((w : ℕ) × (r ≡ Answer.Word w) × IsNearest n h (2 ^ 63 + m % 2 ^ 63) rest w)
+-- WIDTH; else the positive word that is nearest to the size of m and what lies below it, the top bit of m being taken as set
+unfoldable pub FindsNearest : ℕ → ℤ → ℕ → ℕ → Answer → Type 0
+FindsNearest n h m below r = Decided (widthTest n) (λ q. r ≡ Answer.Refused q) ((w : ℕ) × (r ≡ Answer.Word w) × (rest : Rest) × IsRest below rest × IsNearest n h (2 ^ 63 + m % 2 ^ 63) rest w)

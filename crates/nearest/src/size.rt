@@ -9,7 +9,7 @@ ghost use lib.IntN.{pos, negsuc};
 ghost use lib.Signed.{mag};
 ghost use Rattle.word.specs.Takum as Takum;
 ghost use Rattle.bounds.specs.Refusals.{IsWord};
-ghost use Rattle.nearest.specs.Offers.{FindsNearest, IsNearest, Begins, firstBits, IsRaised, TellsHalf, TellsPowers, chosenOf, marginOf, ChoosesByCut};
+ghost use Rattle.nearest.specs.Offers.{FindsNearest, IsNearest, IsRest, Begins, firstBits, IsRaised, TellsHalf, TellsPowers, chosenOf, marginOf, ChoosesByCut};
 
 // What lies below the last unit of a significand.
 pub enum Rest {
@@ -32,18 +32,35 @@ struct Start {
     r: u32,
 }
 
-// The positive word nearest to the size (m + rest) * 2^(h - 63), the top bit of m being taken as set.
-pub fn nearest(width: Width, h: i64, m: u64, rest: Rest) -> Answer
-    ensures { λ r. ⌜ FindsNearest (width .bits) h m rest r ⌝ }
+// The positive word nearest to the size (m + below * 2^-64) * 2^(h - 63), the top bit of m being taken as set.
+pub fn nearest(width: Width, h: i64, m: u64, below: u64) -> Answer
+    ensures { λ r. ⌜ FindsNearest (width .bits) h m below r ⌝ }
 {
     let verdict = width.test();
     if let Verdict::Refused(q) = verdict {
         return Answer::Refused(q);
     }
-    Answer::Word(nearest_word(width.bits, h, (1 << 63) + m % (1 << 63), rest))
+    let full = (1 << 63) + m % (1 << 63);
+    Answer::Word(nearest_word(width.bits, h, full, rest_of(below)))
 }
 
-// The same with its top bit set: past either end the end word.
+// What lies below the last unit, beside a half of it.
+fn rest_of(below: u64) -> Rest
+    ensures { λ r. ⌜ IsRest below r ⌝ }
+{
+    if below == 0 {
+        return Rest::Nothing;
+    }
+    if below < 1 << 63 {
+        return Rest::UnderHalf;
+    }
+    if below == 1 << 63 {
+        return Rest::Half;
+    }
+    Rest::OverHalf
+}
+
+// The positive word nearest to the size (m + rest) * 2^(h - 63), m having its top bit set: past either end the end word.
 fn nearest_word(n: u32, h: i64, m: u64, rest: Rest) -> u64
     requires { ⌜ (2 ≤ n) × (n ≤ 64) × (2 ^ 63 ≤ m) ⌝ }
     ensures { λ w. ⌜ IsNearest n h m rest w ⌝ }

@@ -13,7 +13,8 @@ use Rattle.word.proofs.Units.{unit-some, lower-by}
 use Rattle.nearest.specs.declared.size.Rest.{Rest}
 use Rattle.nearest.specs.declared.size.Side.{Side}
 use Rattle.nearest.specs.Offers.{Amounts, IsOffered, Tells}
-use Rattle.round.specs.Offers.{IsRest, topBits}
+use Rattle.nearest.specs.Offers.{IsRest}
+use Rattle.round.specs.Offers.{topBits}
 use Rattle.round.proofs.Scales.{raise-offer, coarser}
 
 -- ---- what lies below the last unit is under a half of it, a half, or over

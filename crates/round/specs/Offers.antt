@@ -8,13 +8,13 @@ use Rattle.word.specs.Reads.{num, den}
 use Rattle.bounds.specs.declared.answer.Answer.{Answer}
 use Rattle.nearest.specs.declared.size.Rest.{Rest}
 use Rattle.nearest.specs.Nearest.{HasValue, Nearest}
-use Rattle.nearest.specs.Offers.{IsOffered}
+use Rattle.nearest.specs.Offers.{IsOffered, IsRest}
 use Rattle.round.specs.declared.value.Rule.{Rule}
 use Rattle.round.specs.Writes.{IsWritten}
 
--- the word of the sign that is nearest to every exact size that is so offered
-unfoldable pub RoundsSize : ℕ → Bool → ℤ → ℕ → Rest → ℕ → Type 0
-RoundsSize n negative h m rest w = (a b : ℕ) → 0 < b → IsOffered m rest (h -ℤ pos 63) a b → Nearest n negative a b w
+-- the word of the sign that is nearest to every exact size that has this significand and this below it
+unfoldable pub RoundsSize : ℕ → Bool → ℤ → ℕ → ℕ → ℕ → Type 0
+RoundsSize n negative h m below w = (rest : Rest) × IsRest below rest × ((a b : ℕ) → 0 < b → IsOffered m rest (h -ℤ pos 63) a b → Nearest n negative a b w)
 
 -- whether the size z of a word is the one that is offered
 unfoldable pub TellsSize : ℕ → ℕ → ℤ → ℕ → Bool → Type 0
@@ -41,13 +41,6 @@ WritesTimes n rule negative x k r = IsWritten n rule negative (x * num (k +ℤ p
 unfoldable pub topBits : ℕ → ℕ → ℕ → ℕ
 topBits high low zeros = high * 2 ^ zeros + low / 2 ^ (64 - zeros)
 
--- what `below`, counted in 2^-64 of a unit, is of the unit
-unfoldable pub IsRest : ℕ → Rest → Type 0
-IsRest below Rest.Nothing = below ≡ 0
-IsRest below Rest.UnderHalf = (0 < below) × (below < 2 ^ 63)
-IsRest below Rest.Half = below ≡ 2 ^ 63
-IsRest below Rest.OverHalf = 2 ^ 63 < below
-
 -- what the rule makes of the nearest word
 unfoldable pub Settles : ℕ → Rule → ℤ → ℕ → ℕ → Answer → Type 0
-Settles n rule h m w r = (negative : Bool) → RoundsSize n negative h m Rest.Nothing w → WritesNormal n rule negative h m r
+Settles n rule h m w r = (negative : Bool) → RoundsSize n negative h m 0 w → WritesNormal n rule negative h m r

@@ -5,14 +5,13 @@ use bounds::answer::Answer;
 use bounds::refusal::Refusal;
 use bounds::refusal::Verdict;
 use bounds::width::Width;
-use nearest::size::Rest;
 use nearest::size::nearest;
 use sizes::size::Size;
 use sizes::size::size_of;
 ghost use mathlib.Core.Path.{_≡_};
 ghost use Prim.Native.Nat.{_+_, _-_, _*_, _^_, _≤_, _<_};
 ghost use Rattle.round.specs.Writes.{WritesLong, WritesShort, WritesSize};
-ghost use Rattle.round.specs.Offers.{RoundsSize, Settles, TellsSize, IsRest, WritesFiner, WritesTimes, topBits, withSign};
+ghost use Rattle.round.specs.Offers.{RoundsSize, Settles, TellsSize, WritesFiner, WritesTimes, topBits, withSign};
 
 // The word for a long value: the nearest, or exactly that value or INEXACT.
 pub fn write_long(width: Width, rule: Rule, value: LongValue) -> Answer
@@ -42,7 +41,7 @@ pub fn write_short(width: Width, rule: Rule, negative: bool, m: u64, k: i32) -> 
     let zeros = u64::leading_zeros(m);
     let h = k as i64 + (63 - zeros) as i64;
     let full = m << zeros;
-    let word = rounded(width, negative, h, full, Rest::Nothing);
+    let word = rounded(width, negative, h, full, 0);
     by_rule(width, rule, h, full, word)
 }
 
@@ -61,7 +60,7 @@ pub fn write_size(width: Width, rule: Rule, size: Size) -> Answer
     let zeros = u64::leading_zeros(m);
     let h = size.h as i64 - zeros as i64;
     let full = m << zeros;
-    let word = rounded(width, size.negative, h, full, Rest::Nothing);
+    let word = rounded(width, size.negative, h, full, 0);
     by_rule(width, rule, h, full, word)
 }
 
@@ -75,7 +74,7 @@ fn write_full(width: Width, rule: Rule, negative: bool, high: u64, low: u64, k: 
     let m = top_bits(high, low, zeros);
     let below = low << zeros;
     if below == 0 {
-        let word = rounded(width, negative, h, m, Rest::Nothing);
+        let word = rounded(width, negative, h, m, 0);
         return by_rule(width, rule, h, m, word);
     }
     write_finer(width, rule, negative, h, m, below)
@@ -96,35 +95,19 @@ fn write_finer(width: Width, rule: Rule, negative: bool, h: i64, m: u64, below: 
     ensures { λ r. ⌜ WritesFiner (width .bits) rule negative h m below r ⌝ }
 {
     match rule {
-        Rule::Rounded => Answer::Word(rounded(width, negative, h, m, rest_of(below))),
+        Rule::Rounded => Answer::Word(rounded(width, negative, h, m, below)),
         Rule::Strict => Answer::Refused(Refusal::Inexact),
     }
 }
 
-// What lies below the last unit, beside a half of it.
-fn rest_of(below: u64) -> Rest
-    ensures { λ r. ⌜ IsRest below r ⌝ }
-{
-    if below == 0 {
-        return Rest::Nothing;
-    }
-    if below < 1 << 63 {
-        return Rest::UnderHalf;
-    }
-    if below == 1 << 63 {
-        return Rest::Half;
-    }
-    Rest::OverHalf
-}
-
-// The word that is nearest to the size (m + rest) * 2^(h - 63) with its sign. Whoever writes calls this and then `by_rule`: so this is
+// The word that is nearest to the size (m + below * 2^-64) * 2^(h - 63) with its sign. Whoever writes calls this and then `by_rule`: so this is
 // compiled once, and the rule where it is known.
-fn rounded(width: Width, negative: bool, h: i64, m: u64, rest: Rest) -> u64
+fn rounded(width: Width, negative: bool, h: i64, m: u64, below: u64) -> u64
     requires { ⌜ (2 ≤ width .bits) × (width .bits ≤ 64) × (2 ^ 63 ≤ m) ⌝ }
-    ensures { λ w. ⌜ RoundsSize (width .bits) negative h m rest w ⌝ }
+    ensures { λ w. ⌜ RoundsSize (width .bits) negative h m below w ⌝ }
 {
     // The width is good, so the refusal never comes.
-    match nearest(width, h, m, rest) {
+    match nearest(width, h, m, below) {
         Answer::Word(word) => with_sign(width.bits, negative, word),
         Answer::Refused(_) => 0,
     }

@@ -1,5 +1,5 @@
 -- The tests of a block in the paper's order, and what is known of a block that they let through. Assumes nothing.
-use mathlib.Core.Path.{_≡_, ap, ap₂, _∙_}
+use mathlib.Core.Path.{_≡_, sym, ap, ap₂, _∙_}
 use mathlib.Core.List.{List}
 use Prim.Native.Nat.{ℕ, _≤_}
 use native.Mathlib.Omega.{arith}
@@ -24,16 +24,32 @@ pub other-mark : (block : List ℕ) (places : ℕ) → length block ≡ 512 → 
 unfolding blockTest sizeTest markTest
 other-mark block places h m = rw (eq-eqb (length block) 512 h, ne-eqb (mark block) 0x54 m)
 
-pub other-A : (block : List ℕ) (places : ℕ) → length block ≡ 512 → mark block ≡ 0x54 → (sumA (numbers block) ≡ A block → ⊥) → blockTest block places ≡ Verdict.Refused Refusal.Check
-unfolding blockTest sizeTest markTest
-other-A block places h m a = rw (eq-eqb (length block) 512 h, eq-eqb (mark block) 0x54 m, ← a-differs block a)
+-- a block of 512 bytes with its mark: each later test decides where the ones before it let the block through
+module _ (block : List ℕ) (places : ℕ) (sized : length block ≡ 512) (marked : mark block ≡ 0x54) where
+  from-check : blockTest block places ≡ checkTest block then blockWidthTest block then countTest block then fillTest block then roomTest (count block) places
+  unfolding blockTest sizeTest markTest
+  from-check = rw (eq-eqb (length block) 512 sized, eq-eqb (mark block) 0x54 marked)
 
-pub in-order : (block : List ℕ) (places : ℕ) {m s w n f r v₁ v₂ v₃ v₄ v₅ : Verdict} → length block ≡ 512 → m ≡ markTest block → s ≡ checkTest block → v₁ ≡ (m then s) → w ≡ blockWidthTest block → v₂ ≡ (v₁ then w) → n ≡ countTest block → v₃ ≡ (v₂ then n) → f ≡ fillTest block → v₄ ≡ (v₃ then f) → r ≡ roomTest (count block) places → v₅ ≡ (v₄ then r) → v₅ ≡ blockTest block places
-unfolding blockTest sizeTest
-in-order block places h hm hs h₁ hw h₂ hn h₃ hf h₄ hr h₅ = rw (eq-eqb (length block) 512 h) (after (after (after (after (after hm hs h₁) hw h₂) hn h₃) hf h₄) hr h₅)
-  where
-    after : {a a' b b' v : Verdict} → a ≡ a' → b ≡ b' → v ≡ (a then b) → v ≡ (a' then b')
-    after ha hb hv = hv ∙ ap₂ (λ (x y : Verdict). x then y) ha hb
+  pub check-refuses : checkTest block ≡ Verdict.Refused Refusal.Check → blockTest block places ≡ Verdict.Refused Refusal.Check
+  check-refuses h = from-check ∙ rw h
+
+  pub other-A : (sumA (numbers block) ≡ A block → ⊥) → blockTest block places ≡ Verdict.Refused Refusal.Check
+  other-A a = check-refuses (sym (a-differs block a))
+
+  module _ (checked : checkTest block ≡ Verdict.Through) where
+    pub width-refuses : blockWidthTest block ≡ Verdict.Refused Refusal.Width → blockTest block places ≡ Verdict.Refused Refusal.Width
+    width-refuses h = from-check ∙ rw (checked, h)
+
+    module _ (wide : blockWidthTest block ≡ Verdict.Through) where
+      pub count-refuses : countTest block ≡ Verdict.Refused Refusal.Count → blockTest block places ≡ Verdict.Refused Refusal.Count
+      count-refuses h = from-check ∙ rw (checked, wide, h)
+
+      module _ (counted : countTest block ≡ Verdict.Through) where
+        pub fill-refuses : fillTest block ≡ Verdict.Refused Refusal.Fill → blockTest block places ≡ Verdict.Refused Refusal.Fill
+        fill-refuses h = from-check ∙ rw (checked, wide, counted, h)
+
+        pub room-decides : fillTest block ≡ Verdict.Through → blockTest block places ≡ roomTest (count block) places
+        room-decides h = from-check ∙ rw (checked, wide, counted, h)
 
 -- ---- a block that is let through
 pub record Passes (block : List ℕ) (places : ℕ) : Type 0 where

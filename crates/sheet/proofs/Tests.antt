@@ -1,6 +1,6 @@
 -- What each test of a block finds. Assumes nothing.
 use mathlib.Core.Path.{_≡_, refl, sym, subst}
-use mathlib.Core.Bool.{Bool, true, false, _||_, and-false}
+use mathlib.Core.Bool.{Bool, true, false, not, _||_, false≢true}
 use mathlib.Core.List.{List}
 use mathlib.Core.Logic.{_⊎_, inl, inr, ⊎-elim}
 use Prim.Native.Nat.{ℕ, _≤_, _<_}
@@ -19,6 +19,15 @@ holds q h = rw h
 pub fails : (q : Refusal) {b : Bool} → b ≡ false → Verdict.Refused q ≡ unless q b
 fails q h = rw h
 
+-- a call has told whether a test holds
+pub lets-through : {v : Verdict} (q : Refusal) (b : Bool) → v ≡ unless q b → not b ≡ false → v ≡ Verdict.Through
+lets-through q true e h = e
+lets-through q false e h = absurd (false≢true (sym h))
+
+pub refuses : {v : Verdict} (q : Refusal) (b : Bool) → v ≡ unless q b → not b ≡ true → v ≡ Verdict.Refused q
+refuses q true e h = absurd (false≢true h)
+refuses q false e h = e
+
 -- a number n that a call has given as m is tested against a most
 pub at-most : (q : Refusal) {m n : ℕ} (most : ℕ) → m ≡ n → m ≤ most → Verdict.Through ≡ unless q (leb n most)
 at-most q {m} {n} most e h = holds q (le-leb n most (subst (λ (x : ℕ). x ≤ most) e h))
@@ -32,13 +41,10 @@ module _ (block : List ℕ) where
   unfolding checkTest
   a-differs h = rw (ne-eqb (sumA (numbers block)) (A block) h)
 
-  pub b-differs : (sumB (numbers block) ≡ B block → ⊥) → Verdict.Refused Refusal.Check ≡ checkTest block
+  -- where A agrees, B decides
+  pub b-decides : {b b' : ℕ} → sumA (numbers block) ≡ A block → b ≡ sumB (numbers block) → b' ≡ B block → checkTest block ≡ unless Refusal.Check (eqb b b')
   unfolding checkTest
-  b-differs h = rw (ne-eqb (sumB (numbers block)) (B block) h, and-false (eqb (sumA (numbers block)) (A block)))
-
-  pub sums-agree : sumA (numbers block) ≡ A block → sumB (numbers block) ≡ B block → Verdict.Through ≡ checkTest block
-  unfolding checkTest
-  sums-agree p q = rw (eq-eqb (sumA (numbers block)) (A block) p, eq-eqb (sumB (numbers block)) (B block) q)
+  b-decides p q r = rw (eq-eqb (sumA (numbers block)) (A block) p, q, r)
 
 -- ---- the width
 abbrev pub OneOfFour : ℕ → Type 0

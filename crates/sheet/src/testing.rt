@@ -1,4 +1,4 @@
-// The tests of a block, in the paper's order. Each later one ends on every block of 512 bytes, so they may be made even where an earlier one refuses.
+// The tests of a block, in the paper's order: the first that it fails refuses it.
 use crate::fields::count_of;
 use crate::fields::end_of;
 use crate::fields::width_of;
@@ -10,9 +10,11 @@ use bounds::refusal::Verdict;
 use bounds::room::test_room;
 ghost use mathlib.Core.Path.{_≡_};
 ghost use lib.ListN.{length};
+ghost use Rattle.bounds.specs.declared.refusal.Refusal.{Refusal};
+ghost use Rattle.bounds.specs.Refusals.{unless};
 ghost use Rattle.sheet.specs.Layout.{unused};
 ghost use Rattle.sheet.specs.Sums.{total};
-ghost use Rattle.sheet.specs.Reads.{markTest, checkTest, blockWidthTest, countTest, fillTest, blockTest};
+ghost use Rattle.sheet.specs.Reads.{checkTest, blockWidthTest, blockTest};
 
 pub(crate) fn test(block: &[u8], places: usize) -> Verdict
     ensures { λ v. ⌜ v ≡ blockTest (now (block .entry)) places ⌝ }
@@ -20,66 +22,43 @@ pub(crate) fn test(block: &[u8], places: usize) -> Verdict
     if block.len() != 512 {
         return Verdict::Refused(Refusal::Size);
     }
-    test_mark(block)
-        .then(test_sums(block))
-        .then(test_width(block))
-        .then(test_count(block))
-        .then(test_fill(block))
-        .then(test_room(count_of(block) as usize, places))
-}
-
-fn test_mark(block: &[u8]) -> Verdict
-    requires { ⌜ length (now block) ≡ 512 ⌝ }
-    ensures { λ v. ⌜ v ≡ markTest (now (block .entry)) ⌝ }
-{
-    if block[0] == 0x54 {
-        return Verdict::Through;
+    if block[0] != 0x54 {
+        return Verdict::Refused(Refusal::Mark);
     }
-    Verdict::Refused(Refusal::Mark)
+    if !sums_agree(block) {
+        return Verdict::Refused(Refusal::Check);
+    }
+    if !has_width(block) {
+        return Verdict::Refused(Refusal::Width);
+    }
+    if end_of(block) > 504 {
+        return Verdict::Refused(Refusal::Count);
+    }
+    if unused_sum(block) != 0 {
+        return Verdict::Refused(Refusal::Fill);
+    }
+    test_room(count_of(block) as usize, places)
 }
 
-fn test_sums(block: &[u8]) -> Verdict
+fn sums_agree(block: &[u8]) -> bool
     requires { ⌜ length (now block) ≡ 512 ⌝ }
-    ensures { λ v. ⌜ v ≡ checkTest (now (block .entry)) ⌝ }
+    ensures { λ r. ⌜ checkTest (now (block .entry)) ≡ unless Refusal.Check r ⌝ }
 {
     let sums = sums_of(block);
     if sums.a != four_bytes(block, 504) {
-        return Verdict::Refused(Refusal::Check);
+        return false;
     }
-    if sums.b != four_bytes(block, 508) {
-        return Verdict::Refused(Refusal::Check);
-    }
-    Verdict::Through
+    sums.b == four_bytes(block, 508)
 }
 
-fn test_width(block: &[u8]) -> Verdict
+fn has_width(block: &[u8]) -> bool
     requires { ⌜ length (now block) ≡ 512 ⌝ }
-    ensures { λ v. ⌜ v ≡ blockWidthTest (now (block .entry)) ⌝ }
+    ensures { λ r. ⌜ blockWidthTest (now (block .entry)) ≡ unless Refusal.Width r ⌝ }
 {
     match width_of(block) {
-        8 | 16 | 32 | 64 => Verdict::Through,
-        _ => Verdict::Refused(Refusal::Width),
+        8 | 16 | 32 | 64 => true,
+        _ => false,
     }
-}
-
-fn test_count(block: &[u8]) -> Verdict
-    requires { ⌜ length (now block) ≡ 512 ⌝ }
-    ensures { λ v. ⌜ v ≡ countTest (now (block .entry)) ⌝ }
-{
-    if end_of(block) <= 504 {
-        return Verdict::Through;
-    }
-    Verdict::Refused(Refusal::Count)
-}
-
-fn test_fill(block: &[u8]) -> Verdict
-    requires { ⌜ length (now block) ≡ 512 ⌝ }
-    ensures { λ v. ⌜ v ≡ fillTest (now (block .entry)) ⌝ }
-{
-    if unused_sum(block) == 0 {
-        return Verdict::Through;
-    }
-    Verdict::Refused(Refusal::Fill)
 }
 
 // The unused bytes are all zero exactly if their sum is.

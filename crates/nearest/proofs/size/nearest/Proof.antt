@@ -37,20 +37,26 @@ returns c = refused (sym (c .before .before .before .test .ensures) ∙ c .befor
 enum-told : tie.Need-enum-told
 enum-told c = search needs
 
-rem-nearest-word : tie.Need-rem-nearest-word
-rem-nearest-word c = search needs
+rem-full : tie.Need-rem-full
+rem-full c = search needs
 
-add-nearest-word : tie.Need-add-nearest-word
-add-nearest-word c = let below : s c .args .m % 2 ^ 63 < 2 ^ 63 = mod-lt _ (pow-pos 63) in
+add-full : tie.Need-add-full
+add-full c = let below : s c .args .m % 2 ^ 63 < 2 ^ 63 = mod-lt _ (pow-pos 63) in
     record { fits = omega (arith, below) }
 
+rest-of-requires : tie.Need-rest-of-requires
+rest-of-requires c κs = search needs
+
 nearest-word-requires : tie.Need-nearest-word-requires
-nearest-word-requires c κs = (bounds c .0, bounds c .1, le-add-right _ _)
+nearest-word-requires c κs = let b = bounds (c .before) in
+    (b .0, b .1, le-add-right _ _)
 
 returns-2 : tie.Need-returns-2
 unfolding FindsNearest
-returns-2 c = let t = s (c .before) in
-    through (let-through (c .before)) (c .nearest-word .result, refl, subst (λ (z : ℤ). IsNearest (t .args .width .bits) z (2 ^ 63 + t .args .m % 2 ^ 63) (t .args .rest) (c .nearest-word .result)) (toZ-ofZ (t .fits .h)) (c .nearest-word .ensures))
+returns-2 c = let k = c .before in
+    let t = s (k .before) in
+    through (let-through (k .before))
+    (c .nearest-word .result, refl, k .rest-of .result, k .rest-of .ensures, subst (λ (z : ℤ). IsNearest (t .args .width .bits) z (2 ^ 63 + t .args .m % 2 ^ 63) (k .rest-of .result) (c .nearest-word .result)) (toZ-ofZ (t .fits .h)) (c .nearest-word .ensures))
 
 pub nearest-spec : {M : Type 1} → statement M
 nearest-spec =
@@ -60,7 +66,8 @@ nearest-spec =
     enum-known-verdict
     returns
     enum-told
-    rem-nearest-word
-    add-nearest-word
+    rem-full
+    add-full
+    rest-of-requires
     nearest-word-requires
     returns-2)

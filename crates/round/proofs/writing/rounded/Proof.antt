@@ -8,7 +8,8 @@ use borrow.Author.Needs.{needs}
 use Rattle.bounds.specs.declared.answer.Answer.{Answer}
 use Rattle.bounds.proofs.Answers.{GivesAWord, wordOf}
 use Rattle.bounds.proofs.Verdicts.{width-fits, answered}
-use Rattle.nearest.specs.Offers.{FindsNearest, IsNearest}
+use Rattle.nearest.specs.declared.size.Rest.{Rest}
+use Rattle.nearest.specs.Offers.{FindsNearest, IsNearest, IsRest}
 use Rattle.round.specs.Offers.{RoundsSize}
 use Rattle.round.proofs.Rules.{is-positive, signed-size}
 use Rattle.round.proofs.writing.rounded.Statement.{statement}
@@ -19,18 +20,18 @@ module _ (k : tie.After-nearest) where
   abbrev s : tie.Start
   s = k .before
 
-  found : (w : ℕ) × (k .nearest .result ≡ Answer.Word w) × IsNearest (s .args .width .bits) (s .args .h) (s .args .m) (s .args .rest) w
+  found : (w : ℕ) × (k .nearest .result ≡ Answer.Word w) × (rest : Rest) × IsRest (s .args .below) rest × IsNearest (s .args .width .bits) (s .args .h) (s .args .m) rest w
   unfolding FindsNearest
   found =
       let x = answered (width-fits _ (s .pre .0) (s .pre .1)) (k .nearest .ensures) in
-      (x .0, x .1, subst₂ (λ (z : ℤ) (m : ℕ). IsNearest (s .args .width .bits) z m (s .args .rest) (x .0)) (toZ-ofZ (s .fits .h)) top (x .2))
+      (x .0, x .1, x .2, x .3, subst₂ (λ (z : ℤ) (m : ℕ). IsNearest (s .args .width .bits) z m (x .2) (x .0)) (toZ-ofZ (s .fits .h)) top (x .4))
     where
       top : 2 ^ 63 + s .args .m % 2 ^ 63 ≡ s .args .m
       top = omega (arith, s .pre .2, s .fits .m .fits)
 
-  near : (w : ℕ) → k .nearest .result ≡ Answer.Word w → IsNearest (s .args .width .bits) (s .args .h) (s .args .m) (s .args .rest) w
+  near : (w : ℕ) → k .nearest .result ≡ Answer.Word w → IsNearest (s .args .width .bits) (s .args .h) (s .args .m) (found .2) w
   unfolding wordOf
-  near w q = subst (IsNearest (s .args .width .bits) (s .args .h) (s .args .m) (s .args .rest)) (ap wordOf (sym (found .1) ∙ q)) (found .2)
+  near w q = subst (IsNearest (s .args .width .bits) (s .args .h) (s .args .m) (found .2)) (ap wordOf (sym (found .1) ∙ q)) (found .4)
 
 nearest-requires : tie.Need-nearest-requires
 nearest-requires c κs = search needs
@@ -48,7 +49,7 @@ enum-told c = search needs
 
 returns : tie.Need-returns
 returns c = let k = c .before .before .before .before in
-    subst (RoundsSize (s k .args .width .bits) (s k .args .negative) (s k .args .h) (s k .args .m) (s k .args .rest)) (sym (c .with-sign .ensures)) (signed-size _ (s k .pre .0) (s k .pre .1) _ _ _ _ (near k _ (c .before .before .word .given .1)) (s k .args .negative))
+    subst (RoundsSize (s k .args .width .bits) (s k .args .negative) (s k .args .h) (s k .args .m) (s k .args .below)) (sym (c .with-sign .ensures)) (signed-size _ (s k .pre .0) (s k .pre .1) _ _ _ _ (near k _ (c .before .before .word .given .1)) (s k .args .below) (found k .3) (s k .args .negative))
 
 returns-2 : tie.Need-returns-2
 unfolding GivesAWord

@@ -14,9 +14,6 @@ use Rattle.round.proofs.writing.write_finer.Tie as tie
 enum-told : tie.Need-enum-told
 enum-told c = search needs
 
-rest-of-requires : tie.Need-rest-of-requires
-rest-of-requires c κs = search needs
-
 rounded-requires : tie.Need-rounded-requires
 rounded-requires c κs = search needs
 
@@ -24,11 +21,10 @@ enum-told-2 : tie.Need-enum-told-2
 enum-told-2 c = search needs
 
 returns : tie.Need-returns
-returns c = let k = c .before in
-    let s = k .before .before .before in
-    let near = subst (λ (z : ℤ). RoundsSize (s .args .width .bits) (s .args .negative) z (s .args .m) (k .rest-of .result) (c .rounded .result)) (toZ-ofZ (s .fits .h)) (c .rounded .ensures) in
-    subst (λ (u : Rule). WritesFiner (s .args .width .bits) u (s .args .negative) (s .args .h) (s .args .m) (s .args .below) (Answer.Word (c .rounded .result))) (sym (k .before .enum-told .given .1))
-    (finer-word _ (s .pre .0) (s .pre .1) (s .args .h) (s .args .m) (s .args .below) (s .fits .below .fits) _ (k .rest-of .ensures) (s .args .negative) _ near)
+returns c = let s = c .before .before .before in
+    let near = subst (λ (z : ℤ). RoundsSize (s .args .width .bits) (s .args .negative) z (s .args .m) (s .args .below) (c .rounded .result)) (toZ-ofZ (s .fits .h)) (c .rounded .ensures) in
+    subst (λ (u : Rule). WritesFiner (s .args .width .bits) u (s .args .negative) (s .args .h) (s .args .m) (s .args .below) (Answer.Word (c .rounded .result))) (sym (c .before .enum-told .given .1))
+    (finer-word _ (s .pre .0) (s .pre .1) (s .args .h) (s .args .m) (s .args .below) (s .fits .below .fits) (s .args .negative) _ near)
 
 returns-2 : tie.Need-returns-2
 returns-2 c = let s = c .before .before in
@@ -36,4 +32,4 @@ returns-2 c = let s = c .before .before in
     (finer-refusal _ (s .pre .0) (s .pre .1) (s .args .h) (s .args .m) (s .args .below) (s .fits .below .fits) (s .pre .2) (s .fits .m .fits) (s .pre .3) (s .args .negative))
 
 pub write-finer-spec : {M : Type 1} → statement M
-write-finer-spec = tie.close (tie.spec enum-told rest-of-requires rounded-requires enum-told-2 returns returns-2)
+write-finer-spec = tie.close (tie.spec enum-told rounded-requires enum-told-2 returns returns-2)

@@ -1,44 +1,93 @@
--- `test` meets its contract: the tests are made in the paper's order. Assumes nothing.
-use mathlib.Core.Path.{ap, _∙_}
+-- `test` meets its contract: the tests are made in the paper's order, and the first that the block fails refuses it. Assumes nothing.
+use mathlib.Core.Path.{_≡_, sym, ap, _∙_}
+use mathlib.Core.List.{List}
 use Prim.Native.Nat.{ℕ}
-use Rattle.bounds.specs.Refusals.{roomTest}
-use Rattle.sheet.proofs.Passing.{other-size, in-order}
 use borrow.Author.Needs.{needs}
+use borrow.Author.Tests.{eq-eqb, ne-eqb}
+use lib.ListN.{length}
+use Rattle.bounds.specs.declared.refusal.Refusal.{Refusal}
+use Rattle.bounds.specs.declared.refusal.Verdict.{Verdict}
+use Rattle.bounds.specs.Refusals.{roomTest}
+use Rattle.sheet.specs.Layout.{mark}
+use Rattle.sheet.specs.Reads.{checkTest, blockWidthTest, countTest, fillTest}
+use Rattle.sheet.proofs.Passing.{other-size, other-mark, check-refuses, width-refuses, count-refuses, fill-refuses, room-decides}
+use Rattle.sheet.proofs.Tests.{holds, fails, lets-through, refuses, at-most, past}
+use Rattle.sheet.proofs.Unused.{zero-when}
 use Rattle.sheet.proofs.testing.test.Statement.{statement}
 use Rattle.sheet.proofs.testing.test.Tie as tie
 
+-- ---- what is known after each test that let the block through
+abbrev start : tie.Else2 → tie.Start
+start c = c .before .before .before .before
+
+abbrev block : tie.Else2 → List ℕ
+block c = start c .args .block .now
+
+sized : (c : tie.Else2) → length (block c) ≡ 512
+sized c = c .before .before .if1 .left
+
+marked : (c : tie.Else2) → mark (block c) ≡ 0x54
+unfolding mark
+marked c = c .if2 .left
+
+checked : (c : tie.Else3) → checkTest (block (c .before .before)) ≡ Verdict.Through
+checked c = lets-through Refusal.Check (c .before .sums-agree .result) (c .before .sums-agree .ensures) (c .if3 .left)
+
+wide : (c : tie.Else4) → blockWidthTest (block (c .before .before .before .before)) ≡ Verdict.Through
+wide c = lets-through Refusal.Width (c .before .has-width .result) (c .before .has-width .ensures) (c .if4 .left)
+
+counted : (c : tie.Else5) → countTest (block (c .before .before .before .before .before .before)) ≡ Verdict.Through
+unfolding countTest
+counted c = sym (at-most Refusal.Count _ (c .before .end-of .ensures) (c .if5 .left))
+
+filled : (c : tie.Else6) → fillTest (block (c .before .before .before .before .before .before .before .before)) ≡ Verdict.Through
+unfolding fillTest
+filled c = sym (holds Refusal.Fill (zero-when _ ∙ eq-eqb _ _ (sym (c .before .unused-sum .ensures) ∙ c .if6 .left)))
+
+-- ---- the tests
 returns : tie.Need-returns
 returns c = other-size _ _ (c .if1 .taken)
 
-test-mark-requires : tie.Need-test-mark-requires
-test-mark-requires c κs = search needs
+shared-slice-read-if2 : tie.Need-shared-slice-read-if2
+shared-slice-read-if2 c = search needs
 
-test-sums-requires : tie.Need-test-sums-requires
-test-sums-requires c κs = search needs
+returns-2 : tie.Need-returns-2
+unfolding mark
+returns-2 c = sym (other-mark _ _ (c .before .before .if1 .left) (c .if2 .taken))
 
-then-requires : tie.Need-then-requires
-then-requires c κs = search needs
+sums-agree-requires : tie.Need-sums-agree-requires
+sums-agree-requires c κs = sized c
 
-test-width-requires : tie.Need-test-width-requires
-test-width-requires c κs = search needs
+returns-3 : tie.Need-returns-3
+returns-3 c = let m = c .before .before in
+    sym (check-refuses _ _ (sized m) (marked m) (refuses Refusal.Check (c .before .sums-agree .result) (c .before .sums-agree .ensures) (c .if3 .taken)))
 
-then-requires-2 : tie.Need-then-requires-2
-then-requires-2 c κs = search needs
+has-width-requires : tie.Need-has-width-requires
+has-width-requires c κs = sized (c .before .before)
 
-test-count-requires : tie.Need-test-count-requires
-test-count-requires c κs = search needs
+returns-4 : tie.Need-returns-4
+returns-4 c = let s = c .before .before in let m = s .before .before in
+    sym (width-refuses _ _ (sized m) (marked m) (checked s) (refuses Refusal.Width (c .before .has-width .result) (c .before .has-width .ensures) (c .if4 .taken)))
 
-then-requires-3 : tie.Need-then-requires-3
-then-requires-3 c κs = search needs
+end-of-requires : tie.Need-end-of-requires
+end-of-requires c κs = sized (c .before .before .before .before)
 
-test-fill-requires : tie.Need-test-fill-requires
-test-fill-requires c κs = search needs
+returns-5 : tie.Need-returns-5
+unfolding countTest
+returns-5 c = let w = c .before .before in let s = w .before .before in let m = s .before .before in
+    sym (count-refuses _ _ (sized m) (marked m) (checked s) (wide w) (sym (past Refusal.Count _ (c .before .end-of .ensures) (c .if5 .taken))))
 
-then-requires-4 : tie.Need-then-requires-4
-then-requires-4 c κs = search needs
+unused-sum-requires : tie.Need-unused-sum-requires
+unused-sum-requires c κs = sized (c .before .before .before .before .before .before)
+
+returns-6 : tie.Need-returns-6
+unfolding fillTest
+returns-6 c = let n = c .before .before in let w = n .before .before in let s = w .before .before in let m = s .before .before in
+    let some = fails Refusal.Fill (zero-when _ ∙ ne-eqb _ _ (λ e. c .if6 .taken (c .before .unused-sum .ensures ∙ e))) in
+    sym (fill-refuses _ _ (sized m) (marked m) (checked s) (wide w) (counted n) (sym some))
 
 count-of-requires : tie.Need-count-of-requires
-count-of-requires c κs = search needs
+count-of-requires c κs = sized (c .before .before .before .before .before .before .before .before)
 
 cast-test-room : tie.Need-cast-test-room
 cast-test-room c = search needs
@@ -46,35 +95,26 @@ cast-test-room c = search needs
 test-room-requires : tie.Need-test-room-requires
 test-room-requires c κs = search needs
 
-then-requires-5 : tie.Need-then-requires-5
-then-requires-5 c κs = search needs
-
-returns-2 : tie.Need-returns-2
-returns-2 c =
-    let to-room = c .before .before in
-    let to-fill = to-room .before in
-    let to-count = to-fill .before .before in
-    let to-width = to-count .before .before in
-    let to-sums = to-width .before .before in
-    let to-mark = to-sums .before .before in
-    in-order _ _ (to-mark .before .if1 .left) (to-mark .test-mark .ensures) (to-sums .before .test-sums .ensures) (to-sums .then .ensures) (to-width .before .test-width .ensures) (to-width .then2 .ensures) (to-count .before .test-count .ensures) (to-count .then3 .ensures) (to-fill .before .test-fill .ensures) (to-fill .then4 .ensures) (c .before .test-room .ensures ∙ ap (λ (n : ℕ). roomTest n (to-mark .before .before .before .args .places)) (to-room .count-of .ensures .0)) (c .then5 .ensures)
+returns-7 : tie.Need-returns-7
+returns-7 c = let f = c .before .before in let n = f .before .before in let w = n .before .before in let s = w .before .before in let m = s .before .before in
+    c .test-room .ensures ∙ ap (λ (k : ℕ). roomTest k (start m .args .places)) (c .before .count-of .ensures .0) ∙ sym (room-decides _ _ (sized m) (marked m) (checked s) (wide w) (counted n) (filled f))
 
 pub test-spec : {M : Type 1} → statement M
 test-spec =
     tie.close
     (tie.spec
     returns
-    test-mark-requires
-    test-sums-requires
-    then-requires
-    test-width-requires
-    then-requires-2
-    test-count-requires
-    then-requires-3
-    test-fill-requires
-    then-requires-4
+    shared-slice-read-if2
+    returns-2
+    sums-agree-requires
+    returns-3
+    has-width-requires
+    returns-4
+    end-of-requires
+    returns-5
+    unused-sum-requires
+    returns-6
     count-of-requires
     cast-test-room
     test-room-requires
-    then-requires-5
-    returns-2)
+    returns-7)

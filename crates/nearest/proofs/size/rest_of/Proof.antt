@@ -1,9 +1,9 @@
 -- `rest_of` meets its contract: below a half, at it, past it. Assumes nothing.
 use native.Mathlib.Nat.{pos-of-ne-zero}
 use native.Mathlib.Omega.{arith}
-use Rattle.round.specs.Offers.{IsRest}
-use Rattle.round.proofs.writing.rest_of.Statement.{statement}
-use Rattle.round.proofs.writing.rest_of.Tie as tie
+use Rattle.nearest.specs.Offers.{IsRest}
+use Rattle.nearest.proofs.size.rest_of.Statement.{statement}
+use Rattle.nearest.proofs.size.rest_of.Tie as tie
 
 returns : tie.Need-returns
 unfolding IsRest

@@ -1,5 +1,5 @@
 -- A block's text that is put to the start of the rest of a buffer: there is room for it, and it stands at its place of the whole. Assumes nothing.
-use mathlib.Core.Path.{_≡_, ap, ap₂, _∙_, sym, subst}
+use mathlib.Core.Path.{_≡_, sym, ap, ap₂, _∙_}
 use mathlib.Core.List.{List, [], _++_, append-assoc, append-nil}
 use Prim.Native.Nat.{ℕ, _+_, _-_, _≤_}
 use native.Mathlib.Nat.{le-of-eq, zero-add}

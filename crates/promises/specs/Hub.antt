@@ -29,7 +29,7 @@ unfoldable pub longDenominator : LongValue → ℕ
 longDenominator v = den (v .k +ℤ pos 307)
 
 -- ---- what is found, before the sign and the rule
--- At widths 2 to 64 the answer is the positive word nearest to every size a / b that is m units, the top bit of m being set, and such a rest below.
+-- At widths 2 to 64 the answer is the positive word nearest to the size (m + below * 2^-64) * 2^(h - 63), the top bit of m being set.
 unfoldable pub TheWordThatIsFoundIsTheNearest : Type 0
 TheWordThatIsFoundIsTheNearest = (n : ℕ) (h : ℤ) (m below : ℕ) (r : Answer) → 2 ≤ n → n ≤ 64 → 2 ^ 63 ≤ m → m < 2 ^ 64 → below < 2 ^ 64 → FindsNearest n h m below r → (w : ℕ) × (r ≡ Answer.Word w) × ((a b : ℕ) → 0 < b → IsOffered (m * 2 ^ 64 + below) Rest.Nothing (h -ℤ pos 127) a b → Nearest n false a b w)
 

@@ -1,5 +1,5 @@
 -- What the answer of the trial of a column tells: that every word can be moved, or that nothing is to be written. Assumes nothing.
-use mathlib.Core.Path.{_≡_, refl, sym, subst}
+use mathlib.Core.Path.{_≡_, refl, subst}
 use mathlib.Core.List.{List, [], _∷_}
 use mathlib.Core.Logic.{inl, inr}
 use Prim.Native.Nat.{ℕ}
@@ -9,20 +9,13 @@ use denote.Enum.Declared.{tagOf}
 use types.Run.{OneOf}
 use Rattle.round.specs.declared.value.Rule.{Rule}
 use Rattle.column.specs.declared.moving.Column.{Column}
-use Rattle.column.specs.Columns.{MovableUpTo, IsTried, AreMoved, Holds}
+use Rattle.column.specs.Columns.{MovableUpTo, IsTried, Holds}
 use Rattle.column.proofs.moving.Column.{the-type}
 
 -- where the trial's answer is a count, every word is moved to some word
 pub every-word-movable : (n n' : ℕ) (rule : Rule) (words : List ℕ) (a : Column) (count : ℕ) → IsTried n n' rule words a → a ≡ Column.Moved count → MovableUpTo n n' rule words (length words)
 unfolding IsTried
 every-word-movable n n' rule words a count x q = let y = subst (IsTried n n' rule words) q x in subst (MovableUpTo n n' rule words) (y .0) (y .1)
-
--- and once they are written, the results hold what such an answer says
-pub words-written : (n n' : ℕ) (rule : Rule) (words before after : List ℕ) (a : Column) (count : ℕ) → IsTried n n' rule words a → a ≡ Column.Moved count → AreMoved n n' rule words (length words) before after → Holds n n' rule words before a after
-unfolding IsTried Holds
-words-written n n' rule words before after a count x q y =
-    let all : count ≡ length words = subst (IsTried n n' rule words) q x .0 in
-    subst (λ (b : Column). Holds n n' rule words before b after) (sym q) (subst (λ (k : ℕ). AreMoved n n' rule words k before after) (sym all) y)
 
 -- an answer that is no count: of its cases the first is `Moved`
 pub nothing-written : (n n' : ℕ) (rule : Rule) (words before : List ℕ) (a : Column) → OneOf (1 ∷ 2 ∷ []) (tagOf the-type a) → Holds n n' rule words before a before

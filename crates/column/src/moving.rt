@@ -11,7 +11,7 @@ ghost use Prim.Native.Nat.{_≤_};
 ghost use lib.ListN.{length};
 ghost use Rattle.bounds.specs.declared.answer.Answer.{Answer};
 ghost use Rattle.bounds.specs.declared.refusal.Verdict.{Verdict};
-ghost use Rattle.bounds.specs.Refusals.{widthTest, roomTest, _then_};
+ghost use Rattle.bounds.specs.Refusals.{widthTest};
 ghost use Rattle.write.specs.Writes.{Moves};
 ghost use Rattle.column.specs.Columns.{Movable, MovableUpTo, IsTried, AreMoved, MovesColumn, Holds};
 ghost use Rattle.column.specs.Trials.{TriesWord};
@@ -28,22 +28,18 @@ pub fn move_column(from: Width, to: Width, rule: Rule, words: &[u64], results: &
     ensures { λ a. ⌜ MovesColumn (from .bits) (to .bits) rule (now (words .entry)) (length (now (results .entry))) a ⌝ }
     ensures { λ a. ⌜ Holds (from .bits) (to .bits) rule (now (words .entry)) (now (results .entry)) a (now (results .exit)) ⌝ }
 {
-    let verdict = test(from, to, words.len(), results.len());
+    let verdict = from.test()
+        .then(to.test())
+        .then(test_room(words.len(), results.len()));
     if let Verdict::Refused(q) = verdict {
         return Column::Refused(q);
     }
     let tried = try_words(from, to, rule, words);
-    if let Column::Moved(_) = tried {
-        write_words(from, to, rule, words, results);
-    }
-    tried
-}
-
-// The tests of the whole column: both widths, then the room.
-fn test(from: Width, to: Width, count: usize, places: usize) -> Verdict
-    ensures { λ v. ⌜ v ≡ (widthTest (from .bits) then widthTest (to .bits) then roomTest count places) ⌝ }
-{
-    from.test().then(to.test()).then(test_room(count, places))
+    let Column::Moved(_) = tried else {
+        return tried;
+    };
+    write_words(from, to, rule, words, results);
+    Column::Moved(words.len())
 }
 
 // What the column's answer is, both widths and the room being good: the first word that is refused decides.
@@ -67,13 +63,13 @@ fn try_word(from: Width, to: Width, rule: Rule, word: u64) -> Verdict
     requires { ⌜ (widthTest (from .bits) ≡ Verdict.Through) × (widthTest (to .bits) ≡ Verdict.Through) ⌝ }
     ensures { λ v. ⌜ TriesWord (from .bits) (to .bits) rule word v ⌝ }
 {
-    if let Rule::Rounded = rule {
-        return from.test_word(word);
+    match rule {
+        Rule::Rounded => from.test_word(word),
+        Rule::Strict => match move_word(from, to, rule, word) {
+            Answer::Word(_) => Verdict::Through,
+            Answer::Refused(q) => Verdict::Refused(q),
+        },
     }
-    if let Answer::Refused(q) = move_word(from, to, rule, word) {
-        return Verdict::Refused(q);
-    }
-    Verdict::Through
 }
 
 // The words that were tried, moved to the first results.

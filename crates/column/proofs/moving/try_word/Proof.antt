@@ -13,27 +13,27 @@ enum-told c = search needs
 test-word-requires : tie.Need-test-word-requires
 test-word-requires c κs = search needs
 
-returns : tie.Need-returns
-returns c = let s = c .before .before .before in
-    subst (λ (rule : Rule). TriesWord (s .args .from .bits) (s .args .to .bits) rule (s .args .word) (c .test-word .result)) (sym (c .before .enum-told .given .1)) (rounded-tried _ _ _ _ (s .pre .0) (s .pre .1) (c .test-word .ensures))
-
 enum-told-2 : tie.Need-enum-told-2
 enum-told-2 c = search needs
 
 move-word-requires : tie.Need-move-word-requires
 move-word-requires c κs = search needs
 
-enum-known-q : tie.Need-enum-known-q
-enum-known-q c = search needs
-
-returns-2 : tie.Need-returns-2
-returns-2 c = refusal-given _ _ _ _ _ (c .before .before .before .move-word .ensures) _ (c .before .q .given .1)
-
 enum-told-3 : tie.Need-enum-told-3
 enum-told-3 c = search needs
 
+enum-known-q : tie.Need-enum-known-q
+enum-known-q c = search needs
+
+returns : tie.Need-returns
+returns c = let s = c .before .before .before in
+    subst (λ (rule : Rule). TriesWord (s .args .from .bits) (s .args .to .bits) rule (s .args .word) (c .test-word .result)) (sym (c .before .enum-told .given .1)) (rounded-tried _ _ _ _ (s .pre .0) (s .pre .1) (c .test-word .ensures))
+
+returns-2 : tie.Need-returns-2
+returns-2 c = word-given _ _ _ _ _ (c .before .before .move-word .ensures) _ (c .enum-told3 .given .1)
+
 returns-3 : tie.Need-returns-3
-returns-3 c = word-given _ _ _ _ _ (c .before .before .move-word .ensures) _ (c .enum-told3 .given .1)
+returns-3 c = refusal-given _ _ _ _ _ (c .before .before .before .move-word .ensures) _ (c .before .q .given .1)
 
 pub try-word-spec : {M : Type 1} → statement M
 try-word-spec =
@@ -41,10 +41,10 @@ try-word-spec =
     (tie.spec
     enum-told
     test-word-requires
-    returns
     enum-told-2
     move-word-requires
-    enum-known-q
-    returns-2
     enum-told-3
+    enum-known-q
+    returns
+    returns-2
     returns-3)

@@ -12,7 +12,8 @@ use Rattle.bounds.proofs.Powers.{not-more}
 use Rattle.word.proofs.Numbers.{characteristic-of-string}
 use Rattle.nearest.specs.declared.size.Rest.{Rest}
 use Rattle.nearest.specs.declared.size.Start.{Start}
-use Rattle.nearest.specs.Offers.{Begins, firstBits, IsNearest, IsRaised, chosenOf}
+use Rattle.nearest.specs.Offers.{IsNearest}
+use Rattle.nearest.specs.Parts.{Begins, firstBits, IsRaised, chosenOf}
 use Rattle.nearest.proofs.Exponents.{raise}
 use Rattle.nearest.proofs.Halves.{powers-side, cut-chooses}
 use Rattle.nearest.proofs.Starts.{start-exists}

@@ -17,7 +17,7 @@ use Rattle.word.proofs.Numbers.{characteristic-of-string}
 use Rattle.bounds.proofs.Powers.{pow-sum, shl-below}
 use Rattle.word.proofs.Sizes.{size, lead, onward, seam}
 use Rattle.word.proofs.Values.{grown, grown-suc}
-use Rattle.nearest.specs.Offers.{IsRaised}
+use Rattle.nearest.specs.Parts.{IsRaised}
 use Rattle.nearest.proofs.Exponents.{raise}
 
 -- the head of the word v of n bits, and its characteristic raised

@@ -13,7 +13,7 @@ use Rattle.word.specs.Reads.{num, den}
 use Rattle.bounds.proofs.Powers.{pow-sum}
 use Rattle.word.proofs.Integers.{balance, sub-add}
 use Rattle.word.proofs.Signed.{difference}
-use Rattle.nearest.specs.Offers.{IsRaised}
+use Rattle.nearest.specs.Parts.{IsRaised}
 
 pub raise : (h : ℤ) → mag h ≤ 254 → (e : ℕ) × (h +ℤ pos 255 ≡ pos e) × (e < 510)
 raise (pos n) b = (n + 255, refl, omega (arith, b))

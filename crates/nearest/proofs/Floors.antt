@@ -13,7 +13,8 @@ use Rattle.word.proofs.Sizes.{size, size-le}
 use Rattle.word.proofs.Values.{grown, grown-suc}
 use Rattle.nearest.specs.declared.size.Rest.{Rest}
 use Rattle.nearest.specs.declared.size.Side.{Side}
-use Rattle.nearest.specs.Offers.{Amounts, IsOffered, Tells, TellsHalf}
+use Rattle.nearest.specs.Offers.{Amounts, IsOffered}
+use Rattle.nearest.specs.Parts.{TellsSide, TellsHalf}
 use Rattle.nearest.proofs.Exponents.{unit-law}
 use Rattle.word.proofs.Units.{unit-some}
 use Rattle.nearest.proofs.Halves.{Within, within, double, cancel}
@@ -180,12 +181,12 @@ module _ (h : ℤ) (raised bits P K : ℕ) (binade : Binade h raised bits P K) (
               next = ap suc word-is ∙ omega arith
 
           -- the bits that are cut off against their half tell the size against the midpoint
-          pub fine-side : (side : Side) → TellsHalf (m % 2 ^ (63 - P + (64 - n))) (2 ^ (62 - P + (64 - n))) rest side → Tells side (2 * a) ((grown n (floorString bits P m / 2 ^ (64 - n)) + grown n (suc (floorString bits P m / 2 ^ (64 - n)))) * b)
+          pub fine-side : (side : Side) → TellsHalf (m % 2 ^ (63 - P + (64 - n))) (2 ^ (62 - P + (64 - n))) rest side → TellsSide side (2 * a) ((grown n (floorString bits P m / 2 ^ (64 - n)) + grown n (suc (floorString bits P m / 2 ^ (64 - n)))) * b)
           unfolding TellsHalf cut Q
           fine-side side t =
               cancel side (den x) (2 * a) ((grown n (floorString bits P m / 2 ^ (64 - n)) + grown n (suc (floorString bits P m / 2 ^ (64 - n)))) * b) (unit-some x .1)
-              (subst (λ (y : ℕ). Tells side y ((grown n (floorString bits P m / 2 ^ (64 - n)) + grown n (suc (floorString bits P m / 2 ^ (64 - n)))) * b * den x)) (sym (mul-assoc 2 a (den x)))
-              (subst (Tells side (2 * (a * den x))) (sym sum) (double side (a * den x) ((Q * 2 ^ cut + 2 ^ (62 - P + (64 - n))) * unit) (t (Q * 2 ^ cut) unit (a * den x) unit-is-some (subst (λ (y : ℕ). Amounts y rest (a * den x) unit) parts amounts)))))
+              (subst (λ (y : ℕ). TellsSide side y ((grown n (floorString bits P m / 2 ^ (64 - n)) + grown n (suc (floorString bits P m / 2 ^ (64 - n)))) * b * den x)) (sym (mul-assoc 2 a (den x)))
+              (subst (TellsSide side (2 * (a * den x))) (sym sum) (double side (a * den x) ((Q * 2 ^ cut + 2 ^ (62 - P + (64 - n))) * unit) (t (Q * 2 ^ cut) unit (a * den x) unit-is-some (subst (λ (y : ℕ). Amounts y rest (a * den x) unit) parts amounts)))))
             where
               one-more : 2 ^ (P - (64 - n)) * 2 ^ cut ≡ 2 ^ 63
               one-more = pow-sum (P - (64 - n)) cut 63 (omega (arith, most, fine))

@@ -9,7 +9,8 @@ use lib.Pow.{pow-pos, pow-add, pow-mono}
 use Rattle.bounds.proofs.Powers.{pow-sum, not-more}
 use Rattle.nearest.specs.declared.size.Rest.{Rest}
 use Rattle.nearest.specs.declared.size.Side.{Side}
-use Rattle.nearest.specs.Offers.{Amounts, Tells, TellsHalf, TellsPowers, chosenOf, marginOf, ChoosesByCut}
+use Rattle.nearest.specs.Offers.{Amounts}
+use Rattle.nearest.specs.Parts.{TellsSide, TellsHalf, TellsPowers, chosenOf, marginOf, ChoosesByCut}
 
 -- the size lies from m units up to m + 1
 pub record Within (m unit a : ℕ) : Type 0 where
@@ -28,15 +29,15 @@ neither x y f g = le-antisymm (not-more f) (not-more g)
 
 -- ---- against a half
 pub half-below : (beyond half : ℕ) (rest : Rest) → beyond < half → TellsHalf beyond half rest Side.Under
-unfolding TellsHalf Tells
+unfolding TellsHalf TellsSide
 half-below beyond half rest l = λ base unit a h x. let w = within (base + beyond) rest unit a h x in omega (arith, w .high, mul-le-mul-right unit l)
 
 pub half-above : (beyond half : ℕ) (rest : Rest) → half < beyond → TellsHalf beyond half rest Side.Over
-unfolding TellsHalf Tells
+unfolding TellsHalf TellsSide
 half-above beyond half rest l = λ base unit a h x. let w = within (base + beyond) rest unit a h x in omega (arith, w .low, mul-le-mul-right unit l, h)
 
 pub half-midway : (beyond half : ℕ) → beyond ≡ half → TellsHalf beyond half Rest.Nothing Side.Midway
-unfolding TellsHalf Tells Amounts
+unfolding TellsHalf TellsSide Amounts
 half-midway beyond half q = λ base unit a h x. x ∙ ap (λ (y : ℕ). (base + y) * unit) q
 
 -- with any rest the size is past the half
@@ -45,15 +46,15 @@ module _ (beyond half : ℕ) (q : beyond ≡ half) where
   scaled base unit = ap (λ (y : ℕ). (base + y) * unit) q
 
   pub past-under-half : TellsHalf beyond half Rest.UnderHalf Side.Over
-  unfolding TellsHalf Tells Amounts
+  unfolding TellsHalf TellsSide Amounts
   past-under-half = λ base unit a h x. omega (arith, x .0, scaled base unit)
 
   pub past-half : TellsHalf beyond half Rest.Half Side.Over
-  unfolding TellsHalf Tells Amounts
+  unfolding TellsHalf TellsSide Amounts
   past-half = λ base unit a h x. omega (arith, x, scaled base unit, h)
 
   pub past-over-half : TellsHalf beyond half Rest.OverHalf Side.Over
-  unfolding TellsHalf Tells Amounts
+  unfolding TellsHalf TellsSide Amounts
   past-over-half = λ base unit a h x. omega (arith, x .0, scaled base unit, h)
 
 -- the order of the two and the rest decide
@@ -120,15 +121,15 @@ cut-chooses low cut rest = by (decLt (2 ^ 63 - marginOf low rest) cut)
     by (no f) = (low, cut-down low cut rest (not-more f))
 
 -- ---- against the midpoint of two powers of two
-pub double : (s : Side) (a x : ℕ) → Tells s a x → Tells s (2 * a) (x + x)
-unfolding Tells
+pub double : (s : Side) (a x : ℕ) → TellsSide s a x → TellsSide s (2 * a) (x + x)
+unfolding TellsSide
 double Side.Under a x h = omega (arith, h)
 double Side.Midway a x h = omega (arith, h)
 double Side.Over a x h = omega (arith, h)
 
 -- both sides may be divided by the same number
-pub cancel : (s : Side) (d x y : ℕ) → zero < d → Tells s (x * d) (y * d) → Tells s x y
-unfolding Tells
+pub cancel : (s : Side) (d x y : ℕ) → zero < d → TellsSide s (x * d) (y * d) → TellsSide s x y
+unfolding TellsSide
 cancel Side.Under d x y h t = lt-of-mul-lt-mul-right d t
 cancel Side.Midway d x y h t = eq-of-mul-eq-mul-right d h x y t
 cancel Side.Over d x y h t = lt-of-mul-lt-mul-right d t
@@ -140,7 +141,7 @@ lowered e f k unit y q h = eq-of-mul-eq-mul-right (2 ^ e) (pow-pos e) y (2 ^ k *
 module _ (i j e m : ℕ) (rest : Rest) (top : m < 2 ^ 64) where
   -- two binades or more under the higher one
   pub far-under : e + 1 < j → TellsPowers i j e m rest Side.Under
-  unfolding TellsPowers Tells
+  unfolding TellsPowers TellsSide
   far-under l = λ unit a h x y z hy hz.
       let w = within m rest unit a h x in
       let z-is : z ≡ 2 ^ (63 + j - e) * unit = lowered e (63 + j) (63 + j - e) unit z (omega (arith, l)) hz in
@@ -156,7 +157,7 @@ module _ (i j e m : ℕ) (rest : Rest) (top : m < 2 ^ 64) where
     pub near : (s : Side) → gap < 64 → 2 ^ 63 ≤ m → TellsHalf (m - 2 ^ 63) (2 ^ (63 - gap)) rest s → TellsPowers i j e m rest s
     unfolding TellsPowers TellsHalf
     near s g full t = λ unit a h x y z hy hz.
-        subst (Tells s (2 * a)) (sum unit y z (y-is unit y hy) (z-is unit z hz)) (double s a ((2 ^ 63 + 2 ^ (63 - gap)) * unit) (t (2 ^ 63) unit a h (subst (λ (k : ℕ). Amounts k rest a unit) split x)))
+        subst (TellsSide s (2 * a)) (sum unit y z (y-is unit y hy) (z-is unit z hz)) (double s a ((2 ^ 63 + 2 ^ (63 - gap)) * unit) (t (2 ^ 63) unit a h (subst (λ (k : ℕ). Amounts k rest a unit) split x)))
       where
         split : m ≡ 2 ^ 63 + (m - 2 ^ 63)
         split = omega (arith, full)
@@ -170,7 +171,7 @@ module _ (i j e m : ℕ) (rest : Rest) (top : m < 2 ^ 64) where
       one unit y hy = y-is unit y hy ∙ ap (λ (k : ℕ). 2 ^ (64 - k) * unit) wide ∙ one-mul unit
 
       pub wide-over : 2 ^ 63 < m → TellsPowers i j e m rest Side.Over
-      unfolding TellsPowers Tells
+      unfolding TellsPowers TellsSide
       wide-over l = λ unit a h x y z hy hz. let w = within m rest unit a h x in omega (arith, w .low, one unit y hy, z-is unit z hz, mul-le-mul-right unit l, h)
 
 -- 64 binades apart and m = 2^63: the midpoint lies half a unit on, and the rest decides
@@ -184,8 +185,8 @@ module _ (i j e : ℕ) (last : e + 1 ≡ j) (apart : i + 64 ≡ j) where
   ends : (unit y z : ℕ) → y * 2 ^ e ≡ 2 ^ (63 + i) * unit → z * 2 ^ e ≡ 2 ^ (63 + j) * unit → y + z ≡ (2 * 2 ^ 63 + 1) * unit
   ends unit y z hy hz = omega (arith, lowered e (63 + i) 0 unit y (omega arith) hy, lowered e (63 + j) 64 unit z (omega arith) hz)
 
-  decided : (rest : Rest) (unit a : ℕ) → zero < unit → Amounts (2 ^ 63) rest a unit → Tells (rest-side rest) (2 * a) ((2 * 2 ^ 63 + 1) * unit)
-  unfolding Amounts Tells rest-side
+  decided : (rest : Rest) (unit a : ℕ) → zero < unit → Amounts (2 ^ 63) rest a unit → TellsSide (rest-side rest) (2 * a) ((2 * 2 ^ 63 + 1) * unit)
+  unfolding Amounts TellsSide rest-side
   decided Rest.Nothing unit a h x = omega (arith, x, h)
   decided Rest.UnderHalf unit a h x = x .1
   decided Rest.Half unit a h x = x
@@ -193,7 +194,7 @@ module _ (i j e : ℕ) (last : e + 1 ≡ j) (apart : i + 64 ≡ j) where
 
   pub rest-decides : (m : ℕ) → m ≡ 2 ^ 63 → (rest : Rest) → TellsPowers i j e m rest (rest-side rest)
   unfolding TellsPowers
-  rest-decides m q rest = λ unit a h x y z hy hz. subst (Tells (rest-side rest) (2 * a)) (sym (ends unit y z hy hz)) (decided rest unit a h (subst (λ (k : ℕ). Amounts k rest a unit) q x))
+  rest-decides m q rest = λ unit a h x y z hy hz. subst (TellsSide (rest-side rest) (2 * a)) (sym (ends unit y z hy hz)) (decided rest unit a h (subst (λ (k : ℕ). Amounts k rest a unit) q x))
 
 -- one of these decides
 module _ (i j e m : ℕ) (rest : Rest) (up : i < j) (narrow : j ≤ i + 64) (under : e < j) (full : 2 ^ 63 ≤ m) (top : m < 2 ^ 64) where

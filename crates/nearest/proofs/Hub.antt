@@ -16,7 +16,8 @@ use Rattle.nearest.specs.declared.size.Rest.{Rest}
 use Rattle.nearest.specs.declared.size.Side.{Side}
 use Rattle.nearest.specs.declared.size.Start.{Start}
 use Rattle.nearest.specs.Nearest.{HasValue, Nearest}
-use Rattle.nearest.specs.Offers.{Begins, firstBits, Amounts, IsOffered, IsNearest, IsRaised, Tells, TellsPowers, chosenOf, ChoosesByCut}
+use Rattle.nearest.specs.Offers.{Amounts, IsOffered, IsNearest}
+use Rattle.nearest.specs.Parts.{Begins, firstBits, IsRaised, TellsSide, TellsPowers, chosenOf, ChoosesByCut}
 use Rattle.nearest.proofs.Exponents.{offset-up, offset-down, raised-same}
 use Rattle.nearest.proofs.Halves.{within}
 use Rattle.nearest.proofs.Nearest.{NearestPlace, at-first, at-last, nearer-below, nearer-above, midway}
@@ -105,24 +106,24 @@ module _ (n : ℕ) (lo : 2 ≤ n) (hi : n ≤ 64) where
     at-end q = λ a b some offered. place a b v (at-last (grown n) (2 ^ (n - 1)) a b (increasing n lo hi) some v (omega (arith, q, two n lo hi)) (omega (arith, q, two n lo hi)) (low a b some offered (omega (arith, q, two n lo hi))))
 
     module _ (first : zero < v) (room : suc v < 2 ^ (n - 1)) where
-      tells : (side : Side) → TellsMidpoint n v e m rest side → (a b : ℕ) → zero < b → IsOffered m rest (h -ℤ pos 63) a b → Tells side (2 * a) (grown n v * b + grown n (suc v) * b)
+      tells : (side : Side) → TellsMidpoint n v e m rest side → (a b : ℕ) → zero < b → IsOffered m rest (h -ℤ pos 63) a b → TellsSide side (2 * a) (grown n v * b + grown n (suc v) * b)
       unfolding TellsMidpoint wordOf
       tells side t a b some offered =
-          subst (Tells side (2 * a)) (add-mul (grown n v) (grown n (suc v)) b)
+          subst (TellsSide side (2 * a)) (add-mul (grown n v) (grown n (suc v)) b)
           (t h a b (grown n v) (grown n (suc v)) is some offered (has-value n lo hi false v first (omega (arith, room))) (subst (HasValue n false (grown n (suc v))) (sym (add-one v)) (has-value n lo hi false (suc v) (zero-lt-suc v) room)))
 
       side-under : TellsMidpoint n v e m rest Side.Under → IsNearest n h m rest v
-      unfolding IsNearest Tells
+      unfolding IsNearest TellsSide
       side-under t = λ a b some offered.
           place a b v (nearer-below (grown n) (2 ^ (n - 1)) a b (increasing n lo hi) some v first room (low a b some offered first) (high a b some offered room) (tells Side.Under t a b some offered))
 
       side-midway : TellsMidpoint n v e m rest Side.Midway → IsNearest n h m rest (v + v % 2)
-      unfolding IsNearest Tells
+      unfolding IsNearest TellsSide
       side-midway t = λ a b some offered.
           place a b (v + v % 2) (midway (grown n) (2 ^ (n - 1)) a b (increasing n lo hi) some v first room (low a b some offered first) (high a b some offered room) (tells Side.Midway t a b some offered))
 
       side-over : TellsMidpoint n v e m rest Side.Over → IsNearest n h m rest (v + 1)
-      unfolding IsNearest Tells
+      unfolding IsNearest TellsSide
       side-over t = λ a b some offered.
           subst (Nearest n false a b) (sym (add-one v))
           (place a b (suc v) (nearer-above (grown n) (2 ^ (n - 1)) a b (increasing n lo hi) some v first room (low a b some offered first) (high a b some offered room) (tells Side.Over t a b some offered)))

@@ -21,7 +21,8 @@ use Rattle.nearest.specs.declared.size.Rest.{Rest}
 use Rattle.nearest.specs.declared.size.Side.{Side}
 use Rattle.nearest.specs.declared.size.Start.{Start}
 use Rattle.nearest.specs.Nearest.{HasValue}
-use Rattle.nearest.specs.Offers.{Begins, firstBits, IsOffered, IsRaised, Tells, TellsHalf, TellsPowers, chosenOf, ChoosesByCut}
+use Rattle.nearest.specs.Offers.{IsOffered}
+use Rattle.nearest.specs.Parts.{Begins, firstBits, IsRaised, TellsSide, TellsHalf, TellsPowers, chosenOf, ChoosesByCut}
 use Rattle.nearest.proofs.Exponents.{raised-inj, unit-law}
 use Rattle.word.proofs.Units.{unit-some}
 use Rattle.nearest.proofs.Halves.{cancel}
@@ -33,7 +34,7 @@ use Rattle.nearest.proofs.Places.{value-is}
 -- the size against the midpoint of the words low and low + 1
 unfoldable pub TellsMidpoint : ℕ → ℕ → ℕ → ℕ → Rest → Side → Type 0
 TellsMidpoint n low e m rest side =
-    (h : ℤ) (a b z z' : ℕ) → IsRaised h e → 0 < b → IsOffered m rest (h -ℤ pos 63) a b → HasValue n false z low → HasValue n false z' (low + 1) → Tells side (2 * a) ((z + z') * b)
+    (h : ℤ) (a b z z' : ℕ) → IsRaised h e → 0 < b → IsOffered m rest (h -ℤ pos 63) a b → HasValue n false z low → HasValue n false z' (low + 1) → TellsSide side (2 * a) ((z + z') * b)
 
 pub floor-is : (start : Start) (m : ℕ) → start .r ≤ 7 → firstBits start m ≡ floorString (start .bits) (59 - start .r) m
 unfolding firstBits floorString cutFraction
@@ -77,7 +78,7 @@ module _ (n low e m : ℕ) (start : Start) (given : Given n low e m start) where
   unfolding TellsMidpoint
   fine-tells rest side fine t = λ h a b z z' is some offered hz hz'.
       let K = binade-of h e start is (given .begins h is) in
-      subst (λ (x : ℕ). Tells side (2 * a) (x * b)) (sym (sizes z z' hz hz' ∙ ap (λ (x : ℕ). grown n x + grown n (suc x)) word))
+      subst (λ (x : ℕ). TellsSide side (2 * a) (x * b)) (sym (sizes z z' hz hz' ∙ ap (λ (x : ℕ). grown n x + grown n (suc x)) word))
       (fine-side h e (start .bits) (59 - start .r) (K .0) (K .1) m (given .full) (given .top) rest a b some offered n (given .lo) (given .hi) (omega (arith, fine, seven, given .hi))
       (subst (λ (x : ℕ). suc x < 2 ^ (n - 1)) word next-room) (subst (λ (x : ℕ). zero < x) word (given .first)) side
       (subst (λ (x : ℕ). TellsHalf (m % 2 ^ x) (2 ^ (62 - (59 - start .r) + (64 - n))) rest side) (omega (arith, fine, seven, given .hi)) (subst (λ (x : ℕ). TellsHalf (m % 2 ^ (64 - (n - start .r - 4))) (2 ^ x) rest side) (omega (arith, fine, seven, given .hi)) t)))
@@ -170,9 +171,9 @@ module _ (n low e m : ℕ) (start : Start) (given : Given n low e m start) where
       unfolding TellsMidpoint TellsPowers IsOffered
       coarse-tells rest side t = λ h a b z z' is some offered hz hz'.
           let x = h -ℤ pos 63 +ℤ pos 307 in
-          subst (λ (y : ℕ). Tells side (2 * a) (y * b)) (sym (sizes z z' hz hz'))
+          subst (λ (y : ℕ). TellsSide side (2 * a) (y * b)) (sym (sizes z z' hz hz'))
           (cancel side (den x) (2 * a) ((grown n low + grown n (suc low)) * b) (unit-some x .1)
-          (subst₂ (Tells side) (sym (mul-assoc 2 a (den x))) (sum (grown n low) (grown n (suc low)) b (den x))
+          (subst₂ (TellsSide side) (sym (mul-assoc 2 a (den x))) (sum (grown n low) (grown n (suc low)) b (den x))
           (t (num x * b) (a * den x) (mul-pos (unit-some x .0) some) offered (grown n low * b * den x) (grown n (suc low) * b * den x) (scaled h b i (grown n low) is (low-is ∙ ap (λ (y : ℕ). 2 ^ (y + 52)) (sym i-is))) (scaled h b j (grown n (suc low)) is (high-is ∙ ap (λ (y : ℕ). 2 ^ (y + 52)) (sym j-is))))))
         where
           sum : (y z b d : ℕ) → y * b * d + z * b * d ≡ (y + z) * b * d

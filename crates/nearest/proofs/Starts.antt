@@ -17,7 +17,7 @@ use Rattle.bounds.proofs.Powers.{Log, pow-sum}
 use Rattle.bounds.proofs.Limits.{exponent-lt, log}
 use Rattle.word.proofs.Cut.{S-head, r-head, c-head}
 use Rattle.nearest.specs.declared.size.Start.{Start}
-use Rattle.nearest.specs.Offers.{Begins}
+use Rattle.nearest.specs.Parts.{Begins}
 
 -- the bits for the characteristics 2^ρ - 1 + i and -2^ρ - i, i below 2^ρ
 pub upper : ℕ → ℕ → ℕ

@@ -17,7 +17,7 @@ use Rattle.word.proofs.Heads.{k}
 use Rattle.word.proofs.Sizes.{size, size-next}
 use Rattle.word.proofs.Meaning.{value-at, string-positive, exponent-whole}
 use Rattle.nearest.specs.declared.size.Start.{Start}
-use Rattle.nearest.specs.Offers.{Begins, IsRaised}
+use Rattle.nearest.specs.Parts.{Begins, IsRaised}
 
 -- three sizes one step apart, of which the first two are known
 on : (W E a b c t : ℕ) → W ≡ t + 2 → b ≡ a + c → a ≡ (W + t) * E → b ≡ (W + (t + 1)) * E → b + c ≡ (W + W) * E

@@ -1,3 +1,4 @@
 -- What the contracts of this crate cite.
 pub mod Nearest
 pub mod Offers
+pub mod Parts

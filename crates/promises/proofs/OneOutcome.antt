@@ -28,7 +28,7 @@ use Rattle.bounds.proofs.Verdicts.{decided-one}
 use Rattle.word.proofs.Binades.{reading-one}
 use Rattle.round.specs.declared.value.Rule.{Rule}
 -- those of a word's size, the nearest word, the hub, writing, whole numbers, binary64, columns and blocks stand beside their laws
-pub use Rattle.sizes.proofs.Normal.{reads-size-one}
+pub use Rattle.sizes.proofs.OneOutcome.{reads-size-one}
 pub use Rattle.nearest.proofs.OneOutcome.{finds-nearest-one}
 pub use Rattle.round.proofs.OneOutcome.{writes-short-one, writes-size-one, writes-long-one}
 pub use Rattle.write.proofs.OneOutcome.{writes-one, moves-one}

@@ -13,7 +13,8 @@ use Rattle.word.proofs.Units.{unit-some, raise-size, lower-by}
 use Rattle.nearest.specs.declared.size.Rest.{Rest}
 use Rattle.nearest.specs.declared.size.Side.{Side}
 use Rattle.round.specs.Writes.{IsExact}
-use Rattle.nearest.specs.Offers.{Amounts, IsOffered, Tells}
+use Rattle.nearest.specs.Offers.{Amounts, IsOffered}
+use Rattle.nearest.specs.Parts.{TellsSide}
 use Rattle.round.specs.Jamming.{Between}
 use Rattle.round.proofs.Scales.{coarser, finer}
 use Rattle.round.proofs.Signs.{exact-some}
@@ -45,7 +46,7 @@ module _ (M : ℕ) (j : ℤ) (z : ℕ) (small : M < 2 ^ 64) (is : IsSize M j z) 
       omega (arith, above, below)
 
   lower : (t : ℕ) → k ≡ j +ℤ pos (suc t) → ⊥
-  unfolding Tells
+  unfolding TellsSide
   lower t q =
       let unit = num (j +ℤ pos 307) * b in
       let above : x * 2 ^ suc t < M = lt-of-mul-lt-mul-right unit (subst (λ (y : ℕ). x * 2 ^ suc t * unit < y) (one-mul (a * den (j +ℤ pos 307)) ∙ amount M j is) (finer j (suc t) a b Side.Over 1 x (subst (λ (y : ℤ). x * (num (y +ℤ pos 307) * b) < 1 * (a * den (y +ℤ pos 307))) q (subst (λ (y : ℕ). x * (num (k +ℤ pos 307) * b) < y) (sym (one-mul (a * den (k +ℤ pos 307)))) (between .low))))) in
@@ -62,7 +63,7 @@ no-word-between n lo hi s x k a b large nonzero some between w y =
 
 -- a size between two multiples of a fine unit lies between two of a coarse one, if those lie outside
 pub coarser-between : (k : ℤ) (t a b y : ℕ) → y * 2 ^ t * (num (k +ℤ pos 307) * b) < a * den (k +ℤ pos 307) → a * den (k +ℤ pos 307) < (y + 1) * 2 ^ t * (num (k +ℤ pos 307) * b) → Between y (k +ℤ pos t) a b
-unfolding Tells
+unfolding TellsSide
 coarser-between k t a b y above under =
     record {
       low = subst (λ (x : ℕ). y * (num (k +ℤ pos t +ℤ pos 307) * b) < x) (one-mul (a * den (k +ℤ pos t +ℤ pos 307))) (coarser k t a b Side.Over 1 y (omega (arith, above)));

@@ -21,7 +21,8 @@ use Rattle.nearest.specs.declared.size.Rest.{Rest}
 use Rattle.nearest.specs.declared.size.Side.{Side}
 use Rattle.nearest.specs.Nearest.{HasValue, Nearest}
 use Rattle.round.specs.Writes.{other, IsWritten}
-use Rattle.nearest.specs.Offers.{Amounts, IsOffered, IsNearest, Tells}
+use Rattle.nearest.specs.Offers.{Amounts, IsOffered, IsNearest}
+use Rattle.nearest.specs.Parts.{TellsSide}
 use Rattle.round.specs.Offers.{withSign}
 use Rattle.round.specs.Jamming.{Between, jammed}
 use Rattle.nearest.proofs.Classes.{class-nearest}
@@ -58,14 +59,14 @@ module _ (m below i : ℕ) (k : ℤ) (a b : ℕ) (between : Between (m * 2 ^ suc
   one-coarse = one-mul (a * den (k +ℤ pos (suc i) +ℤ pos 307))
 
   under-half : below < 2 ^ i → IsOffered m Rest.UnderHalf (k +ℤ pos (suc i)) a b
-  unfolding IsOffered Amounts Tells unit amount
+  unfolding IsOffered Amounts TellsSide unit amount
   under-half l =
       let above : m * 2 ^ suc i * unit < 1 * amount = omega (arith, low) in
       let under : 2 * amount < (2 * m + 1) * 2 ^ suc i * unit = omega (arith, high, half-unit, mul-le-mul-right unit l) in
       (subst (λ (x : ℕ). m * (num (k +ℤ pos (suc i) +ℤ pos 307) * b) < x) one-coarse (coarser k (suc i) a b Side.Over 1 m above), coarser k (suc i) a b Side.Under 2 (2 * m + 1) under)
 
   over-half : 2 ^ i ≤ below → below < 2 ^ suc i → IsOffered m Rest.OverHalf (k +ℤ pos (suc i)) a b
-  unfolding IsOffered Amounts Tells unit amount
+  unfolding IsOffered Amounts TellsSide unit amount
   over-half l fits =
       let above : (2 * m + 1) * 2 ^ suc i * unit < 2 * amount = omega (arith, low, half-unit, mul-le-mul-right unit l) in
       let under : 1 * amount < (m + 1) * 2 ^ suc i * unit = omega (arith, high, mul-le-mul-right unit fits) in

@@ -12,7 +12,8 @@ use Rattle.bounds.proofs.Powers.{pow-sum, shl-below, shl-out, Log, leading-log}
 use Rattle.word.proofs.Units.{unit-some, lower-by}
 use Rattle.nearest.specs.declared.size.Rest.{Rest}
 use Rattle.nearest.specs.declared.size.Side.{Side}
-use Rattle.nearest.specs.Offers.{Amounts, IsOffered, Tells}
+use Rattle.nearest.specs.Offers.{Amounts, IsOffered}
+use Rattle.nearest.specs.Parts.{TellsSide}
 use Rattle.nearest.specs.Offers.{IsRest}
 use Rattle.round.specs.Offers.{topBits}
 use Rattle.round.proofs.Scales.{raise-offer, coarser}
@@ -37,7 +38,7 @@ module _ (m below x unit : ℕ) (some : zero < unit) (fits : below < 2 ^ 64) (is
 
 -- ---- the size of 128 bits in the units of its first 64
 pub finer-offer : (m below : ℕ) (rest : Rest) (h : ℤ) (a b : ℕ) → 0 < b → below < 2 ^ 64 → IsRest below rest → IsOffered (m * 2 ^ 64 + below) Rest.Nothing (h -ℤ pos 127) a b → IsOffered m rest (h -ℤ pos 63) a b
-unfolding IsOffered Amounts Tells
+unfolding IsOffered Amounts TellsSide
 finer-offer m below rest h a b some fits is offered =
     let k = h -ℤ pos 127 in
     let y = k +ℤ pos 64 +ℤ pos 307 in

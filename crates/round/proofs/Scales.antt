@@ -13,7 +13,8 @@ use Rattle.nearest.specs.declared.size.Rest.{Rest}
 use Rattle.nearest.specs.declared.size.Side.{Side}
 use Rattle.nearest.specs.Nearest.{distance, Nearest}
 use Rattle.round.specs.Writes.{IsRounded, zero, other, IsExact, IsWritten}
-use Rattle.nearest.specs.Offers.{IsOffered, Amounts, Tells}
+use Rattle.nearest.specs.Offers.{IsOffered, Amounts}
+use Rattle.nearest.specs.Parts.{TellsSide}
 use Rattle.word.proofs.Units.{unit-some, cross, aside}
 use Rattle.nearest.proofs.Halves.{cancel}
 use Rattle.nearest.proofs.Nearest.{distance-below, distance-above, either-side}
@@ -32,8 +33,8 @@ raise-offer m k t =
     (mul-assoc m (num (x +ℤ pos t)) (den x) ∙ ap (λ (y : ℕ). m * y) (cross x t ∙ mul-assoc (2 ^ t) (num x) (den (x +ℤ pos t))) ∙ sym (mul-assoc m (2 ^ t) (num x * den (x +ℤ pos t))))
 
 -- both sides may be multiplied by the same number
-times : (s : Side) (d x y : ℕ) → zero < d → Tells s x y → Tells s (x * d) (y * d)
-unfolding Tells
+times : (s : Side) (d x y : ℕ) → zero < d → TellsSide s x y → TellsSide s (x * d) (y * d)
+unfolding TellsSide
 times Side.Under d x y h t = mul-lt-mul-of-pos-right t h
 times Side.Midway d x y h t = ap (λ (z : ℕ). z * d) t
 times Side.Over d x y h t = mul-lt-mul-of-pos-right t h
@@ -56,19 +57,19 @@ module _ (k : ℤ) (t a b : ℕ) where
   swap c x y = omega arith
 
   -- so c times the size lies on the same side of both
-  pub coarser : (s : Side) (c y : ℕ) → Tells s (c * (a * den (k +ℤ pos 307))) (y * 2 ^ t * (num (k +ℤ pos 307) * b)) → Tells s (c * (a * den (k +ℤ pos t +ℤ pos 307))) (y * (num (k +ℤ pos t +ℤ pos 307) * b))
+  pub coarser : (s : Side) (c y : ℕ) → TellsSide s (c * (a * den (k +ℤ pos 307))) (y * 2 ^ t * (num (k +ℤ pos 307) * b)) → TellsSide s (c * (a * den (k +ℤ pos t +ℤ pos 307))) (y * (num (k +ℤ pos t +ℤ pos 307) * b))
   coarser s c y h =
       let d = den (k +ℤ pos 307) in
       let d' = den (k +ℤ pos t +ℤ pos 307) in
       cancel s d (c * (a * d')) (y * (num (k +ℤ pos t +ℤ pos 307) * b)) (unit-some (k +ℤ pos 307) .1)
-      (subst₂ (Tells s) (swap c d d') (sym (coarse-unit y)) (times s d' (c * (a * d)) (y * 2 ^ t * (num (k +ℤ pos 307) * b)) (unit-some (k +ℤ pos t +ℤ pos 307) .1) h))
+      (subst₂ (TellsSide s) (swap c d d') (sym (coarse-unit y)) (times s d' (c * (a * d)) (y * 2 ^ t * (num (k +ℤ pos 307) * b)) (unit-some (k +ℤ pos t +ℤ pos 307) .1) h))
 
-  pub finer : (s : Side) (c y : ℕ) → Tells s (c * (a * den (k +ℤ pos t +ℤ pos 307))) (y * (num (k +ℤ pos t +ℤ pos 307) * b)) → Tells s (c * (a * den (k +ℤ pos 307))) (y * 2 ^ t * (num (k +ℤ pos 307) * b))
+  pub finer : (s : Side) (c y : ℕ) → TellsSide s (c * (a * den (k +ℤ pos t +ℤ pos 307))) (y * (num (k +ℤ pos t +ℤ pos 307) * b)) → TellsSide s (c * (a * den (k +ℤ pos 307))) (y * 2 ^ t * (num (k +ℤ pos 307) * b))
   finer s c y h =
       let d = den (k +ℤ pos 307) in
       let d' = den (k +ℤ pos t +ℤ pos 307) in
       cancel s d' (c * (a * d)) (y * 2 ^ t * (num (k +ℤ pos 307) * b)) (unit-some (k +ℤ pos t +ℤ pos 307) .1)
-      (subst₂ (Tells s) (swap c d' d) (coarse-unit y) (times s d (c * (a * d')) (y * (num (k +ℤ pos t +ℤ pos 307) * b)) (unit-some (k +ℤ pos 307) .1) h))
+      (subst₂ (TellsSide s) (swap c d' d) (coarse-unit y) (times s d (c * (a * d')) (y * (num (k +ℤ pos t +ℤ pos 307) * b)) (unit-some (k +ℤ pos 307) .1) h))
 
 -- ---- a size that is offered as a / b, and z beside it
 module _ (m : ℕ) (k : ℤ) (a b : ℕ) (some : zero < b) (offered : IsOffered m Rest.Nothing k a b) (z : ℕ) where

@@ -4,3 +4,5 @@
 pub mod Tops
 -- the size in the normal form is a reading with 63 fraction bits: there is one, and its exponent is from -255 to 254
 pub mod Normal
+-- two outcomes that a contract allows are equal
+pub mod OneOutcome

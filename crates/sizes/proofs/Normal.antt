@@ -13,7 +13,6 @@ use Rattle.sizes.specs.declared.size.WordSize.{WordSize}
 use Rattle.word.specs.Takum.{Takum, real, NaR, takum, p, F, c}
 use Rattle.word.specs.Reads.{IsNumber, IsReading}
 use Rattle.sizes.specs.Sizes.{withoutSign, IsWordSize, ReadsSize}
-use Rattle.bounds.proofs.Verdicts.{decided-one}
 use Rattle.word.proofs.Words.{takum-zero, takum-NaR}
 use Rattle.word.proofs.Numbers.{characteristic-of-string}
 use Rattle.sizes.proofs.Tops.{word-number}
@@ -50,20 +49,15 @@ reads t (WordSize.Refused q) x = x
 pub word-size-one : (t : Takum) (a b : WordSize) → IsWordSize t a → IsWordSize t b → a ≡ b
 word-size-one t a b x y = sym (back a) ∙ ap sizeOf (reading-one t 63 (reading a) (reading b) (reads t a x) (reads t b y)) ∙ back b
 
--- two outcomes that the contract of `read_size` allows are equal
-pub reads-size-one : (n w : ℕ) (a b : WordSize) → ReadsSize n w a → ReadsSize n w b → a ≡ b
-unfolding ReadsSize
-reads-size-one n w a b = decided-one WordSize.Refused (IsWordSize (takum n w)) (word-size-one (takum n w)) a b
-
 -- what an answer of `read_size` tells of the word
-unfoldable pub Tells : ℕ → ℕ → WordSize → Type 0
-Tells n w WordSize.Zero = (wordTest n w ≡ Verdict.Through) × (takum n w ≡ real (pos 0))
-Tells n w WordSize.Nar = (wordTest n w ≡ Verdict.Through) × (takum n w ≡ NaR)
-Tells n w (WordSize.Number s) = (wordTest n w ≡ Verdict.Through) × IsNumber (takum n w) 63 (s .negative) (s .h) (s .m) 63
-Tells n w (WordSize.Refused q) = wordTest n w ≡ Verdict.Refused q
+unfoldable pub TellsWord : ℕ → ℕ → WordSize → Type 0
+TellsWord n w WordSize.Zero = (wordTest n w ≡ Verdict.Through) × (takum n w ≡ real (pos 0))
+TellsWord n w WordSize.Nar = (wordTest n w ≡ Verdict.Through) × (takum n w ≡ NaR)
+TellsWord n w (WordSize.Number s) = (wordTest n w ≡ Verdict.Through) × IsNumber (takum n w) 63 (s .negative) (s .h) (s .m) 63
+TellsWord n w (WordSize.Refused q) = wordTest n w ≡ Verdict.Refused q
 
-pub tells : (n w : ℕ) (a : WordSize) → ReadsSize n w a → Tells n w a
-unfolding ReadsSize IsWordSize Tells
+pub tells : (n w : ℕ) (a : WordSize) → ReadsSize n w a → TellsWord n w a
+unfolding ReadsSize IsWordSize TellsWord
 tells n w WordSize.Zero (through h x) = (h, x)
 tells n w WordSize.Zero (refused h x) = let z : _≡_ {A = ℕ} 0 1 = cc in absurd (omega arith)
 tells n w WordSize.Nar (through h x) = (h, x)

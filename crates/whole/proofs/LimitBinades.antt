@@ -8,7 +8,7 @@ use lib.IntN.{pos}
 use Rattle.bounds.proofs.Powers.{Log, pow-sum}
 use Rattle.bounds.proofs.Limits.{exponent-lt}
 use Rattle.word.proofs.Sizes.{size}
-use Rattle.nearest.specs.Offers.{IsRaised, Begins}
+use Rattle.nearest.specs.Parts.{IsRaised, Begins}
 use Rattle.nearest.proofs.Starts.{upper-begins}
 use Rattle.nearest.proofs.Strings.{Binade, binade-of, size-in-binade}
 

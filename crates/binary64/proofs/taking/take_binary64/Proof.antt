@@ -22,7 +22,7 @@ use Rattle.bounds.specs.Refusals.{wordTest, through, refused}
 use Rattle.word.specs.Takum.{Takum, takum}
 use Rattle.word.specs.Reads.{IsNumber}
 use Rattle.bounds.proofs.Verdicts.{word-through}
-use Rattle.sizes.proofs.Normal.{Tells, tells, exponent-small}
+use Rattle.sizes.proofs.Normal.{TellsWord, tells, exponent-small}
 use Rattle.binary64.specs.declared.taking.Binary64.{Binary64}
 use Rattle.binary64.specs.Takes.{IsTakenBinary64, TakesBinary64}
 use Rattle.binary64.proofs.Closest.{closest-range}
@@ -33,8 +33,8 @@ use Rattle.binary64.proofs.taking.take_binary64.Statement.{statement}
 use Rattle.binary64.proofs.taking.take_binary64.Tie as tie
 
 -- what the word's size tells
-told : (c : tie.After-read-size) {a : WordSize} → c .read-size .result ≡ a → Tells (c .before .args .width .bits) (c .before .args .word) a
-told c q = subst (Tells _ _) q (tells _ _ _ (c .read-size .ensures))
+told : (c : tie.After-read-size) {a : WordSize} → c .read-size .result ≡ a → TellsWord (c .before .args .width .bits) (c .before .args .word) a
+told c q = subst (TellsWord _ _) q (tells _ _ _ (c .read-size .ensures))
 
 -- a number, its size, and its exponent as the machine raises it
 module _ (k : tie.After-struct-told) where
@@ -45,7 +45,7 @@ module _ (k : tie.After-struct-told) where
   size = k .before .before .before .size .given .0 .0
 
   word : (wordTest (g .before .args .width .bits) (g .before .args .word) ≡ Verdict.Through) × IsNumber (takum (g .before .args .width .bits) (g .before .args .word)) 63 (size .negative) (size .h) (size .m) 63
-  unfolding Tells
+  unfolding TellsWord
   word = told g (k .before .before .before .size .given .1)
 
   up : (j : ℕ) × (size .h +ℤ pos 971 ≡ pos (j + 11)) × (size .h +ℤ pos 1023 ≡ pos (j + 63)) × (704 ≤ j) × (j ≤ 1215)
@@ -117,12 +117,12 @@ enum-known-q : tie.Need-enum-known-q
 enum-known-q c = search needs
 
 returns : tie.Need-returns
-unfolding TakesBinary64 Tells
+unfolding TakesBinary64 TellsWord
 returns c = let x = told (c .before .before) (c .enum-told .given .1) in
     through (x .0) (zero-taken _ (x .1))
 
 returns-2 : tie.Need-returns-2
-unfolding TakesBinary64 Tells IsTakenBinary64
+unfolding TakesBinary64 TellsWord IsTakenBinary64
 returns-2 c = let x = told (c .before .before) (c .enum-told2 .given .1) in
     through (x .0) (subst (λ (t : Takum). IsTakenBinary64 t Binary64.Nar) (sym (x .1)) refl)
 
@@ -132,7 +132,7 @@ returns-3 c = let k = c .before .before .before in
     (subst₂ (λ (s : Bool) (a : ℕ). HasValue (c .number .result) s a (2 ^ 1023)) (sign-back (size k .negative)) (ap₂ (λ (q j : ℕ). q * 2 ^ j) (c .before .to-53-digits .ensures) (raised k)) (c .number .ensures))
 
 returns-4 : tie.Need-returns-4
-unfolding TakesBinary64 Tells
+unfolding TakesBinary64 TellsWord
 returns-4 c = refused (told (c .before .before .before) (c .before .q .given .1)) refl
 
 pub take-binary64-spec : {M : Type 1} → statement M

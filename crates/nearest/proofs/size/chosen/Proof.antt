@@ -1,6 +1,6 @@
 -- `chosen` meets its contract. Assumes nothing.
 use mathlib.Core.Path.{sym, ap}
-use Rattle.nearest.specs.Offers.{chosenOf}
+use Rattle.nearest.specs.Parts.{chosenOf}
 use borrow.Author.Needs.{needs}
 use Rattle.nearest.proofs.size.chosen.Statement.{statement}
 use Rattle.nearest.proofs.size.chosen.Tie as tie

@@ -11,7 +11,7 @@ use mir.Syntax.{w32}
 use mir.Val.{toZ, ofZ}
 use Rattle.word.specs.Takum as Takum
 use Rattle.word.proofs.Numbers.{characteristic-of-string}
-use Rattle.nearest.specs.Offers.{IsRaised}
+use Rattle.nearest.specs.Parts.{IsRaised}
 use Rattle.nearest.proofs.size.exponent.Statement.{statement}
 use Rattle.nearest.proofs.size.exponent.Tie as tie
 

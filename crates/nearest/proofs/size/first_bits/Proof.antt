@@ -7,7 +7,7 @@ use borrow.Author.Needs.{needs}
 use lib.Pow.{shl-exact, shr-le, shr-shr, shl-shr}
 use Rattle.nearest.specs.declared.size.Start.{Start}
 use Rattle.bounds.proofs.Powers.{shl-below}
-use Rattle.nearest.specs.Offers.{firstBits}
+use Rattle.nearest.specs.Parts.{firstBits}
 use Rattle.nearest.proofs.size.first_bits.Statement.{statement}
 use Rattle.nearest.proofs.size.first_bits.Tie as tie
 

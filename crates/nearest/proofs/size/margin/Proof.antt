@@ -1,6 +1,6 @@
 -- `margin` meets its contract. Assumes nothing.
 use mathlib.Core.Path.{sym, ap}
-use Rattle.nearest.specs.Offers.{marginOf}
+use Rattle.nearest.specs.Parts.{marginOf}
 use borrow.Author.Needs.{needs}
 use Rattle.nearest.proofs.size.margin.Statement.{statement}
 use Rattle.nearest.proofs.size.margin.Tie as tie

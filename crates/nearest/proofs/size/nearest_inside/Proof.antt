@@ -12,7 +12,7 @@ use Rattle.nearest.proofs.Hub as Hub
 use Rattle.nearest.proofs.Hub.{start-lt, below-end, at-zero, at-end, by-powers, by-cut}
 use Rattle.nearest.proofs.Sides.{Given, lower-lt, gap-le, upper-small, under-upper}
 use Rattle.nearest.proofs.Exponents.{raise, raised-inj}
-use Rattle.nearest.specs.Offers.{Begins, firstBits, IsRaised, TellsPowers}
+use Rattle.nearest.specs.Parts.{Begins, firstBits, IsRaised, TellsPowers}
 use Rattle.nearest.proofs.size.nearest_inside.Statement.{statement}
 use Rattle.nearest.proofs.size.nearest_inside.Tie as tie
 

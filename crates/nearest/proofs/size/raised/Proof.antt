@@ -9,7 +9,7 @@ use mir.Syntax.{w32}
 use mir.Val.{Fits, SFits, toZ, ofZ}
 use mir.Facts.{toZ-ofZ}
 use Rattle.nearest.proofs.Exponents.{raise}
-use Rattle.nearest.specs.Offers.{IsRaised}
+use Rattle.nearest.specs.Parts.{IsRaised}
 use Rattle.nearest.proofs.size.raised.Statement.{statement}
 use Rattle.nearest.proofs.size.raised.Tie as tie
 

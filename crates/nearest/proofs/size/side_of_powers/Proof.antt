@@ -7,7 +7,7 @@ use native.Mathlib.Nat.{eq-or-lt-of-le}
 use borrow.Author.Needs.{needs}
 use Rattle.nearest.proofs.Halves.{far-under, near, wide-over, rest-side, rest-decides, for-powers}
 use Rattle.bounds.proofs.Powers.{one-shl}
-use Rattle.nearest.specs.Offers.{TellsHalf}
+use Rattle.nearest.specs.Parts.{TellsHalf}
 use Rattle.nearest.proofs.size.side_of_powers.Statement.{statement}
 use Rattle.nearest.proofs.size.side_of_powers.Tie as tie
 

@@ -8,7 +8,7 @@ use lib.Dec.{lit<}
 use lib.IntN.{pos}
 use lib.Count.{leadingZeros}
 use Rattle.bounds.proofs.Powers.{Log, leading-log}
-use Rattle.nearest.specs.Offers.{Begins}
+use Rattle.nearest.specs.Parts.{Begins}
 use Rattle.nearest.proofs.Starts.{upper-begins, shifted-upper, upper-small}
 use Rattle.nearest.proofs.size.start_above.Statement.{statement}
 use Rattle.nearest.proofs.size.start_above.Tie as tie

@@ -8,7 +8,7 @@ use lib.Dec.{lit<}
 use lib.IntN.{negsuc}
 use lib.Count.{leadingZeros}
 use Rattle.bounds.proofs.Powers.{Log, leading-log}
-use Rattle.nearest.specs.Offers.{Begins}
+use Rattle.nearest.specs.Parts.{Begins}
 use Rattle.nearest.proofs.Starts.{lower-begins, shifted-lower, room-lower, regime-small}
 use Rattle.nearest.proofs.size.start_below.Statement.{statement}
 use Rattle.nearest.proofs.size.start_below.Tie as tie

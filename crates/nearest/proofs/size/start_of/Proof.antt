@@ -7,7 +7,7 @@ use lib.Signed.{mag}
 use lib.IntN.{ℤ, pos, negsuc}
 use mir.Syntax.{w32}
 use Rattle.word.proofs.Casts.{not-negative, is-negative, tested, plain-cast, plain-value, complement-fits, complement-cast, complement-more, complement-value}
-use Rattle.nearest.specs.Offers.{Begins}
+use Rattle.nearest.specs.Parts.{Begins}
 use Rattle.nearest.proofs.size.start_of.Statement.{statement}
 use Rattle.nearest.proofs.size.start_of.Tie as tie
 

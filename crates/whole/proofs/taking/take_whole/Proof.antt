@@ -7,7 +7,7 @@ use Rattle.bounds.specs.Refusals.{through, refused}
 use Rattle.sizes.specs.declared.size.WordSize.{WordSize}
 use Rattle.word.specs.Takum.{Takum}
 use Rattle.word.specs.Reads.{signedSize}
-use Rattle.sizes.proofs.Normal.{Tells, tells}
+use Rattle.sizes.proofs.Normal.{TellsWord, tells}
 use Rattle.write.specs.Writes.{isNegative}
 use Rattle.whole.specs.declared.taking.Whole.{Whole}
 use Rattle.whole.specs.Wholes.{overTest, IsTakenWhole, TakesWhole}
@@ -17,8 +17,8 @@ use Rattle.whole.proofs.taking.take_whole.Statement.{statement}
 use Rattle.whole.proofs.taking.take_whole.Tie as tie
 
 -- what the word's size tells
-told : (c : tie.After-read-size) {a : WordSize} → c .read-size .result ≡ a → Tells (c .before .args .width .bits) (c .before .args .word) a
-told c q = subst (Tells _ _) q (tells _ _ _ (c .read-size .ensures))
+told : (c : tie.After-read-size) {a : WordSize} → c .read-size .result ≡ a → TellsWord (c .before .args .width .bits) (c .before .args .word) a
+told c q = subst (TellsWord _ _) q (tells _ _ _ (c .read-size .ensures))
 
 read-size-requires : tie.Need-read-size-requires
 read-size-requires c κs = search needs
@@ -36,30 +36,30 @@ enum-known-size : tie.Need-enum-known-size
 enum-known-size c = search needs
 
 take-number-requires : tie.Need-take-number-requires
-unfolding Tells
+unfolding TellsWord
 take-number-requires c κs = told (c .before .before .before) (c .before .size .given .1) .1 .low
 
 enum-known-q : tie.Need-enum-known-q
 enum-known-q c = search needs
 
 returns : tie.Need-returns
-unfolding TakesWhole Tells valueOf signedSize isNegative overTest
+unfolding TakesWhole TellsWord valueOf signedSize isNegative overTest
 returns c = let rule = c .before .before .before .before .args .rule in
     let x = told (c .before .before .before) (c .before .enum-told .given .1) in
     through (x .0) (subst₂ (IsTakenWhole rule) (sym (x .1)) (sym (c .by-rule .ensures ∙ exactly rule (pos 0))) (taken-as-itself rule (pos 0) refl))
 
 returns-2 : tie.Need-returns-2
-unfolding TakesWhole Tells IsTakenWhole
+unfolding TakesWhole TellsWord IsTakenWhole
 returns-2 c = let x = told (c .before .before) (c .enum-told2 .given .1) in
     through (x .0) (subst (λ (t : Takum). IsTakenWhole (c .before .before .before .args .rule) t (Whole.Refused Refusal.Nar)) (sym (x .1)) refl)
 
 returns-3 : tie.Need-returns-3
-unfolding TakesWhole TakesSize Tells
+unfolding TakesWhole TakesSize TellsWord
 returns-3 c = let x = told (c .before .before .before .before) (c .before .before .size .given .1) in
     through (x .0) (c .take-number .ensures _ (x .1 .v) (x .1 .means) (x .1 .size))
 
 returns-4 : tie.Need-returns-4
-unfolding TakesWhole Tells
+unfolding TakesWhole TellsWord
 returns-4 c = refused (told (c .before .before .before) (c .before .q .given .1)) refl
 
 pub take-whole-spec : {M : Type 1} → statement M

@@ -12,7 +12,7 @@ use Rattle.sizes.specs.declared.size.Size.{Size}
 use Rattle.sizes.specs.declared.size.WordSize.{WordSize}
 use Rattle.word.specs.Reads.{IsNumber}
 use Rattle.word.specs.Takum.{Takum, takum}
-use Rattle.sizes.proofs.Normal.{Tells, tells}
+use Rattle.sizes.proofs.Normal.{TellsWord, tells}
 use Rattle.round.specs.Writes.{WritesShort, WritesSize}
 use Rattle.round.proofs.Rules.{zero-written}
 use Rattle.write.specs.Writes.{isNegative, IsMoved, Moves}
@@ -21,8 +21,8 @@ use Rattle.write.proofs.moving.move_word.Statement.{statement}
 use Rattle.write.proofs.moving.move_word.Tie as tie
 
 -- what the word's size tells
-told : (c : tie.After-read-size) {a : WordSize} → c .read-size .result ≡ a → Tells (c .before .before .before .before .args .from .bits) (c .before .before .before .before .args .word) a
-told c q = subst (Tells _ _) q (tells _ _ _ (c .read-size .ensures))
+told : (c : tie.After-read-size) {a : WordSize} → c .read-size .result ≡ a → TellsWord (c .before .before .before .before .args .from .bits) (c .before .before .before .before .args .word) a
+told c q = subst (TellsWord _ _) q (tells _ _ _ (c .read-size .ensures))
 
 -- both widths and the word, in the order of the paper
 module _ (c : tie.After-enum-told) where
@@ -44,7 +44,7 @@ module _ (k : tie.After-known-told3) where
   size = k .before .size .given .0 .0
 
   number : (wordTest (g .before .before .before .before .args .from .bits) (g .before .before .before .before .args .word) ≡ Verdict.Through) × IsNumber (takum (g .before .before .before .before .args .from .bits) (g .before .before .before .before .args .word)) 63 (size .negative) (size .h) (size .m) 63
-  unfolding Tells
+  unfolding TellsWord
   number = told g (k .before .size .given .1)
 
 test-requires : tie.Need-test-requires
@@ -83,12 +83,12 @@ write-size-requires : tie.Need-write-size-requires
 write-size-requires c κs = search needs
 
 returns-2 : tie.Need-returns-2
-unfolding Moves Tells
+unfolding Moves TellsWord
 returns-2 c = let k = c .before .before .before in
     refused (tested (k .before) (told k (c .before .q .given .1))) refl
 
 returns-3 : tie.Need-returns-3
-unfolding Moves Tells IsMoved isNegative
+unfolding Moves TellsWord IsMoved isNegative
 returns-3 c = let k = c .before .before in
     let s = k .before .before .before .before in
     let x = told k (c .enum-told2 .given .1) in
@@ -96,7 +96,7 @@ returns-3 c = let k = c .before .before in
     through (tested (k .before) (x .0)) (subst (λ (t : Takum). IsMoved (s .args .to .bits) (s .args .rule) t (Answer.Word 0)) (sym (x .1)) (zero-written (s .args .to .bits) (t .0) (t .1) (s .args .rule) false 0 1 refl))
 
 returns-4 : tie.Need-returns-4
-unfolding Moves Tells IsMoved GivesWord
+unfolding Moves TellsWord IsMoved GivesWord
 returns-4 c = let k = c .before .before .before in
     let s = k .before .before .before .before in
     let x = told k (c .before .enum-told3 .given .1) in

@@ -13,7 +13,7 @@ use Rattle.word.specs.Reads.{num, den}
 use Rattle.bounds.proofs.Powers.{pow-sum}
 use Rattle.word.proofs.Integers.{balance, sub-add}
 use Rattle.word.proofs.Signed.{difference}
-use Rattle.nearest.specs.Parts.{IsRaised}
+use Rattle.nearest.specs.Parts.{IsRaised, TellsCharacteristic}
 
 pub raise : (h : ℤ) → mag h ≤ 254 → (e : ℕ) × (h +ℤ pos 255 ≡ pos e) × (e < 510)
 raise (pos n) b = (n + 255, refl, omega (arith, b))
@@ -52,14 +52,14 @@ pub offset-down : (i : ℕ) → 244 ≤ i → negsuc i -ℤ pos 63 +ℤ pos 307 
 offset-down i h = sub-add (negsuc i) (pos 63) (pos 307) ∙ +ℤ-assoc (negsuc i) (pos 307) (negsuc 62) ∙ rw (lt-ltb 244 (suc i) (omega (arith, h))) (ap negsuc (omega (arith, h)))
 
 -- what the tests for the ends tell
-pub above-range : (h : ℤ) → ltZ (pos 254) h ≡ true → (i : ℕ) × (h ≡ pos i) × (254 < i)
-above-range (pos i) t = (i, refl, ltb-true 254 i t)
-above-range (negsuc i) t = absurd (true≢false (sym t))
+pub before-all : (h : ℤ) → ltZ h (negsuc 254) ≡ true → TellsCharacteristic h false
+unfolding TellsCharacteristic
+before-all (pos i) t = absurd (true≢false (sym t))
+before-all (negsuc i) t = ltb-true 254 i t
 
-pub below-range : (h : ℤ) → ltZ h (negsuc 254) ≡ true → (i : ℕ) × (h ≡ negsuc i) × (254 < i)
-below-range (pos i) t = absurd (true≢false (sym t))
-below-range (negsuc i) t = (i, refl, ltb-true 254 i t)
-
-pub in-range : (h : ℤ) → ltZ (pos 254) h ≡ false → ltZ h (negsuc 254) ≡ false → mag h ≤ 254
-in-range (pos i) s t = ltb-false 254 i s
-in-range (negsuc i) s t = ltb-false 254 i t
+pub by-last : (h : ℤ) → ltZ h (negsuc 254) ≡ false → (b : Bool) → ltZ h (pos 255) ≡ b → TellsCharacteristic h b
+unfolding TellsCharacteristic
+by-last (pos i) s true t = omega (arith, ltb-true i 255 t)
+by-last (pos i) s false t = omega (arith, ltb-false i 255 t)
+by-last (negsuc i) s true t = ltb-false 254 i s
+by-last (negsuc i) s false t = absurd (true≢false t)

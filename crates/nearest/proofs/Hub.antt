@@ -6,10 +6,10 @@ use native.Mathlib.Nat.{mul-one, add-mul, mul-le-mul-right, mul-le-mul, le-trans
 use native.Mathlib.Numerals.{add-one}
 use native.Mathlib.Omega.{arith}
 use lib.IntN.{ℤ, pos, negsuc, _-ℤ_}
-use lib.Pow.{pow-pos, pow-mono, shr-lt}
+use lib.Pow.{pow-pos, pow-mono, shr-lt, mod-mod-pow}
 use Rattle.word.specs.Takum.{S, c}
 use Rattle.word.specs.Reads.{num, den}
-use Rattle.bounds.proofs.Powers.{pow-sum, shl-below, shr-none}
+use Rattle.bounds.proofs.Powers.{pow-sum, shl-below, shl-out, shr-none}
 use Rattle.word.proofs.Sizes.{size-above, size-below}
 use Rattle.word.proofs.Values.{grown, grown-suc}
 use Rattle.nearest.specs.declared.size.Rest.{Rest}
@@ -32,6 +32,18 @@ unfolding S
 start-lt h start begins =
     lt-of-mul-lt-mul-right (2 ^ (59 - start .r))
     (subst (λ (x : ℕ). start .bits * 2 ^ (59 - start .r) < x) (sym (pow-sum (4 + start .r) (59 - start .r) 63 (omega (arith, begins .regime)))) (lt-of-le-of-lt (le-add-right (start .bits * 2 ^ (59 - start .r)) 0) (shr-none 63 (start .bits * 2 ^ (59 - start .r) + 0) (begins .sign 0 (pow-pos (59 - start .r))))))
+
+-- a shift by one and one by k drop what one shift by both drops
+pub two-shifts : (m k j : ℕ) → k ≤ 64 → j ≡ 1 + k → m * 2 ^ 1 % 2 ^ 64 * 2 ^ k % 2 ^ 64 ≡ m * 2 ^ j % 2 ^ 64
+two-shifts m k j h q =
+    shl-out (m * 2 ^ 1 % 2 ^ 64) k h ∙ ap (λ (x : ℕ). x * 2 ^ k) kept ∙ sym (shl-out (m * 2 ^ 1) k h)
+    ∙ ap (λ (x : ℕ). x % 2 ^ 64) (mul-assoc m (2 ^ 1) (2 ^ k) ∙ ap (λ (x : ℕ). m * x) (pow-sum 1 k j (sym q)))
+  where
+    kept : m * 2 ^ 1 % 2 ^ 64 % 2 ^ (64 - k) ≡ m * 2 ^ 1 % 2 ^ (64 - k)
+    kept = ap (λ (i : ℕ). m * 2 ^ 1 % 2 ^ i % 2 ^ (64 - k)) whole ∙ mod-mod-pow (m * 2 ^ 1) k (64 - k)
+      where
+        whole : 64 ≡ k + (64 - k)
+        whole = omega (arith, h)
 
 module _ (n : ℕ) (lo : 2 ≤ n) (hi : n ≤ 64) where
   last : ℕ

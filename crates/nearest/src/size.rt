@@ -5,12 +5,11 @@ use bounds::width::Width;
 use word::fields::cut;
 ghost use mathlib.Core.Path.{_≡_};
 ghost use Prim.Native.Nat.{_+_, _-_, _*_, _^_, _≤_, _<_};
-ghost use lib.IntN.{pos, negsuc};
 ghost use lib.Signed.{mag};
 ghost use Rattle.word.specs.Takum as Takum;
 ghost use Rattle.bounds.specs.Refusals.{IsWord};
 ghost use Rattle.nearest.specs.Offers.{FindsNearest, IsNearest, IsRest};
-ghost use Rattle.nearest.specs.Parts.{Begins, firstBits, IsRaised, TellsHalf, TellsPowers, chosenOf, marginOf, ChoosesByCut};
+ghost use Rattle.nearest.specs.Parts.{TellsCharacteristic, Begins, characteristicAt, leadOf, firstBits, IsRaised, TellsHalf, TellsPowers, chosenOf, marginOf, ChoosesByCut};
 
 // What lies below the last unit of a significand.
 pub enum Rest {
@@ -66,17 +65,27 @@ fn nearest_word(n: u32, h: i64, m: u64, rest: Rest) -> u64
     requires { ⌜ (2 ≤ n) × (n ≤ 64) × (2 ^ 63 ≤ m) ⌝ }
     ensures { λ w. ⌜ IsNearest n h m rest w ⌝ }
 {
-    if 254 < h {
-        return last_word(n);
+    if is_characteristic(h) {
+        return nearest_inside(n, h, m, rest);
     }
-    if h < -255 {
+    if h < 0 {
         return 1;
     }
-    nearest_inside(n, h as i32, m, rest)
+    last_word(n)
+}
+
+// Both ends in one answer, which the machine has by one test.
+fn is_characteristic(h: i64) -> bool
+    ensures { λ b. ⌜ TellsCharacteristic h b ⌝ }
+{
+    if h < -255 {
+        return false;
+    }
+    h < 255
 }
 
 // The same where h is a characteristic.
-fn nearest_inside(n: u32, h: i32, m: u64, rest: Rest) -> u64
+fn nearest_inside(n: u32, h: i64, m: u64, rest: Rest) -> u64
     requires { ⌜ (2 ≤ n) × (n ≤ 64) × (2 ^ 63 ≤ m) × (mag h ≤ 254) ⌝ }
     ensures { λ w. ⌜ IsNearest n h m rest w ⌝ }
 {
@@ -97,7 +106,7 @@ fn nearest_inside(n: u32, h: i32, m: u64, rest: Rest) -> u64
         );
     }
     // Where it falls in the fraction, words are evenly spaced and the bits that are cut off decide.
-    chosen_by_cut(low, m << (n - start.r - 4), rest)
+    chosen_by_cut(low, (m << 1) << (n - start.r - 5), rest)
 }
 
 // Low or low + 1, halfway the even one.
@@ -143,38 +152,52 @@ fn last_word(n: u32) -> u64
     (1 << (n - 1)) - 1
 }
 
-fn start_of(c: i32) -> Start
+fn start_of(c: i64) -> Start
     requires { ⌜ mag c ≤ 254 ⌝ }
     ensures { λ s. ⌜ Begins c s ⌝ }
 {
+    start_at(c < 0, size_at(c))
+}
+
+// c + 1, or -c below zero.
+fn size_at(c: i64) -> u64
+    ensures { λ x. ⌜ x ≡ mag c + 1 ⌝ }
+{
     if c < 0 {
-        return start_below((-1 - c) as u64 + 1);
+        return (-1 - c) as u64 + 1;
     }
-    start_above(c as u64 + 1)
+    c as u64 + 1
 }
 
-// The characteristic is size - 1, and the regime floor(log2 size).
-fn start_above(size: u64) -> Start
+// The characteristic is size - 1, or -size below zero, and the regime floor(log2 size). The two sides differ in what is added at the end and in
+// the number that is shifted, so that the machine chooses between numbers and doesn't jump.
+fn start_at(below: bool, size: u64) -> Start
     requires { ⌜ (0 < size) × (size ≤ 255) ⌝ }
-    ensures { λ s. ⌜ Begins (pos (size - 1)) s ⌝ }
+    ensures { λ s. ⌜ Begins (characteristicAt below size) s ⌝ }
 {
     let r = 63 - u64::leading_zeros(size);
+    let first = lead(below, r) << r;
+    if below {
+        return Start {
+            bits: first - 1 - size,
+            r,
+        };
+    }
     Start {
-        bits: ((7 + r as u64) << r) + size,
+        bits: first + size,
         r,
     }
 }
 
-// The characteristic is -size, and the regime floor(log2 size).
-fn start_below(size: u64) -> Start
-    requires { ⌜ (0 < size) × (size ≤ 255) ⌝ }
-    ensures { λ s. ⌜ Begins (negsuc (size - 1)) s ⌝ }
+// Direction and regime bits, raised or lowered by what of the size goes into them.
+fn lead(below: bool, r: u32) -> u64
+    requires { ⌜ r ≤ 7 ⌝ }
+    ensures { λ x. ⌜ x ≡ leadOf below r ⌝ }
 {
-    let r = 63 - u64::leading_zeros(size);
-    Start {
-        bits: ((9 - r as u64) << r) - 1 - size,
-        r,
+    if below {
+        return 9 - r as u64;
     }
+    7 + r as u64
 }
 
 // The first 64 bits of a size's endless string, its sign among them.
@@ -231,10 +254,10 @@ fn exponent(n: u32, word: u64) -> u32
     requires { ⌜ IsWord n word × (0 < word) × (word < 2 ^ (n - 1)) ⌝ }
     ensures { λ e. ⌜ IsRaised (Takum.c 64 (word * 2 ^ (64 - n))) e ⌝ }
 {
-    raised(cut(word << (64 - n)).c)
+    raised(cut(word << (64 - n)).c as i64)
 }
 
-fn raised(h: i32) -> u32
+fn raised(h: i64) -> u32
     requires { ⌜ mag h ≤ 254 ⌝ }
     ensures { λ e. ⌜ IsRaised h e ⌝ }
 {

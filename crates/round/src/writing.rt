@@ -11,7 +11,7 @@ use sizes::size::size_of;
 ghost use mathlib.Core.Path.{_≡_};
 ghost use Prim.Native.Nat.{_+_, _-_, _*_, _^_, _≤_, _<_};
 ghost use Rattle.round.specs.Writes.{WritesLong, WritesShort, WritesSize};
-ghost use Rattle.round.specs.Offers.{RoundsSize, Settles, TellsSize, WritesFiner, WritesTimes, topBits, withSign};
+ghost use Rattle.round.specs.Offers.{Rounds, Settles, TellsSize, WritesFiner, WritesTimes, WritesZero, topBits, withSign};
 
 // The word for a long value: the nearest, or exactly that value or INEXACT.
 pub fn write_long(width: Width, rule: Rule, value: LongValue) -> Answer
@@ -31,12 +31,8 @@ pub fn write_long(width: Width, rule: Rule, value: LongValue) -> Answer
 pub fn write_short(width: Width, rule: Rule, negative: bool, m: u64, k: i32) -> Answer
     ensures { λ r. ⌜ WritesShort (width .bits) rule negative m k r ⌝ }
 {
-    let verdict = width.test();
-    if let Verdict::Refused(q) = verdict {
-        return Answer::Refused(q);
-    }
     if m == 0 {
-        return Answer::Word(0);
+        return zero_word(width);
     }
     let zeros = u64::leading_zeros(m);
     let h = k as i64 + (63 - zeros) as i64;
@@ -49,19 +45,25 @@ pub fn write_short(width: Width, rule: Rule, negative: bool, m: u64, k: i32) -> 
 pub fn write_size(width: Width, rule: Rule, size: Size) -> Answer
     ensures { λ r. ⌜ WritesSize (width .bits) rule size r ⌝ }
 {
-    let verdict = width.test();
-    if let Verdict::Refused(q) = verdict {
-        return Answer::Refused(q);
-    }
     let m = size.m;
     if m == 0 {
-        return Answer::Word(0);
+        return zero_word(width);
     }
     let zeros = u64::leading_zeros(m);
     let h = size.h as i64 - zeros as i64;
     let full = m << zeros;
     let word = rounded(width, size.negative, h, full, 0);
     by_rule(width, rule, h, full, word)
+}
+
+// What is written for zero.
+fn zero_word(width: Width) -> Answer
+    ensures { λ r. ⌜ WritesZero (width .bits) r ⌝ }
+{
+    match width.test() {
+        Verdict::Through => Answer::Word(0),
+        Verdict::Refused(q) => Answer::Refused(q),
+    }
 }
 
 // What is written for a significand that goes past 64 bits. Its first 64 stand in m, the others below.
@@ -100,13 +102,12 @@ fn write_finer(width: Width, rule: Rule, negative: bool, h: i64, m: u64, below: 
     }
 }
 
-// The word that is nearest to the size (m + below * 2^-64) * 2^(h - 63) with its sign. Whoever writes calls this and then `by_rule`: so this is
-// compiled once, and the rule where it is known.
+// The word that is nearest to the size (m + below * 2^-64) * 2^(h - 63) with its sign, or 0, which is nearest to none, where the width is refused:
+// `nearest` tests it, and once is enough. Whoever writes calls this and then `by_rule`: so this is compiled once, and the rule where it is known.
 fn rounded(width: Width, negative: bool, h: i64, m: u64, below: u64) -> u64
-    requires { ⌜ (2 ≤ width .bits) × (width .bits ≤ 64) × (2 ^ 63 ≤ m) ⌝ }
-    ensures { λ w. ⌜ RoundsSize (width .bits) negative h m below w ⌝ }
+    requires { ⌜ 2 ^ 63 ≤ m ⌝ }
+    ensures { λ w. ⌜ Rounds (width .bits) negative h m below w ⌝ }
 {
-    // The width is good, so the refusal never comes.
     match nearest(width, h, m, below) {
         Answer::Word(word) => with_sign(width.bits, negative, word),
         Answer::Refused(_) => 0,
@@ -115,9 +116,12 @@ fn rounded(width: Width, negative: bool, h: i64, m: u64, below: u64) -> u64
 
 // The nearest word by the rule: by the strict one only where it has the size m * 2^(h - 63). If any word has it, that is the nearest.
 fn by_rule(width: Width, rule: Rule, h: i64, m: u64, word: u64) -> Answer
-    requires { ⌜ (2 ≤ width .bits) × (width .bits ≤ 64) × (2 ^ 63 ≤ m) ⌝ }
+    requires { ⌜ (2 ^ 63 ≤ m) × (0 < word → (2 ≤ width .bits) × (width .bits ≤ 64)) ⌝ }
     ensures { λ r. ⌜ Settles (width .bits) rule h m word r ⌝ }
 {
+    if word == 0 {
+        return Answer::Refused(Refusal::Width);
+    }
     match rule {
         Rule::Rounded => Answer::Word(word),
         Rule::Strict => {

@@ -9,10 +9,10 @@ use lib.IntN.{ℤ}
 use mir.Facts.{toZ-ofZ}
 use Rattle.bounds.specs.Refusals.{IsWord}
 use Rattle.nearest.proofs.Hub as Hub
-use Rattle.nearest.proofs.Hub.{start-lt, below-end, at-zero, at-end, by-powers, by-cut}
+use Rattle.nearest.proofs.Hub.{two-shifts, start-lt, below-end, at-zero, at-end, by-powers, by-cut}
 use Rattle.nearest.proofs.Sides.{Given, lower-lt, gap-le, upper-small, under-upper}
 use Rattle.nearest.proofs.Exponents.{raise, raised-inj}
-use Rattle.nearest.specs.Parts.{Begins, firstBits, IsRaised, TellsPowers}
+use Rattle.nearest.specs.Parts.{Begins, firstBits, IsRaised, TellsPowers, ChoosesByCut}
 use Rattle.nearest.proofs.size.nearest_inside.Statement.{statement}
 use Rattle.nearest.proofs.size.nearest_inside.Tie as tie
 
@@ -170,7 +170,10 @@ unfolding low
 returns-4 c =
     let b = c .before .before .before .before in
     let k = b .before .before .before in
-    by-cut _ (lo k) (hi k) _ _ _ _ _ (raised-is k) (begins k) (full k) (top k) _ (is k) (first (b .before .before)) (omega (arith, room b)) (c .before .before .if3 .left) _ (c .chosen-by-cut .ensures)
+    let fine = c .before .before .if3 .left in
+    let kept = k .before .before .args .n - k .before .start-of .result .r in
+    by-cut _ (lo k) (hi k) _ _ _ _ _ (raised-is k) (begins k) (full k) (top k) _ (is k) (first (b .before .before)) (omega (arith, room b)) fine _
+    (subst (λ (cut : ℕ). ChoosesByCut (low k) cut (k .before .before .args .rest) (c .chosen-by-cut .result)) (two-shifts (k .before .before .args .m) (kept - 5) (kept - 4) (omega (arith, hi k)) (omega (arith, fine))) (c .chosen-by-cut .ensures))
 
 pub nearest-inside-spec : {M : Type 1} → statement M
 nearest-inside-spec =

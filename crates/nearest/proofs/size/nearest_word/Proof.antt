@@ -1,62 +1,64 @@
 -- `nearest_word` meets its contract: past the ends the end words, inside the cut decides. Assumes nothing.
-use mathlib.Core.Path.{_≡_, sym, ap, _∙_, subst, subst₂}
-use Prim.Native.Nat.{ℕ, _≤_}
-use native.Mathlib.Omega.{arith}
+use mathlib.Core.Bool.{Bool, true, false}
+use mathlib.Core.Path.{_≡_, sym, subst, subst₂}
+use Prim.Native.Nat.{ℕ, _≤_, _<_}
 use borrow.Author.Needs.{needs}
 use lib.IntN.{ℤ, pos, negsuc}
-use lib.Signed.{mag, ltZ}
-use mir.Syntax.{w32, w64}
-use mir.Val.{SFits, toZ, ofZ}
+use lib.Signed.{mag}
+use mir.Syntax.{w64}
 use mir.Facts.{toZ-ofZ}
-use Rattle.nearest.proofs.Exponents.{above-range, below-range, in-range}
+use Rattle.word.proofs.Casts.{not-negative, is-negative, tested}
 use Rattle.nearest.specs.Offers.{IsNearest}
+use Rattle.nearest.specs.Parts.{TellsCharacteristic}
 use Rattle.nearest.proofs.Hub.{past-last, before-first}
 use Rattle.nearest.proofs.size.nearest_word.Statement.{statement}
 use Rattle.nearest.proofs.size.nearest_word.Tie as tie
 
-module _ (c : tie.Else2) where
-  inside : mag (c .before .before .args .h) ≤ 254
-  inside =
-      let s = c .before .before in
-      in-range (s .args .h) (ap (ltZ (pos 254)) (sym (toZ-ofZ (s .fits .h))) ∙ c .before .if1 .left) (ap (λ (z : ℤ). ltZ z (negsuc 254)) (sym (toZ-ofZ (s .fits .h))) ∙ c .if2 .left)
+-- what the test tells
+told : (k : tie.After-is-characteristic) (b : Bool) → k .is-characteristic .result ≡ b → TellsCharacteristic (k .before .args .h) b
+told k b q = subst₂ (λ (z : ℤ) (b : Bool). TellsCharacteristic z b) (toZ-ofZ (k .before .fits .h)) q (k .is-characteristic .ensures)
 
-  held-fits : SFits w32 (c .before .before .args .h)
-  held-fits = record { sfits = omega (arith, inside) }
+module _ (c : tie.Then1) where
+  abbrev s : tie.Start
+  s = c .before .before
 
-  -- the cast changes nothing
-  cast-is : toZ w32 (ofZ w32 (toZ w64 (ofZ w64 (c .before .before .args .h)))) ≡ c .before .before .args .h
-  cast-is = ap (λ (z : ℤ). toZ w32 (ofZ w32 z)) (toZ-ofZ (c .before .before .fits .h)) ∙ toZ-ofZ held-fits
+  inside : mag (s .args .h) ≤ 254
+  unfolding TellsCharacteristic
+  inside = told (c .before) true (c .if1 .taken)
+
+outside : (c : tie.Else1) → 254 < mag (c .before .before .args .h)
+unfolding TellsCharacteristic
+outside c = told (c .before) false (c .if1 .left)
+
+is-characteristic-requires : tie.Need-is-characteristic-requires
+is-characteristic-requires c κs = search needs
+
+nearest-inside-requires : tie.Need-nearest-inside-requires
+nearest-inside-requires c κs = (s c .pre .0, s c .pre .1, s c .pre .2, subst (λ (z : ℤ). mag z ≤ 254) (sym (toZ-ofZ (s c .fits .h))) (inside c))
+
+returns : tie.Need-returns
+returns c = let t = s (c .before) in
+    subst (λ (z : ℤ). IsNearest (t .args .n) z (t .args .m) (t .args .rest) (c .nearest-inside .result)) (toZ-ofZ (t .fits .h)) (c .nearest-inside .ensures)
+
+returns-2 : tie.Need-returns-2
+returns-2 c = let t = c .before .before .before in
+    subst (λ (z : ℤ). IsNearest (t .args .n) z (t .args .m) (t .args .rest) 1) (sym (is-negative (t .args .h) (tested w64 tt (t .fits .h) (c .if2 .taken)))) (before-first (t .args .n) (t .pre .0) (t .pre .1) (mag (t .args .h)) (t .args .m) (t .args .rest) (outside (c .before)) (t .fits .m .fits))
 
 last-word-requires : tie.Need-last-word-requires
 last-word-requires c κs = search needs
 
-returns : tie.Need-returns
-returns c = let s = c .before .before in
-    let far = above-range (s .args .h) (ap (ltZ (pos 254)) (sym (toZ-ofZ (s .fits .h))) ∙ c .before .if1 .taken) in
-    subst₂ (λ (z : ℤ) (w : ℕ). IsNearest (s .args .n) z (s .args .m) (s .args .rest) w) (sym (far .1)) (sym (c .last-word .ensures)) (past-last (s .args .n) (s .pre .0) (s .pre .1) (far .0) (s .args .m) (s .args .rest) (far .2) (s .pre .2))
-
-returns-2 : tie.Need-returns-2
-returns-2 c = let s = c .before .before in
-    let far = below-range (s .args .h) (ap (λ (z : ℤ). ltZ z (negsuc 254)) (sym (toZ-ofZ (s .fits .h))) ∙ c .if2 .taken) in
-    subst (λ (z : ℤ). IsNearest (s .args .n) z (s .args .m) (s .args .rest) 1) (sym (far .1)) (before-first (s .args .n) (s .pre .0) (s .pre .1) (far .0) (s .args .m) (s .args .rest) (far .2) (s .fits .m .fits))
-
-cast-nearest-inside : tie.Need-cast-nearest-inside
-cast-nearest-inside c = subst (λ (z : ℤ). SFits w32 z) (sym (toZ-ofZ (c .before .before .fits .h))) (held-fits c)
-
-nearest-inside-requires : tie.Need-nearest-inside-requires
-nearest-inside-requires c κs = (c .before .before .pre .0, c .before .before .pre .1, c .before .before .pre .2, subst (λ (z : ℤ). mag z ≤ 254) (sym (cast-is c)) (inside c))
-
 returns-3 : tie.Need-returns-3
-returns-3 c = let s = c .before .before .before in
-    subst (λ (z : ℤ). IsNearest (s .args .n) z (s .args .m) (s .args .rest) (c .nearest-inside .result)) (cast-is (c .before)) (c .nearest-inside .ensures)
+returns-3 c = let e = c .before in
+    let t = e .before .before .before in
+    subst₂ (λ (z : ℤ) (w : ℕ). IsNearest (t .args .n) z (t .args .m) (t .args .rest) w) (sym (not-negative (t .args .h) (tested w64 tt (t .fits .h) (e .if2 .left)))) (sym (c .last-word .ensures)) (past-last (t .args .n) (t .pre .0) (t .pre .1) (mag (t .args .h)) (t .args .m) (t .args .rest) (outside (e .before)) (t .pre .2))
 
 pub nearest-word-spec : {M : Type 1} → statement M
 nearest-word-spec =
     tie.close
     (tie.spec
-    last-word-requires
+    is-characteristic-requires
+    nearest-inside-requires
     returns
     returns-2
-    cast-nearest-inside
-    nearest-inside-requires
+    last-word-requires
     returns-3)

@@ -1,53 +1,39 @@
--- `start_of` meets its contract: a characteristic and its size without a sign. Assumes nothing.
-use mathlib.Core.Path.{sym, ap, _∙_, subst}
+-- `start_of` meets its contract: a characteristic, its side of zero and its size. Assumes nothing.
+use mathlib.Core.Bool.{Bool, true, false}
+use mathlib.Core.Path.{_≡_, refl, sym, ap, _∙_, subst}
 use Prim.Native.Nat.{ℕ, _+_, _-_}
 use native.Mathlib.Omega.{arith}
 use native.Mathlib.Nat.{add-sub-cancel}
-use lib.Signed.{mag}
 use lib.IntN.{ℤ, pos, negsuc}
-use mir.Syntax.{w32}
-use Rattle.word.proofs.Casts.{not-negative, is-negative, tested, plain-cast, plain-value, complement-fits, complement-cast, complement-more, complement-value}
-use Rattle.nearest.specs.Parts.{Begins}
+use lib.Signed.{mag, ltZ}
+use mir.Facts.{toZ-ofZ}
+use borrow.Author.Needs.{needs}
+use Rattle.word.proofs.Casts.{not-negative, is-negative}
+use Rattle.nearest.specs.Parts.{Begins, characteristicAt}
 use Rattle.nearest.proofs.size.start_of.Statement.{statement}
 use Rattle.nearest.proofs.size.start_of.Tie as tie
 
-sub-start-below : tie.Need-sub-start-below
-sub-start-below c = complement-fits w32 tt (c .before .fits .c) (c .if1 .taken)
+-- the characteristic from its side and its size
+from-size : (c : ℤ) (b : Bool) → ltZ c (pos 0) ≡ b → characteristicAt b (mag c + 1) ≡ c
+unfolding characteristicAt
+from-size c true q = ap negsuc (add-sub-cancel (mag c) 1) ∙ sym (is-negative c q)
+from-size c false q = ap pos (add-sub-cancel (mag c) 1) ∙ sym (not-negative c q)
 
-cast-start-below : tie.Need-cast-start-below
-cast-start-below c = complement-cast w32 tt (c .before .fits .c) (c .if1 .taken)
+-- and the size as the machine has it
+sized : (c : tie.After-size-at) → c .size-at .result ≡ mag (c .before .args .c) + 1
+sized c = c .size-at .ensures ∙ ap (λ (z : ℤ). mag z + 1) (toZ-ofZ (c .before .fits .c))
 
-add-start-below : tie.Need-add-start-below
-add-start-below c = complement-more w32 tt (c .before .fits .c) (c .if1 .taken)
+size-at-requires : tie.Need-size-at-requires
+size-at-requires c κs = search needs
 
-start-below-requires : tie.Need-start-below-requires
-start-below-requires c κs = omega (arith, complement-value w32 tt (c .before .fits .c) (c .if1 .taken), c .before .pre)
+start-at-requires : tie.Need-start-at-requires
+start-at-requires c κs = omega (arith, sized c, c .before .pre)
 
 returns : tie.Need-returns
-returns c = subst (λ (z : ℤ). Begins z (c .start-below .result)) (ap negsuc (ap (λ (x : ℕ). x + 1 - 1) (complement-value w32 tt (c .before .before .fits .c) (c .before .if1 .taken)) ∙ add-sub-cancel (mag (c .before .before .args .c)) 1) ∙ sym (is-negative _ (tested w32 tt (c .before .before .fits .c) (c .before .if1 .taken)))) (c .start-below .ensures)
-
-cast-start-above : tie.Need-cast-start-above
-cast-start-above c = plain-cast w32 tt (c .before .fits .c) (c .if1 .left)
-
-add-start-above : tie.Need-add-start-above
-add-start-above c = record { fits = omega (arith, plain-value w32 tt (c .before .fits .c) (c .if1 .left), c .before .pre) }
-
-start-above-requires : tie.Need-start-above-requires
-start-above-requires c κs = omega (arith, plain-value w32 tt (c .before .fits .c) (c .if1 .left), c .before .pre)
-
-returns-2 : tie.Need-returns-2
-returns-2 c = subst (λ (z : ℤ). Begins z (c .start-above .result)) (ap pos (ap (λ (x : ℕ). x + 1 - 1) (plain-value w32 tt (c .before .before .fits .c) (c .before .if1 .left)) ∙ add-sub-cancel (mag (c .before .before .args .c)) 1) ∙ sym (not-negative _ (tested w32 tt (c .before .before .fits .c) (c .before .if1 .left)))) (c .start-above .ensures)
+returns c = let k = c .before in
+    let z = k .before .args .c in
+    let held = toZ-ofZ (k .before .fits .c) in
+    subst (λ (y : ℤ). Begins y (c .start-at .result)) (ap (characteristicAt _) (sized k) ∙ from-size z _ (ap (λ (y : ℤ). ltZ y (pos 0)) (sym held))) (c .start-at .ensures)
 
 pub start-of-spec : {M : Type 1} → statement M
-start-of-spec =
-    tie.close
-    (tie.spec
-    sub-start-below
-    cast-start-below
-    add-start-below
-    start-below-requires
-    returns
-    cast-start-above
-    add-start-above
-    start-above-requires
-    returns-2)
+start-of-spec = tie.close (tie.spec size-at-requires start-at-requires returns)

@@ -13,6 +13,7 @@ use Rattle.word.proofs.Units.{unit-some}
 use Rattle.nearest.specs.declared.size.Rest.{Rest}
 use Rattle.nearest.specs.Offers.{IsOffered}
 use Rattle.nearest.specs.Offers.{IsRest}
+use Rattle.bounds.proofs.Verdicts.{width-fits, answered}
 use Rattle.round.specs.Offers.{topBits, WritesNormal, Settles, WritesFiner, WritesTimes}
 use Rattle.round.proofs.Held.{raised-fits, held-sum, wide}
 use Rattle.round.proofs.Long.{few-zeros, high-shifted, top-full, long-offer, finer-offer}
@@ -76,18 +77,17 @@ shl-below : tie.Need-shl-below
 shl-below c = lt-of-le-of-lt (few (c .before)) (lit< tt)
 
 rounded-requires : tie.Need-rounded-requires
-rounded-requires c κs = let k = c .before in
-    (k .before .pre .0, k .before .pre .1, full k)
+rounded-requires c κs = full (c .before)
 
 by-rule-requires : tie.Need-by-rule-requires
 by-rule-requires c κs = let k = c .before .before in
-    (k .before .pre .0, k .before .pre .1, full k)
+    (full k, λ some. (k .before .pre .0, k .before .pre .1))
 
 returns : tie.Need-returns
 unfolding WritesTimes WritesNormal Settles IsRest
 returns c = let k = c .before .before .before in
     let s = k .before in
-    subst (λ (z : ℤ). WritesNormal (s .args .width .bits) (s .args .rule) (s .args .negative) z (k .top-bits .result) (c .by-rule .result)) (held-sum (s .args .k) (s .fits .k) (127 - zeros s) (small s)) (c .by-rule .ensures (s .args .negative) (c .before .rounded .ensures)) _ _ (mul-pos (some s) (unit-some _ .0)) (unit-some _ .1)
+    subst (λ (z : ℤ). WritesNormal (s .args .width .bits) (s .args .rule) (s .args .negative) z (k .top-bits .result) (c .by-rule .result)) (held-sum (s .args .k) (s .fits .k) (127 - zeros s) (small s)) (answered (width-fits _ (s .pre .0) (s .pre .1)) (c .by-rule .ensures (s .args .negative) (c .before .rounded .ensures))) _ _ (mul-pos (some s) (unit-some _ .0)) (unit-some _ .1)
     (finer-offer (k .top-bits .result) (below s) Rest.Nothing (h s) _ _ (unit-some _ .1) (below-lt s) (c .before .before .if1 .taken) (offered s (k .top-bits .result) (k .top-bits .ensures)))
 
 write-finer-requires : tie.Need-write-finer-requires

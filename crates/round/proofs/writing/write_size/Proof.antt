@@ -1,5 +1,5 @@
--- `write_size` meets its contract: the width, zero, and any other size with its top bit moved to 2^63. Assumes nothing.
-use mathlib.Core.Path.{_≡_, refl, sym, ap, _∙_, subst}
+-- `write_size` meets its contract: zero, and any other size with its top bit moved to 2^63. Assumes nothing.
+use mathlib.Core.Path.{_≡_, sym, ap, _∙_, subst}
 use Prim.Native.Nat.{ℕ, zero, _-_, _*_, _%_, _^_, _≤_, _<_}
 use native.Mathlib.Nat.{pos-of-ne-zero, zero-mul, lt-of-le-of-lt, mul-pos}
 use native.Mathlib.Omega.{arith}
@@ -9,39 +9,28 @@ use lib.Count.{leadingZeros}
 use lib.IntN.{ℤ, pos, _+ℤ_, _-ℤ_}
 use mir.Val.{SFits, toZ, ofZ}
 use mir.Syntax.{w32, w64}
-use Rattle.bounds.specs.declared.refusal.Verdict.{Verdict}
-use Rattle.bounds.specs.Refusals.{widthTest, through, refused}
-use Rattle.bounds.proofs.Verdicts.{width-through}
+use Rattle.bounds.specs.declared.answer.Answer.{Answer}
+use Rattle.bounds.specs.Refusals.{widthTest, Decided}
 use Rattle.word.specs.Reads.{num}
 use Rattle.word.proofs.Units.{unit-some, lower-by}
 use Rattle.round.specs.Writes.{WritesShort, WritesSize}
 use Rattle.round.specs.Offers.{WritesNormal, Settles}
 use Rattle.round.proofs.Normal.{zeros-le, shifted-full, shifted-offer}
-use Rattle.round.proofs.Rules.{zero-written}
+use Rattle.round.proofs.Rules.{zero-answered, rounds-width, normal-answered}
 use Rattle.round.proofs.Held.{lowered-fits, held-difference, wide}
 use Rattle.round.proofs.writing.write_size.Statement.{statement}
 use Rattle.round.proofs.writing.write_size.Tie as tie
 
-module _ (g : tie.After-enum-told) where
-  abbrev s : tie.Start
-  s = g .before .before .before
-
-  let-through : widthTest (s .args .width .bits) ≡ Verdict.Through
-  let-through = sym (g .before .before .test .ensures) ∙ g .enum-told .given .1
-
-  bounds : (2 ≤ s .args .width .bits) × (s .args .width .bits ≤ 64)
-  bounds = width-through _ let-through
-
 -- what is known of a size that isn't zero
 module _ (c : tie.After-struct-told) where
-  abbrev g : tie.After-enum-told
-  g = c .before .before .before
+  abbrev s : tie.Start
+  s = c .before .before .before
 
   abbrev m : ℕ
-  m = s g .args .size .m
+  m = s .args .size .m
 
   abbrev h : ℤ
-  h = s g .args .size .h
+  h = s .args .size .h
 
   some : zero < m
   some = pos-of-ne-zero (c .before .before .if1 .left)
@@ -65,24 +54,13 @@ module _ (c : tie.After-struct-told) where
   held : toZ w64 (ofZ w64 (toZ w64 (ofZ w64 (toZ w32 (ofZ w32 h))) -ℤ toZ w64 (leadingZeros 64 m))) ≡ h -ℤ pos 63 +ℤ pos (63 - leadingZeros 64 m)
   held = held-difference h h-fits (leadingZeros 64 m) small ∙ sym (lower-by h (leadingZeros 64 m) 63 few)
 
-test-requires : tie.Need-test-requires
-test-requires c κs = search needs
-
-enum-known-verdict : tie.Need-enum-known-verdict
-enum-known-verdict c = search needs
+zero-word-requires : tie.Need-zero-word-requires
+zero-word-requires c κs = search needs
 
 returns : tie.Need-returns
 unfolding WritesSize WritesShort
-returns c = refused (sym (c .before .before .before .test .ensures) ∙ c .before .verdict .given .1) refl
-
-enum-told : tie.Need-enum-told
-enum-told c = search needs
-
-returns-2 : tie.Need-returns-2
-unfolding WritesSize WritesShort
-returns-2 c = let g = c .before in
-    let e = s g .args .size .h -ℤ pos 63 +ℤ pos 307 in
-    through (let-through g) (zero-written _ (bounds g .0) (bounds g .1) _ _ _ _ (ap (λ (x : ℕ). x * num e) (c .if1 .taken) ∙ zero-mul (num e)))
+returns c = let e = c .before .before .args .size .h -ℤ pos 63 +ℤ pos 307 in
+    zero-answered _ _ _ _ _ _ (ap (λ (x : ℕ). x * num e) (c .before .if1 .taken) ∙ zero-mul (num e)) (c .zero-word .ensures)
 
 cast-h : tie.Need-cast-h
 cast-h c = wide (h c) (h-fits c)
@@ -100,31 +78,26 @@ shl-full : tie.Need-shl-full
 shl-full c = lt-of-le-of-lt (few c) (lit< tt)
 
 rounded-requires : tie.Need-rounded-requires
-rounded-requires c κs = let b = bounds (g c) in
-    (b .0, b .1, full c)
+rounded-requires c κs = full c
 
 by-rule-requires : tie.Need-by-rule-requires
 by-rule-requires c κs = let k = c .before in
-    let b = bounds (g k) in
-    (b .0, b .1, full k)
+    (full k, rounds-width _ _ _ _ _ _ (c .rounded .ensures))
 
-returns-3 : tie.Need-returns-3
-unfolding WritesSize WritesShort WritesNormal Settles
-returns-3 c = let k = c .before .before in
-    let t = s (g k) in
+returns-2 : tie.Need-returns-2
+unfolding WritesSize WritesShort Settles
+returns-2 c = let k = c .before .before in
+    let t = s k in
     let size = t .args .size in
-    through (let-through (g k))
-    (subst (λ (z : ℤ). WritesNormal (t .args .width .bits) (t .args .rule) (size .negative) z (m k * 2 ^ leadingZeros 64 (m k) % 2 ^ 64) (c .by-rule .result)) (held k) (c .by-rule .ensures (size .negative) (c .before .rounded .ensures)) _ _ (mul-pos (some k) (unit-some _ .0)) (unit-some _ .1) (shifted-offer _ (some k) (fits k) (h k -ℤ pos 63)))
+    let written = subst (λ (z : ℤ). Decided (widthTest (t .args .width .bits)) (λ q. c .by-rule .result ≡ Answer.Refused q) (WritesNormal (t .args .width .bits) (t .args .rule) (size .negative) z (m k * 2 ^ leadingZeros 64 (m k) % 2 ^ 64) (c .by-rule .result))) (held k) (c .by-rule .ensures (size .negative) (c .before .rounded .ensures)) in
+    normal-answered _ _ _ _ _ _ written _ _ (mul-pos (some k) (unit-some _ .0)) (unit-some _ .1) (shifted-offer _ (some k) (fits k) (h k -ℤ pos 63))
 
 pub write-size-spec : {M : Type 1} → statement M
 write-size-spec =
     tie.close
     (tie.spec
-    test-requires
-    enum-known-verdict
+    zero-word-requires
     returns
-    enum-told
-    returns-2
     cast-h
     cast-h-2
     sub-h
@@ -132,4 +105,4 @@ write-size-spec =
     shl-full
     rounded-requires
     by-rule-requires
-    returns-3)
+    returns-2)

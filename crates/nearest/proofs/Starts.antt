@@ -1,9 +1,9 @@
 -- How the strings of a characteristic begin: by computed tests over every regime r, every one of its characteristics and every head that
 -- goes on from there. Assumes nothing.
-use mathlib.Core.Path.{_≡_, ap, _∙_, subst}
+use mathlib.Core.Path.{_≡_, refl, sym, ap, _∙_, subst}
 use mathlib.Core.Bool.{Bool, _&&_}
 use Prim.Native.Nat.{ℕ, _+_, _-_, _*_, _/_, _%_, _^_, _≤_, _<_}
-use native.Mathlib.Nat.{mod-lt, le-of-suc-le-suc, le-trans, lt-of-le-of-lt, add-le-add, mul-le-mul, mul-le-mul-right, two-pow-succ, add-sub-cancel}
+use native.Mathlib.Nat.{mod-lt, le-of-suc-le-suc, le-trans, lt-of-le-of-lt, add-le-add, mul-le-mul, mul-le-mul-right, two-pow-succ, add-sub-cancel, add-mul}
 use native.Mathlib.Omega.{arith}
 use lib.Dec.{T, eqb, eqb→eq, lit<}
 use lib.IntN.{ℤ, pos, negsuc}
@@ -122,14 +122,24 @@ module _ (ρ size : ℕ) (log : Log ρ size) (most : size ≤ 255) where
   power-small : 2 ^ ρ ≤ 128
   power-small = pow-mono {i = ρ} {j = 7} regime-small
 
-  pub shifted-lower : (9 - ρ) * 2 ^ ρ % 2 ^ 64 ≡ (9 - ρ) * 2 ^ ρ
-  shifted-lower = shl-exact {a = 9 - ρ} 4 ρ 64 (omega arith) (omega (arith, regime-small))
-
   pub shifted-upper : (7 + ρ) * 2 ^ ρ % 2 ^ 64 ≡ (7 + ρ) * 2 ^ ρ
   shifted-upper = shl-exact {a = 7 + ρ} 4 ρ 64 (omega (arith, regime-small)) (omega (arith, regime-small))
 
-  pub room-lower : 1 + size ≤ (9 - ρ) * 2 ^ ρ
+  room-lower : 1 + size ≤ (9 - ρ) * 2 ^ ρ
   room-lower = le-trans (omega (arith, log .high, two-pow-succ ρ)) (mul-le-mul-right {m = 2} {n = 9 - ρ} (2 ^ ρ) (omega (arith, regime-small)))
+
+  -- the two sides together are all bits
+  sides : (9 - ρ) * 2 ^ ρ + (7 + ρ) * 2 ^ ρ ≡ 2 ^ (4 + ρ)
+  sides = sym (add-mul (9 - ρ) (7 + ρ) (2 ^ ρ)) ∙ ap (λ (x : ℕ). x * 2 ^ ρ) sixteen ∙ pow-sum 4 ρ (4 + ρ) refl
+    where
+      sixteen : 9 - ρ + (7 + ρ) ≡ 16
+      sixteen = omega (arith, regime-small)
+
+  pub upper-lt : (7 + ρ) * 2 ^ ρ + size < 2 ^ (4 + ρ)
+  upper-lt = omega (arith, sides, room-lower)
+
+  pub upper-turned : 2 ^ (4 + ρ) - 1 - ((7 + ρ) * 2 ^ ρ + size) ≡ (9 - ρ) * 2 ^ ρ - 1 - size
+  upper-turned = omega (arith, sides, room-lower)
 
   pub upper-small : (7 + ρ) * 2 ^ ρ + size < 4096
   upper-small = lt-of-le-of-lt (add-le-add (mul-le-mul {n₁ = 7 + ρ} {n₂ = 14} (omega (arith, regime-small)) power-small) most) (lit< tt)

@@ -1,9 +1,9 @@
 -- What the parts of `nearest` answer: how strings begin, on which side of a midpoint a size lies, and which word is chosen so. All serve private
 -- functions.
 use mathlib.Core.Path.{_≡_}
-use mathlib.Core.Bool.{Bool, true, false, cond}
+use mathlib.Core.Bool.{Bool, true, false}
 use Prim.Native.Nat.{ℕ, _+_, _-_, _*_, _/_, _%_, _^_, _≤_, _<_}
-use lib.IntN.{ℤ, pos, negsuc, _+ℤ_}
+use lib.IntN.{ℤ, pos, _+ℤ_}
 use lib.Signed.{mag}
 use Rattle.word.specs.Takum as Takum
 use Rattle.nearest.specs.declared.size.Rest.{Rest}
@@ -22,13 +22,6 @@ pub record Begins (c : ℤ) (start : Start) : Type 0 where
   pub sign : (f : ℕ) → f < 2 ^ (59 - start .r) → Takum.S 64 (start .bits * 2 ^ (59 - start .r) + f) ≡ 0
   pub has-regime : (f : ℕ) → f < 2 ^ (59 - start .r) → Takum.r 64 (start .bits * 2 ^ (59 - start .r) + f) ≡ start .r
   pub has-characteristic : (f : ℕ) → f < 2 ^ (59 - start .r) → Takum.c 64 (start .bits * 2 ^ (59 - start .r) + f) ≡ c
-
--- the characteristic of a size on its side of zero, and the number that its start is made from
-unfoldable pub characteristicAt : Bool → ℕ → ℤ
-characteristicAt below size = cond below (negsuc (size - 1)) (pos (size - 1))
-
-unfoldable pub leadOf : Bool → ℕ → ℕ
-leadOf below r = cond below (9 - r) (7 + r)
 
 -- the first 64 bits of the string of a size with significand m
 unfoldable pub firstBits : Start → ℕ → ℕ

@@ -8,8 +8,8 @@ ghost use Prim.Native.Nat.{_+_, _-_, _*_, _^_, _≤_, _<_};
 ghost use lib.Signed.{mag};
 ghost use Rattle.word.specs.Takum as Takum;
 ghost use Rattle.bounds.specs.Refusals.{IsWord};
-ghost use Rattle.nearest.specs.Offers.{FindsNearest, IsNearest, IsRest};
-ghost use Rattle.nearest.specs.Parts.{TellsCharacteristic, Begins, characteristicAt, leadOf, firstBits, IsRaised, TellsHalf, TellsPowers, chosenOf, marginOf, ChoosesByCut};
+ghost use Rattle.nearest.specs.Offers.{FindsNearest, IsNearest, IsRest, StartsAbove, turned};
+ghost use Rattle.nearest.specs.Parts.{TellsCharacteristic, Begins, firstBits, IsRaised, TellsHalf, TellsPowers, chosenOf, marginOf, ChoosesByCut};
 
 // What lies below the last unit of a significand.
 pub enum Rest {
@@ -156,7 +156,11 @@ fn start_of(c: i64) -> Start
     requires { ⌜ mag c ≤ 254 ⌝ }
     ensures { λ s. ⌜ Begins c s ⌝ }
 {
-    start_at(c < 0, size_at(c))
+    let above = start_above(size_at(c));
+    if c < 0 {
+        return start_below(above);
+    }
+    above
 }
 
 // c + 1, or -c below zero.
@@ -169,35 +173,28 @@ fn size_at(c: i64) -> u64
     c as u64 + 1
 }
 
-// The characteristic is size - 1, or -size below zero, and the regime floor(log2 size). The two sides differ in what is added at the end and in
-// the number that is shifted, so that the machine chooses between numbers and doesn't jump.
-fn start_at(below: bool, size: u64) -> Start
+// The characteristic is size - 1, and the regime floor(log2 size).
+fn start_above(size: u64) -> Start
     requires { ⌜ (0 < size) × (size ≤ 255) ⌝ }
-    ensures { λ s. ⌜ Begins (characteristicAt below size) s ⌝ }
+    ensures { λ s. ⌜ StartsAbove size s ⌝ }
 {
     let r = 63 - u64::leading_zeros(size);
-    let first = lead(below, r) << r;
-    if below {
-        return Start {
-            bits: first - 1 - size,
-            r,
-        };
-    }
     Start {
-        bits: first + size,
+        bits: ((7 + r as u64) << r) + size,
         r,
     }
 }
 
-// Direction and regime bits, raised or lowered by what of the size goes into them.
-fn lead(below: bool, r: u32) -> u64
-    requires { ⌜ r ≤ 7 ⌝ }
-    ensures { λ x. ⌜ x ≡ leadOf below r ⌝ }
+// The characteristic -size has the start of size - 1 with every bit turned. It is so little that the machine makes it either way, and doesn't
+// jump where nobody can foretell the sign.
+fn start_below(above: Start) -> Start
+    requires { ⌜ (above .r ≤ 7) × (above .bits < 2 ^ (4 + above .r)) ⌝ }
+    ensures { λ s. ⌜ s ≡ turned above ⌝ }
 {
-    if below {
-        return 9 - r as u64;
+    Start {
+        bits: (16 << above.r) - 1 - above.bits,
+        r: above.r,
     }
-    7 + r as u64
 }
 
 // The first 64 bits of a size's endless string, its sign among them.

@@ -1,13 +1,12 @@
 -- The normal size that is offered to `nearest`, (m + rest) * 2^(h - 63), and the word that it answers.
 use mathlib.Core.Path.{_≡_}
 use mathlib.Core.Bool.{false}
-use Prim.Native.Nat.{ℕ, suc, _+_, _-_, _*_, _%_, _^_, _≤_, _<_}
+use Prim.Native.Nat.{ℕ, _+_, _-_, _*_, _%_, _^_, _<_}
 use lib.IntN.{ℤ, pos, _+ℤ_, _-ℤ_}
 use Rattle.bounds.specs.declared.answer.Answer.{Answer}
 use Rattle.bounds.specs.Refusals.{widthTest, Decided}
 use Rattle.word.specs.Reads.{num, den}
 use Rattle.nearest.specs.declared.size.Rest.{Rest}
-use Rattle.nearest.specs.declared.size.Start.{Start}
 use Rattle.nearest.specs.Nearest.{Nearest}
 
 -- a is (m + rest) * unit
@@ -24,16 +23,6 @@ IsOffered m rest k a b = Amounts m rest (a * den (k +ℤ pos 307)) (num (k +ℤ 
 -- the positive word that is nearest to every exact size that is so offered
 unfoldable pub IsNearest : ℕ → ℤ → ℕ → Rest → ℕ → Type 0
 IsNearest n h m rest w = (a b : ℕ) → 0 < b → IsOffered m rest (h -ℤ pos 63) a b → Nearest n false a b w
-
--- the start of the characteristic size - 1, its regime being floor(log2 size)
-pub record StartsAbove (size : ℕ) (start : Start) : Type 0 where
-  pub low : 2 ^ start .r ≤ size
-  pub high : size < 2 ^ suc (start .r)
-  pub bits : start .bits ≡ (7 + start .r) * 2 ^ start .r + size
-
--- the start with every bit turned
-unfoldable pub turned : Start → Start
-turned start = record { bits = 2 ^ (4 + start .r) - 1 - start .bits; r = start .r }
 
 -- what `below`, counted in 2^-64 of a unit, is of the unit
 unfoldable pub IsRest : ℕ → Rest → Type 0

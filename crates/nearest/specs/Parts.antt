@@ -2,7 +2,7 @@
 -- functions.
 use mathlib.Core.Path.{_≡_}
 use mathlib.Core.Bool.{Bool, true, false}
-use Prim.Native.Nat.{ℕ, _+_, _-_, _*_, _/_, _%_, _^_, _≤_, _<_}
+use Prim.Native.Nat.{ℕ, suc, _+_, _-_, _*_, _/_, _%_, _^_, _≤_, _<_}
 use lib.IntN.{ℤ, pos, _+ℤ_}
 use lib.Signed.{mag}
 use Rattle.word.specs.Takum as Takum
@@ -22,6 +22,16 @@ pub record Begins (c : ℤ) (start : Start) : Type 0 where
   pub sign : (f : ℕ) → f < 2 ^ (59 - start .r) → Takum.S 64 (start .bits * 2 ^ (59 - start .r) + f) ≡ 0
   pub has-regime : (f : ℕ) → f < 2 ^ (59 - start .r) → Takum.r 64 (start .bits * 2 ^ (59 - start .r) + f) ≡ start .r
   pub has-characteristic : (f : ℕ) → f < 2 ^ (59 - start .r) → Takum.c 64 (start .bits * 2 ^ (59 - start .r) + f) ≡ c
+
+-- the start of the characteristic size - 1, its regime being floor(log2 size)
+pub record StartsAbove (size : ℕ) (start : Start) : Type 0 where
+  pub low : 2 ^ start .r ≤ size
+  pub high : size < 2 ^ suc (start .r)
+  pub bits : start .bits ≡ (7 + start .r) * 2 ^ start .r + size
+
+-- the start with every bit turned
+unfoldable pub turned : Start → Start
+turned start = record { bits = 2 ^ (4 + start .r) - 1 - start .bits; r = start .r }
 
 -- the first 64 bits of the string of a size with significand m
 unfoldable pub firstBits : Start → ℕ → ℕ

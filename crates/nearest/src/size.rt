@@ -8,8 +8,8 @@ ghost use Prim.Native.Nat.{_+_, _-_, _*_, _^_, _≤_, _<_};
 ghost use lib.Signed.{mag};
 ghost use Rattle.word.specs.Takum as Takum;
 ghost use Rattle.bounds.specs.Refusals.{IsWord};
-ghost use Rattle.nearest.specs.Offers.{FindsNearest, IsNearest, IsRest, StartsAbove, turned};
-ghost use Rattle.nearest.specs.Parts.{TellsCharacteristic, Begins, firstBits, IsRaised, TellsHalf, TellsPowers, chosenOf, marginOf, ChoosesByCut};
+ghost use Rattle.nearest.specs.Offers.{FindsNearest, IsNearest, IsRest};
+ghost use Rattle.nearest.specs.Parts.{TellsCharacteristic, Begins, StartsAbove, turned, firstBits, IsRaised, TellsHalf, TellsPowers, chosenOf, marginOf, ChoosesByCut};
 
 // What lies below the last unit of a significand.
 pub enum Rest {

@@ -7,7 +7,7 @@ use borrow.Author.Needs.{needs}
 use lib.Dec.{lit<}
 use lib.Count.{leadingZeros}
 use Rattle.bounds.proofs.Powers.{Log, leading-log}
-use Rattle.nearest.specs.Offers.{StartsAbove}
+use Rattle.nearest.specs.Parts.{StartsAbove}
 use Rattle.nearest.proofs.Starts.{shifted-upper, upper-small}
 use Rattle.nearest.proofs.size.start_above.Statement.{statement}
 use Rattle.nearest.proofs.size.start_above.Tie as tie

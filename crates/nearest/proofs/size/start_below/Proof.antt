@@ -6,7 +6,7 @@ use borrow.Author.Needs.{needs}
 use lib.Pow.{shl-exact}
 use Rattle.bounds.proofs.Powers.{pow-sum}
 use Rattle.nearest.specs.declared.size.Start.{Start}
-use Rattle.nearest.specs.Offers.{turned}
+use Rattle.nearest.specs.Parts.{turned}
 use Rattle.nearest.proofs.size.start_below.Statement.{statement}
 use Rattle.nearest.proofs.size.start_below.Tie as tie
 

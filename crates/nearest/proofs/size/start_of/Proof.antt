@@ -11,8 +11,7 @@ use mir.Syntax.{w64}
 use Rattle.word.proofs.Casts.{not-negative, is-negative, tested}
 use Rattle.bounds.proofs.Powers.{Log}
 use Rattle.nearest.specs.declared.size.Start.{Start}
-use Rattle.nearest.specs.Offers.{turned}
-use Rattle.nearest.specs.Parts.{Begins}
+use Rattle.nearest.specs.Parts.{Begins, turned}
 use Rattle.nearest.proofs.Starts.{regime-small, upper-begins, lower-begins, upper-lt, upper-turned}
 use Rattle.nearest.proofs.size.start_of.Statement.{statement}
 use Rattle.nearest.proofs.size.start_of.Tie as tie

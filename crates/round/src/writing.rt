@@ -119,6 +119,7 @@ fn by_rule(width: Width, rule: Rule, h: i64, m: u64, word: u64) -> Answer
     requires { ⌜ (2 ^ 63 ≤ m) × (0 < word → (2 ≤ width .bits) × (width .bits ≤ 64)) ⌝ }
     ensures { λ r. ⌜ Settles (width .bits) rule h m word r ⌝ }
 {
+    // 0 is the nearest word to no size: the width was refused.
     if word == 0 {
         return Answer::Refused(Refusal::Width);
     }

@@ -13,7 +13,7 @@ pub type Outright<T, R> = unsafe extern "C" fn(u32, T) -> R;
 pub type MoveColumn = unsafe extern "C" fn(u32, u32, bool, *const u64, usize, *mut u64, usize) -> HandedColumn;
 pub type ReadBlock = unsafe extern "C" fn(*const u8, usize, *mut u64, usize) -> HandedBlock;
 
-// crates/takum
+// crates/ledusprig
 extern "C" {
     fn takum_write(n: u32, strict: bool, negative: bool, m: u64, k: i32) -> HandedWord;
     fn takum_move(from: u32, to: u32, strict: bool, word: u64) -> HandedWord;

@@ -37,7 +37,7 @@ compile() {
 build() {
     compiler=$1 folder=$2 program=$3
     shift 3
-    compile "$compiler" bench/main.rs "$program" -L "$folder" -l static=takum "$@"
+    compile "$compiler" bench/main.rs "$program" -L "$folder" -l static=ledusprig "$@"
 }
 
 # Whether an x86-64 program can be built and run on Arm.
@@ -84,7 +84,7 @@ native() {
     for file in "$own"/toolchain/bin/*; do [ "${file##*/}" = clang ] || ln -s "$file" "$work/kit/on/$machine/toolchain/bin/"; done
     printf '#!/bin/sh\n[ ! -f module.bc ] || cp module.bc "%s"\nexec "%s" "$@"\n' "$work/module.bc" "$own/toolchain/bin/clang" >"$work/kit/on/$machine/toolchain/bin/clang"
     chmod +x "$work/kit/on/$machine/toolchain/bin/clang"
-    RATTLE_HOME=$work/kit rt staticlib takum >"$work/log" 2>&1 || { cat "$work/log"; miss "the library was not built"; }
+    RATTLE_HOME=$work/kit rt staticlib ledusprig >"$work/log" 2>&1 || { cat "$work/log"; miss "the library was not built"; }
     if [ ! -f "$work/module.bc" ]; then
         echo "bench: no native run, since this kit does not hand clang a file module.bc"
         return
@@ -96,7 +96,7 @@ native() {
         -e 's/{ i64, double }/{ i64, i64 }/' -e 's/^define noundef ptr @\(takum_[a-z_]*\)(ptr noundef %a0/define void @\1(ptr noundef sret(i8) %a0/' -e 's/^  ret ptr %a0$/  ret void/' \
         "$work/module.ll" >"$work/own.ll"
     "$own/toolchain/bin/clang" --target="$machine-unknown-linux-gnu" -O3 -fPIC -c -x ir "$work/own.ll" -o "$work/own.o"
-    ar rcs "$work/native/libtakum.a" "$work/own.o"
+    ar rcs "$work/native/libledusprig.a" "$work/own.o"
     echo "== $machine, run directly: $(rustc --version); library by the kit's $("$own/toolchain/bin/clang" --version | head -n 1)"
     build rustc "$work/native" "$work/own"
     "$work/own"
@@ -127,7 +127,7 @@ lister() {
     done=1
 }
 
-rt staticlib takum >"$work/log" 2>&1 || { cat "$work/log"; miss "the library was not built"; }
+rt staticlib ledusprig >"$work/log" 2>&1 || { cat "$work/log"; miss "the library was not built"; }
 echo "kit $(rt version); $(lscpu | sed -n 's/^Model name: *//p' | head -n 1), $(nproc) processors"
 if [ "$machine" = x86_64 ]; then
     as_built

@@ -1,5 +1,5 @@
 // The figure of docs/tallies.svg, drawn from the library's own answers: which whole numbers up to 4,096 have a word, and what 515 does.
-use takum::{Refusal, Rule, Taking, Width};
+use ledusprig::{Refusal, Rule, Taking, Width};
 
 const WIDTHS: [u32; 4] = [8, 12, 16, 32];
 const DOUBLINGS: usize = 12; // 4,096 is 2^12

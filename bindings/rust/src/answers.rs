@@ -39,7 +39,7 @@ pub struct Value {
 /// The value of a word by its parts.
 ///
 /// ```
-/// use takum::{calls, Reading};
+/// use ledusprig::{calls, Reading};
 ///
 /// // -1.5 is -3072 * 2^(0 - 11)
 /// assert_eq!(calls::read(16, 0xBC00), Ok(Reading::Number { negative: true, h: 0, m: 3072, p: 11 }));

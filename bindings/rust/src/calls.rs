@@ -6,7 +6,7 @@
 //! A refused call leaves its results as they were.
 //!
 //! ```
-//! use takum::{calls, Refusal, Rule};
+//! use ledusprig::{calls, Refusal, Rule};
 //!
 //! assert_eq!(calls::write_whole(16, Rule::Rounded, 515), Ok(0x5A02));
 //! assert_eq!(calls::move_word(16, 8, Rule::Strict, 0x10000), Err(Refusal::Stray));
@@ -104,7 +104,7 @@ pub fn take_binary64(n: u32, word: u64) -> Result<Option<f64>, Refusal> {
 /// and the answer is how many were moved. `Room` where there are fewer results than words.
 ///
 /// ```
-/// use takum::{calls, Rule};
+/// use ledusprig::{calls, Rule};
 ///
 /// let mut results = [7; 3];
 /// assert_eq!(calls::move_column(16, 32, Rule::Strict, &[0x5A00, 0x8000], &mut results), Ok(2));
@@ -126,7 +126,7 @@ pub fn move_column(from: u32, to: u32, rule: Rule, words: &[u64], results: &mut 
 /// Reads a sheet block of 512 bytes: the first results are its words, in order, and the others stay as they were.
 ///
 /// ```
-/// use takum::{calls, Block, BLOCK_SIZE, BLOCK_WORDS};
+/// use ledusprig::{calls, Block, BLOCK_SIZE, BLOCK_WORDS};
 ///
 /// let mut block = [0; BLOCK_SIZE];
 /// block[..12].copy_from_slice(&[0x54, 16, 2, 0, 1, 0, 0, 0, 0x00, 0x5A, 0x00, 0x80]);

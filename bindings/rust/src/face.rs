@@ -1,4 +1,4 @@
-//! The archive's functions as crates/takum exports them. include/takum.h says what each answers.
+//! The archive's functions as crates/ledusprig exports them. include/ledusprig.h says what each answers.
 
 #[repr(C)]
 pub struct WordAnswer {

@@ -1,7 +1,7 @@
-//! Linear takums of width 2 to 64: safe calls of libtakum.a, a library in which every function is proved to do what its contract says.
+//! Linear takums of width 2 to 64: safe calls of libledusprig.a, a library in which every function is proved to do what its contract says.
 //!
 //! ```
-//! use takum::{Refusal, Rule, Taking, Width};
+//! use ledusprig::{Refusal, Rule, Taking, Width};
 //!
 //! let tag = Width::new(16)?;
 //! let tally = tag.write_whole(Rule::Strict, 514)?;
@@ -15,9 +15,9 @@
 //! [`calls`] has the library's calls as they are: they take any numbers, and refuse a bad width or a stray bit. There is no rule of the
 //! format in this crate; what is refused, and in which order, is decided by the library.
 //!
-//! `cargo` looks for libtakum.a in the folder that the environment variable `TAKUM_LIB_DIR` names, or else in the repository's
-//! target/staticlib, where `rt staticlib takum` puts it. It is for x86-64. Without `cargo`, `rustc` is told so where it compiles this crate:
-//! `rustc --edition 2021 --crate-type lib --crate-name takum -L FOLDER -l static=takum src/lib.rs`.
+//! `cargo` looks for libledusprig.a in the folder that the environment variable `LEDUSPRIG_LIB_DIR` names, or else in the repository's
+//! target/staticlib, where `rt staticlib ledusprig` puts it. It is for x86-64. Without `cargo`, `rustc` is told so where it compiles this crate:
+//! `rustc --edition 2021 --crate-type lib --crate-name ledusprig -L FOLDER -l static=ledusprig src/lib.rs`.
 #![no_std]
 #![deny(missing_docs)]
 #![deny(unsafe_code)]

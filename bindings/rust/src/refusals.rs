@@ -4,7 +4,7 @@ use core::fmt;
 /// A refusal, with the number that the yard's papers fix for it.
 ///
 /// ```
-/// use takum::{calls, Refusal};
+/// use ledusprig::{calls, Refusal};
 ///
 /// assert_eq!(calls::limit(65), Err(Refusal::Width));
 /// assert_eq!(Refusal::Width.number(), 1);
@@ -75,7 +75,7 @@ impl fmt::Display for Refusal {
 /// Why a column was not moved, and which of its words is to blame.
 ///
 /// ```
-/// use takum::{calls, ColumnRefusal, Refusal, Rule};
+/// use ledusprig::{calls, ColumnRefusal, Refusal, Rule};
 ///
 /// let mut results = [0; 3];
 /// let refused = calls::move_column(16, 8, Rule::Strict, &[0x4000, 0x5A01, 0x5A01], &mut results);

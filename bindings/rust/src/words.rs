@@ -8,7 +8,7 @@ use core::ops::Neg;
 /// A width from 2 to 64.
 ///
 /// ```
-/// use takum::{Refusal, Width};
+/// use ledusprig::{Refusal, Width};
 ///
 /// assert_eq!(Width::new(16)?.limit(), 512);
 /// assert_eq!(Width::new(65), Err(Refusal::Width));
@@ -22,7 +22,7 @@ pub struct Width {
 /// A word with its width.
 ///
 /// ```
-/// use takum::{Refusal, Rule, Takum, Width};
+/// use ledusprig::{Refusal, Rule, Takum, Width};
 ///
 /// let one_and_a_half = Takum::new(Width::new(16)?, 0x4400)?;
 /// assert_eq!(one_and_a_half.take_binary64(), Some(1.5));
@@ -86,7 +86,7 @@ impl Width {
     /// The word for a value, or [`Refusal::Inexact`] by the strict rule.
     ///
     /// ```
-    /// use takum::{Refusal, Rule, Value, Width};
+    /// use ledusprig::{Refusal, Rule, Value, Width};
     ///
     /// let three_quarters = Value { negative: false, m: 3, k: -2 };
     /// assert_eq!(Width::new(16)?.write(Rule::Strict, three_quarters)?.take_binary64(), Some(0.75));
@@ -161,7 +161,7 @@ impl Neg for Takum {
 /// The order of values within one width, NaR below everything; words of two widths have none.
 ///
 /// ```
-/// use takum::{Refusal, Width};
+/// use ledusprig::{Refusal, Width};
 ///
 /// let width = Width::new(16)?;
 /// assert!(width.nar() < -width.largest() && width.smallest() < width.largest());

@@ -1,28 +1,28 @@
 // Every exported call, called as a reader calls it: the contract here is what is promised of the struct that it hands over, and the proof has only the
 // exported function's contract to go by.
-use takum::columns::takum_move_column;
-use takum::columns::takum_read_block;
-use takum::handed::columns::HandedBlock;
-use takum::handed::columns::HandedColumn;
-use takum::handed::numbers::HandedNumber;
-use takum::handed::numbers::HandedWhole;
-use takum::handed::widths::HandedLimit;
-use takum::handed::words::HandedComparison;
-use takum::handed::words::HandedReading;
-use takum::handed::words::HandedWord;
-use takum::numbers::takum_take_binary64;
-use takum::numbers::takum_take_whole;
-use takum::numbers::takum_write_binary64;
-use takum::numbers::takum_write_whole;
-use takum::widths::takum_largest;
-use takum::widths::takum_limit;
-use takum::widths::takum_nar;
-use takum::widths::takum_smallest;
-use takum::words::takum_compare;
-use takum::words::takum_move;
-use takum::words::takum_negate;
-use takum::words::takum_read;
-use takum::words::takum_write;
+use ledusprig::columns::takum_move_column;
+use ledusprig::columns::takum_read_block;
+use ledusprig::handed::columns::HandedBlock;
+use ledusprig::handed::columns::HandedColumn;
+use ledusprig::handed::numbers::HandedNumber;
+use ledusprig::handed::numbers::HandedWhole;
+use ledusprig::handed::widths::HandedLimit;
+use ledusprig::handed::words::HandedComparison;
+use ledusprig::handed::words::HandedReading;
+use ledusprig::handed::words::HandedWord;
+use ledusprig::numbers::takum_take_binary64;
+use ledusprig::numbers::takum_take_whole;
+use ledusprig::numbers::takum_write_binary64;
+use ledusprig::numbers::takum_write_whole;
+use ledusprig::widths::takum_largest;
+use ledusprig::widths::takum_limit;
+use ledusprig::widths::takum_nar;
+use ledusprig::widths::takum_smallest;
+use ledusprig::words::takum_compare;
+use ledusprig::words::takum_move;
+use ledusprig::words::takum_negate;
+use ledusprig::words::takum_read;
+use ledusprig::words::takum_write;
 ghost use Rattle.promises.specs.Face.{HandsLargest, HandsSmallest, HandsNaR, HandsLimit, HandsReading, HandsComparison, HandsNegated, HandsWritten, HandsMoved, HandsWholeWritten, HandsWhole, HandsBinary64Written, HandsNumber, HandsColumn, HandsBlock};
 
 pub fn call_largest(n: u32) -> HandedWord

@@ -30,15 +30,15 @@ use Rattle.whole.specs.Wholes.{IsWholePart}
 use Rattle.whole.proofs.WholeParts.{one-whole-part}
 use Rattle.binary64.specs.Nearest.{NearestBinary64}
 use Rattle.sheet.specs.Layout as block
-use Rattle.takum.specs.declared.handed.words.HandedWord.{HandedWord}
-use Rattle.takum.specs.declared.handed.words.HandedReading.{HandedReading}
-use Rattle.takum.specs.declared.handed.words.HandedComparison.{HandedComparison}
-use Rattle.takum.specs.declared.handed.widths.HandedLimit.{HandedLimit}
-use Rattle.takum.specs.declared.handed.numbers.HandedWhole.{HandedWhole}
-use Rattle.takum.specs.declared.handed.numbers.HandedNumber.{HandedNumber}
-use Rattle.takum.specs.declared.handed.columns.HandedColumn.{HandedColumn}
-use Rattle.takum.specs.declared.handed.columns.HandedBlock.{HandedBlock}
-use Rattle.takum.specs.Handed.{readingHanded}
+use Rattle.ledusprig.specs.declared.handed.words.HandedWord.{HandedWord}
+use Rattle.ledusprig.specs.declared.handed.words.HandedReading.{HandedReading}
+use Rattle.ledusprig.specs.declared.handed.words.HandedComparison.{HandedComparison}
+use Rattle.ledusprig.specs.declared.handed.widths.HandedLimit.{HandedLimit}
+use Rattle.ledusprig.specs.declared.handed.numbers.HandedWhole.{HandedWhole}
+use Rattle.ledusprig.specs.declared.handed.numbers.HandedNumber.{HandedNumber}
+use Rattle.ledusprig.specs.declared.handed.columns.HandedColumn.{HandedColumn}
+use Rattle.ledusprig.specs.declared.handed.columns.HandedBlock.{HandedBlock}
+use Rattle.ledusprig.specs.Handed.{readingHanded}
 use Rattle.promises.specs.Nearest.{OneNumberIsTheNearest}
 use Rattle.promises.specs.Numbers.{IsWhole}
 use Rattle.promises.specs.Refusals.{Line, line, width, stray, nar, over, room, size, mark, check, blockWidth, count, fill}

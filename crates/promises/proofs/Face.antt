@@ -7,7 +7,7 @@ use Prim.Native.Nat.{ℕ, _<_}
 use native.Mathlib.Omega.{arith}
 use lib.ListN.{length, getD}
 use Rattle.bounds.specs.declared.refusal.Refusal.the-variants.{Width, Stray, Nar, Inexact, Over, Room, Size, Mark, Check, Count, Fill}
-use Rattle.takum.specs.declared.handed.columns.HandedColumn.{HandedColumn}
+use Rattle.ledusprig.specs.declared.handed.columns.HandedColumn.{HandedColumn}
 use Rattle.promises.specs.Refusals.{Line, line}
 use Rattle.promises.specs.Face as promise
 use Rattle.promises.specs.Face.{FieldFollows, wordLines, MovedAll, RefusedAtPosition, HandsColumn, HandsBlock}

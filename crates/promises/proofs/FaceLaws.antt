@@ -11,8 +11,8 @@ use Rattle.bounds.specs.declared.refusal.Verdict.{Verdict}
 use Rattle.bounds.specs.Refusals.{numberOf, Decided, through, refused}
 use Rattle.round.specs.declared.value.Rule.{Rule}
 use Rattle.whole.specs.declared.taking.Taking.{Taking}
-use Rattle.takum.specs.declared.handed.words.HandedWord.{HandedWord}
-use Rattle.takum.specs.Handed.{HandsOver, ruleOf, takingOf, wordHanded}
+use Rattle.ledusprig.specs.declared.handed.words.HandedWord.{HandedWord}
+use Rattle.ledusprig.specs.Handed.{HandsOver, ruleOf, takingOf, wordHanded}
 use Rattle.promises.specs.Refusals.{Line, line, FollowsUpTo, Follows}
 use Rattle.promises.specs.Face.{FieldFollows, HandsWord, NoneHolds}
 use Rattle.promises.proofs.WordRefusals.{rounded-strict}

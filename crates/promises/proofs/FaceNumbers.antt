@@ -27,10 +27,10 @@ use Rattle.binary64.specs.declared.taking.Binary64.{Binary64}
 use Rattle.binary64.specs.Nearest.{NearestBinary64}
 use Rattle.binary64.specs.Takes as taken
 use Rattle.binary64.specs.Writes.{IsWrittenBinary64, WritesBinary64}
-use Rattle.takum.specs.declared.handed.words.HandedWord.{HandedWord}
-use Rattle.takum.specs.declared.handed.numbers.HandedWhole.{HandedWhole}
-use Rattle.takum.specs.declared.handed.numbers.HandedNumber.{HandedNumber}
-use Rattle.takum.specs.Handed.{HandsOver, ruleOf, takingOf, wordHanded, wholeHanded, numberHanded}
+use Rattle.ledusprig.specs.declared.handed.words.HandedWord.{HandedWord}
+use Rattle.ledusprig.specs.declared.handed.numbers.HandedWhole.{HandedWhole}
+use Rattle.ledusprig.specs.declared.handed.numbers.HandedNumber.{HandedNumber}
+use Rattle.ledusprig.specs.Handed.{HandsOver, ruleOf, takingOf, wordHanded, wholeHanded, numberHanded}
 use Rattle.promises.specs.Demands.{TheNaRWord}
 use Rattle.promises.specs.Nearest.{TheNumberOutIsTheNearest}
 use Rattle.promises.specs.Numbers.{IsWhole, AWordThatIsNotNaRGoesOutAsANumber}

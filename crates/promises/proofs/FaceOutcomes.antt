@@ -18,9 +18,9 @@ use Rattle.binary64.specs.Writes.{WritesBinary64}
 use Rattle.column.specs.declared.moving.Column.{Column}
 use Rattle.column.specs.Columns.{MovesColumn, Holds}
 use Rattle.sheet.specs.Reads.{ReadsBlock}
-use Rattle.takum.specs.declared.handed.columns.HandedColumn.{HandedColumn}
-use Rattle.takum.specs.Handed.{HandsOver, MovesTheColumn, wordHanded, readingHanded, comparisonHanded, limitHanded, wholeHanded, numberHanded, columnHanded, blockHanded}
-use Rattle.takum.proofs.OneOutcome.{hands-over-one}
+use Rattle.ledusprig.specs.declared.handed.columns.HandedColumn.{HandedColumn}
+use Rattle.ledusprig.specs.Handed.{HandsOver, MovesTheColumn, wordHanded, readingHanded, comparisonHanded, limitHanded, wholeHanded, numberHanded, columnHanded, blockHanded}
+use Rattle.ledusprig.proofs.OneOutcome.{hands-over-one}
 use Rattle.promises.proofs.OneOutcome.{gives-word-one, gives-limit-one, reads-one, compares-one, negates-one, writes-one, moves-one, writes-whole-one, takes-whole-one, writes-binary64-one, takes-binary64-one, moves-column-one, holds-one, reads-block-one}
 
 -- two outcomes of a function whose contract is HandsOver handed Gives are equal

@@ -16,9 +16,9 @@ use Rattle.column.specs.Columns.{Movable, MovableUpTo, IsTried, MovesColumn, Ho
 use Rattle.sheet.specs.declared.block.Block.{Block}
 use Rattle.sheet.specs.Layout as block
 use Rattle.sheet.specs.Reads.{ReadsBlock, FillsResults}
-use Rattle.takum.specs.declared.handed.columns.HandedBlock.{HandedBlock}
-use Rattle.takum.specs.declared.handed.columns.HandedColumn.{HandedColumn}
-use Rattle.takum.specs.Handed.{HandsOver, MovesTheColumn, ruleOf, columnHanded, blockHanded}
+use Rattle.ledusprig.specs.declared.handed.columns.HandedBlock.{HandedBlock}
+use Rattle.ledusprig.specs.declared.handed.columns.HandedColumn.{HandedColumn}
+use Rattle.ledusprig.specs.Handed.{HandsOver, MovesTheColumn, ruleOf, columnHanded, blockHanded}
 use Rattle.promises.specs.Refusals.{Follows, width, room, size, mark, check, blockWidth, count, fill}
 use Rattle.promises.specs.Slices.{ARefusedBlockWritesNothing}
 use Rattle.promises.specs.Face.{NoneHolds, wordLines, MovedAll, RefusedAtPosition, HandsColumn, HandsBlock}

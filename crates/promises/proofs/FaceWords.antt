@@ -25,11 +25,11 @@ use Rattle.nearest.specs.Nearest.{HasValue}
 use Rattle.write.specs.Writes.{isNegative}
 use Rattle.whole.specs.Limits as limits
 use Rattle.whole.proofs.LimitWords.{every-whole-number-up-to-the-limit-has-a-word, the-limit-plus-one-has-no-word}
-use Rattle.takum.specs.declared.handed.words.HandedWord.{HandedWord}
-use Rattle.takum.specs.declared.handed.words.HandedReading.{HandedReading}
-use Rattle.takum.specs.declared.handed.words.HandedComparison.{HandedComparison}
-use Rattle.takum.specs.declared.handed.widths.HandedLimit.{HandedLimit}
-use Rattle.takum.specs.Handed.{HandsOver, wordHanded, readingHanded, comparisonHanded, limitHanded}
+use Rattle.ledusprig.specs.declared.handed.words.HandedWord.{HandedWord}
+use Rattle.ledusprig.specs.declared.handed.words.HandedReading.{HandedReading}
+use Rattle.ledusprig.specs.declared.handed.words.HandedComparison.{HandedComparison}
+use Rattle.ledusprig.specs.declared.handed.widths.HandedLimit.{HandedLimit}
+use Rattle.ledusprig.specs.Handed.{HandsOver, wordHanded, readingHanded, comparisonHanded, limitHanded}
 use Rattle.promises.specs.Demands.{TheEndWords, TheNaRWord}
 use Rattle.promises.specs.Numbers.{IsWhole}
 use Rattle.promises.specs.Refusals.{width, stray}

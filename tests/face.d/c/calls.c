@@ -2,7 +2,7 @@
 #include "calls.h"
 
 #include "rounding.h"
-#include "takum.h"
+#include "ledusprig.h"
 
 #include <string.h>
 

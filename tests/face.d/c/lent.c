@@ -1,7 +1,7 @@
 /* The calls that are lent slices. Each slice lies between guards, and what the call may not change is compared afterwards. */
 #include "calls.h"
 
-#include "takum.h"
+#include "ledusprig.h"
 
 #include <string.h>
 

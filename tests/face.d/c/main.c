@@ -1,4 +1,4 @@
-/* Makes the calls of the cases on standard input through include/takum.h and compares the answers; tests/face.d/README.md says what a case is. */
+/* Makes the calls of the cases on standard input through include/ledusprig.h and compares the answers; tests/face.d/README.md says what a case is. */
 #include "calls.h"
 #include "rounding.h"
 

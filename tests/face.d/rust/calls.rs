@@ -2,7 +2,7 @@
 use crate::text::{put, stop, Given};
 use std::cmp::Ordering;
 use std::fmt::{Debug, Write};
-use takum::{calls, Reading, Refusal, Rule, Taking, Takum, Value, Width, BLOCK_SIZE, BLOCK_WORDS};
+use ledusprig::{calls, Reading, Refusal, Rule, Taking, Takum, Value, Width, BLOCK_SIZE, BLOCK_WORDS};
 
 /// The answer by plain numbers; where the one by the types is another, the text says so.
 pub fn same<T: PartialEq + Debug>(to: &mut String, plain: T, typed: T) -> T {

@@ -2,7 +2,7 @@
 use crate::calls::{rule, same};
 use crate::text::{put, put_words, Given};
 use std::fmt::Write;
-use takum::{calls, ColumnRefusal, Width};
+use ledusprig::{calls, ColumnRefusal, Width};
 
 const GUARDS: usize = 8;
 

@@ -1,6 +1,6 @@
 //! The text of a case, taken apart and put together.
 use std::fmt::Write;
-use takum::Refusal;
+use ledusprig::Refusal;
 
 /// Ends the program: the case can't be understood.
 pub fn stop(why: &str, text: &str) -> ! {

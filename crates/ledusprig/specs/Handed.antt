@@ -1,0 +1,85 @@
+-- How an answer is handed over to C and Rust: the refusal's number, 0 where nothing was refused, with the answer beside it, which is all zeros
+-- where it was refused, but for the position of a column's refused word. Nothing else is decided here.
+use mathlib.Core.Path.{_≡_}
+use mathlib.Core.Bool.{Bool, true, false}
+use mathlib.Core.List.{List}
+use Prim.Native.Nat.{ℕ}
+use lib.IntN.{ℤ, pos}
+use lib.Ieee.{binary64, ofBits}
+use lib.ListN.{length}
+use Rattle.bounds.specs.Refusals.{numberOf}
+use Rattle.bounds.specs.declared.answer.Answer.{Answer}
+use Rattle.order.specs.declared.order.Comparison.{Comparison}
+use Rattle.word.specs.declared.reading.Reading.{Reading}
+use Rattle.bounds.specs.declared.width.Limit.{Limit}
+use Rattle.round.specs.declared.value.Rule.{Rule}
+use Rattle.whole.specs.declared.taking.Taking.{Taking}
+use Rattle.whole.specs.declared.taking.Whole.{Whole}
+use Rattle.binary64.specs.declared.taking.Binary64.{Binary64}
+use Rattle.column.specs.declared.moving.Column.{Column}
+use Rattle.column.specs.Columns.{MovesColumn, Holds}
+use Rattle.sheet.specs.declared.block.Block.{Block}
+use Rattle.ledusprig.specs.declared.handed.words.HandedWord.{HandedWord}
+use Rattle.ledusprig.specs.declared.handed.words.HandedReading.{HandedReading}
+use Rattle.ledusprig.specs.declared.handed.words.HandedComparison.{HandedComparison}
+use Rattle.ledusprig.specs.declared.handed.widths.HandedLimit.{HandedLimit}
+use Rattle.ledusprig.specs.declared.handed.numbers.HandedWhole.{HandedWhole}
+use Rattle.ledusprig.specs.declared.handed.numbers.HandedNumber.{HandedNumber}
+use Rattle.ledusprig.specs.declared.handed.columns.HandedColumn.{HandedColumn}
+use Rattle.ledusprig.specs.declared.handed.columns.HandedBlock.{HandedBlock}
+
+-- the rule that a flag stands for
+abbrev pub ruleOf : Bool → Rule
+ruleOf true = Rule.Strict
+ruleOf false = Rule.Rounded
+
+abbrev pub takingOf : Bool → Taking
+takingOf true = Taking.Strict
+takingOf false = Taking.Cut
+
+-- how each answer is handed over
+abbrev pub wordHanded : Answer → HandedWord
+wordHanded (Answer.Word w) = record { refusal = 0; word = w }
+wordHanded (Answer.Refused q) = record { refusal = numberOf q; word = 0 }
+
+abbrev pub readingHanded : Reading → HandedReading
+readingHanded Reading.Zero = record { refusal = 0; kind = 0; negative = false; h = pos 0; m = 0; p = 0 }
+readingHanded Reading.Nar = record { refusal = 0; kind = 1; negative = false; h = pos 0; m = 0; p = 0 }
+readingHanded (Reading.Number negative h m p) = record { refusal = 0; kind = 2; negative = negative; h = h; m = m; p = p }
+readingHanded (Reading.Refused q) = record { refusal = numberOf q; kind = 0; negative = false; h = pos 0; m = 0; p = 0 }
+
+abbrev pub comparisonHanded : Comparison → HandedComparison
+comparisonHanded (Comparison.Is order) = record { refusal = 0; order = order }
+comparisonHanded (Comparison.Refused q) = record { refusal = numberOf q; order = pos 0 }
+
+abbrev pub limitHanded : Limit → HandedLimit
+limitHanded (Limit.Count limit) = record { refusal = 0; limit = limit }
+limitHanded (Limit.Refused q) = record { refusal = numberOf q; limit = 0 }
+
+abbrev pub wholeHanded : Whole → HandedWhole
+wholeHanded (Whole.Is x) = record { refusal = 0; whole = x }
+wholeHanded (Whole.Refused q) = record { refusal = numberOf q; whole = pos 0 }
+
+abbrev pub numberHanded : Binary64 → HandedNumber
+numberHanded (Binary64.Number x) = record { refusal = 0; real = true; number = x }
+numberHanded Binary64.Nar = record { refusal = 0; real = false; number = ofBits binary64 0 }
+numberHanded (Binary64.Refused q) = record { refusal = numberOf q; real = false; number = ofBits binary64 0 }
+
+abbrev pub columnHanded : Column → HandedColumn
+columnHanded (Column.Moved count) = record { refusal = 0; position = 0; moved = count }
+columnHanded (Column.Refused q) = record { refusal = numberOf q; position = 0; moved = 0 }
+columnHanded (Column.RefusedAt position q) = record { refusal = numberOf q; position = position; moved = 0 }
+
+abbrev pub blockHanded : Block → HandedBlock
+blockHanded (Block.Read width number count) = record { refusal = 0; width = width; number = number; count = count }
+blockHanded (Block.Refused q) = record { refusal = numberOf q; width = 0; number = 0; count = 0 }
+
+-- ---- what every function of the face answers: the answer that the public call gives, handed over
+pub record HandsOver {Answers Handed : Type 0} (handed : Answers → Handed) (Gives : Answers → Type 0) (r : Handed) : Type 0 where
+  pub answer : Answers
+  pub given : Gives answer
+  pub is : r ≡ handed answer
+
+-- the column's answer, and what its results hold after it
+unfoldable pub MovesTheColumn : ℕ → ℕ → Rule → List ℕ → List ℕ → List ℕ → Column → Type 0
+MovesTheColumn n n' rule words before after a = MovesColumn n n' rule words (length before) a × Holds n n' rule words before a after

@@ -1,0 +1,49 @@
+// Lent slices: moving a column and reading a sheet block. The results stay as they came where the call is refused.
+use crate::handed::columns::HandedBlock;
+use crate::handed::columns::HandedColumn;
+use crate::handed::columns::hand_block;
+use crate::handed::columns::hand_column;
+use bounds::width::Width;
+use column::moving::move_column;
+use round::value::Rule;
+use sheet::block::read_block;
+ghost use lib.ListN.{length};
+ghost use Rattle.sheet.specs.Reads.{ReadsBlock, FillsResults};
+ghost use Rattle.ledusprig.specs.Handed.{HandsOver, MovesTheColumn, columnHanded, blockHanded, ruleOf};
+
+// The flag is asked first, so that each rule has a loop of its own.
+#[no_mangle]
+pub extern "C" fn takum_move_column(
+    from: u32,
+    to: u32,
+    strict: bool,
+    words: &[u64],
+    results: &mut [u64],
+) -> HandedColumn
+    ensures { λ r. ⌜ HandsOver columnHanded (MovesTheColumn from to (ruleOf strict) (now (words .entry)) (now (results .entry)) (now (results .exit))) r ⌝ }
+{
+    if strict {
+        return hand_column(move_column(
+            Width { bits: from },
+            Width { bits: to },
+            Rule::Strict,
+            words,
+            results,
+        ));
+    }
+    hand_column(move_column(
+        Width { bits: from },
+        Width { bits: to },
+        Rule::Rounded,
+        words,
+        results,
+    ))
+}
+
+#[no_mangle]
+pub extern "C" fn takum_read_block(block: &[u8], results: &mut [u64]) -> HandedBlock
+    ensures { λ r. ⌜ HandsOver blockHanded (ReadsBlock (now (block .entry)) (length (now (results .entry)))) r ⌝ }
+    ensures { λ _. ⌜ FillsResults (now (block .entry)) (now (results .entry)) (now (results .exit)) ⌝ }
+{
+    hand_block(read_block(block, results))
+}

@@ -1,0 +1,66 @@
+// What the calls over lent slices hand over: of a moved column, and of a block that was read.
+use column::moving::Column;
+use sheet::block::Block;
+ghost use mathlib.Core.Path.{_≡_};
+ghost use Rattle.ledusprig.specs.Handed.{columnHanded, blockHanded};
+
+// The position of the word that was refused; 0 where no word was.
+#[repr(C)]
+pub struct HandedColumn {
+    pub refusal: u32,
+    pub position: usize,
+    pub moved: usize,
+}
+
+pub(crate) fn hand_column(answer: Column) -> HandedColumn
+    ensures { λ r. ⌜ r ≡ columnHanded answer ⌝ }
+{
+    match answer {
+        Column::Moved(moved) => HandedColumn {
+            refusal: 0,
+            position: 0,
+            moved,
+        },
+        Column::Refused(q) => HandedColumn {
+            refusal: q.number(),
+            position: 0,
+            moved: 0,
+        },
+        Column::RefusedAt { position, refusal } => HandedColumn {
+            refusal: refusal.number(),
+            position,
+            moved: 0,
+        },
+    }
+}
+
+#[repr(C)]
+pub struct HandedBlock {
+    pub refusal: u32,
+    pub width: u32,
+    pub number: u32,
+    pub count: u32,
+}
+
+pub(crate) fn hand_block(answer: Block) -> HandedBlock
+    ensures { λ r. ⌜ r ≡ blockHanded answer ⌝ }
+{
+    match answer {
+        Block::Read {
+            width,
+            number,
+            count,
+        } => HandedBlock {
+            refusal: 0,
+            width,
+            number,
+            count,
+        },
+        Block::Refused(q) => HandedBlock {
+            refusal: q.number(),
+            width: 0,
+            number: 0,
+            count: 0,
+        },
+    }
+}

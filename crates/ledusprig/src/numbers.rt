@@ -1,0 +1,55 @@
+// Whole numbers and binary64 numbers, in and out. A flag is asked first, so that each rule's call is compiled by itself.
+use crate::handed::numbers::HandedNumber;
+use crate::handed::numbers::HandedWhole;
+use crate::handed::numbers::hand_number;
+use crate::handed::numbers::hand_whole;
+use crate::handed::words::HandedWord;
+use crate::handed::words::hand_word;
+use binary64::taking::take_binary64;
+use binary64::writing::write_binary64;
+use bounds::width::Width;
+use round::value::Rule;
+use whole::taking::Taking;
+use whole::taking::take_whole;
+use whole::writing::write_whole;
+ghost use Rattle.whole.specs.Wholes.{WritesWhole, TakesWhole};
+ghost use Rattle.binary64.specs.Takes.{TakesBinary64};
+ghost use Rattle.binary64.specs.Writes.{WritesBinary64};
+ghost use Rattle.ledusprig.specs.Handed.{HandsOver, wordHanded, wholeHanded, numberHanded, ruleOf, takingOf};
+
+#[no_mangle]
+pub extern "C" fn takum_write_whole(n: u32, strict: bool, x: i64) -> HandedWord
+    ensures { λ r. ⌜ HandsOver wordHanded (WritesWhole n (ruleOf strict) x) r ⌝ }
+{
+    if strict {
+        return hand_word(write_whole(Width { bits: n }, Rule::Strict, x));
+    }
+    hand_word(write_whole(Width { bits: n }, Rule::Rounded, x))
+}
+
+#[no_mangle]
+pub extern "C" fn takum_take_whole(n: u32, strict: bool, word: u64) -> HandedWhole
+    ensures { λ r. ⌜ HandsOver wholeHanded (TakesWhole n (takingOf strict) word) r ⌝ }
+{
+    if strict {
+        return hand_whole(take_whole(Width { bits: n }, Taking::Strict, word));
+    }
+    hand_whole(take_whole(Width { bits: n }, Taking::Cut, word))
+}
+
+#[no_mangle]
+pub extern "C" fn takum_write_binary64(n: u32, strict: bool, x: f64) -> HandedWord
+    ensures { λ r. ⌜ HandsOver wordHanded (WritesBinary64 n (ruleOf strict) x) r ⌝ }
+{
+    if strict {
+        return hand_word(write_binary64(Width { bits: n }, Rule::Strict, x));
+    }
+    hand_word(write_binary64(Width { bits: n }, Rule::Rounded, x))
+}
+
+#[no_mangle]
+pub extern "C" fn takum_take_binary64(n: u32, word: u64) -> HandedNumber
+    ensures { λ r. ⌜ HandsOver numberHanded (TakesBinary64 n word) r ⌝ }
+{
+    hand_number(take_binary64(Width { bits: n }, word))
+}

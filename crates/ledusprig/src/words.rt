@@ -1,0 +1,68 @@
+// One word: reading, comparing and negating it, writing a value as one, and moving it to another width. A flag is asked first, so that each
+// rule's call is compiled by itself.
+use crate::handed::words::HandedComparison;
+use crate::handed::words::HandedReading;
+use crate::handed::words::HandedWord;
+use crate::handed::words::hand_comparison;
+use crate::handed::words::hand_reading;
+use crate::handed::words::hand_word;
+use bounds::width::Width;
+use order::order::compare;
+use order::order::negate;
+use round::value::Rule;
+use word::reading::read;
+use write::moving::move_word;
+use write::value::Value;
+use write::writing::write;
+ghost use Rattle.order.specs.Orders.{Compares, Negates};
+ghost use Rattle.word.specs.Reads.{Reads};
+ghost use Rattle.write.specs.Writes.{Writes, Moves};
+ghost use Rattle.ledusprig.specs.Handed.{HandsOver, wordHanded, readingHanded, comparisonHanded, ruleOf};
+
+#[no_mangle]
+pub extern "C" fn takum_read(n: u32, word: u64) -> HandedReading
+    ensures { λ r. ⌜ HandsOver readingHanded (Reads n word) r ⌝ }
+{
+    hand_reading(read(Width { bits: n }, word))
+}
+
+#[no_mangle]
+pub extern "C" fn takum_compare(n: u32, x: u64, y: u64) -> HandedComparison
+    ensures { λ r. ⌜ HandsOver comparisonHanded (Compares n x y) r ⌝ }
+{
+    hand_comparison(compare(Width { bits: n }, x, y))
+}
+
+#[no_mangle]
+pub extern "C" fn takum_negate(n: u32, word: u64) -> HandedWord
+    ensures { λ r. ⌜ HandsOver wordHanded (Negates n word) r ⌝ }
+{
+    hand_word(negate(Width { bits: n }, word))
+}
+
+// Plus or minus m * 2^k.
+#[no_mangle]
+pub extern "C" fn takum_write(n: u32, strict: bool, negative: bool, m: u64, k: i32) -> HandedWord
+    ensures { λ r. ⌜ HandsOver wordHanded (Writes n (ruleOf strict) (record { negative = negative; m = m; k = k })) r ⌝ }
+{
+    let value = Value { negative, m, k };
+    if strict {
+        return hand_word(write(Width { bits: n }, Rule::Strict, value));
+    }
+    hand_word(write(Width { bits: n }, Rule::Rounded, value))
+}
+
+#[no_mangle]
+pub extern "C" fn takum_move(from: u32, to: u32, strict: bool, word: u64) -> HandedWord
+    ensures { λ r. ⌜ HandsOver wordHanded (Moves from to (ruleOf strict) word) r ⌝ }
+{
+    if strict {
+        return hand_word(move_word(Width { bits: from }, Width { bits: to }, Rule::Strict, word));
+    }
+    hand_word(move_word(
+        Width { bits: from },
+        Width { bits: to },
+        Rule::Rounded,
+        word,
+    ))
+}

@@ -1,0 +1,182 @@
+/* Linear takums of width 2 to 64: the calls of libledusprig.a, a library in which every function is proved to do what its contract says. This page says
+ * the same in words, and tests/face tries it.
+ *
+ *     takum_word_answer tag = takum_write_whole(16, TAKUM_STRICT, 515);
+ *     if (tag.refusal == TAKUM_INEXACT) ...    515 has no word of 16 bits
+ *
+ * To build: `rt staticlib ledusprig` makes target/staticlib/libledusprig.a (x86-64), which is linked like any archive: cc program.c -Iinclude
+ * target/staticlib/libledusprig.a. It stands on nothing else, not even the C library, holds no state and may be called from any thread. No answer
+ * depends on the floating-point rounding mode; no call changes it, and none raises an exception of IEEE 754 unless it says so below. (x86-64's own
+ * flag "denormal operand" is none of these; a subnormal double may set it.)
+ *
+ * A word of width n (in bits, 2 to 64) is carried in the low n bits of a uint64_t; the bits above must be zero. Zero is all bits zero, NaR
+ * ("not a real") is the highest of the n bits alone. As n-bit two's complement numbers, words are in the order of their values.
+ *
+ * Every call takes every value of its arguments and returns. Each answer is a struct with the field `refusal`:
+ *
+ * - It is 0 (TAKUM_OK) where the call was answered, and the other fields are the answer.
+ * - It is a number from 1 to 11 where the call was refused. Then all other fields are zero (but for the position of a column), and a lent
+ *   slice is as it was before the call. Where several refusals apply, the first is given, in this order:
+ *   words: WIDTH, STRAY, NAR, OVER, INEXACT; columns: WIDTH, ROOM, then position by position, at each STRAY and INEXACT; blocks: SIZE,
+ *   MARK, CHECK, WIDTH, COUNT, FILL, ROOM.
+ *
+ * What a proof can't see is how the calls are used from C. It rests on this:
+ *
+ * - A lent slice is a pointer and a length, counted in elements. The pointer is not null and is aligned for its elements; as many of them
+ *   as the length says lie there, initialized, and may be read, and results written, until the call returns. For an empty slice the length
+ *   is 0; its pointer, too, is not null and is aligned, as the address of any uint64_t (for a block's bytes any address) is, and nothing is
+ *   read or written there. Don't pass NULL.
+ * - The two slices of a call do not overlap, and nothing else changes them during the call.
+ * - A bool is 0 or 1, as every bool is that C makes itself. */
+#ifndef LEDUSPRIG_H
+#define LEDUSPRIG_H
+
+#include <stdbool.h>
+#include <stddef.h>
+#include <stdint.h>
+
+#ifdef __cplusplus
+extern "C" {
+#endif
+
+/* Why a call was refused. Every call that takes a width can give WIDTH, and every call that takes a word STRAY; what else it can give stands at
+ * the call. */
+enum takum_refusal {
+    TAKUM_OK = 0,      /* it was not refused */
+    TAKUM_WIDTH = 1,   /* a width isn't 2 to 64, or a block's isn't 8, 16, 32 or 64 */
+    TAKUM_STRAY = 2,   /* a word has a bit set at or above its width */
+    TAKUM_NAR = 3,     /* a whole number is wanted of NaR */
+    TAKUM_INEXACT = 4, /* strict, and no word, or no whole number, has the value */
+    TAKUM_OVER = 5,    /* the whole number falls outside signed 64 bits */
+    TAKUM_ROOM = 6,    /* the result slice is too short */
+    TAKUM_SIZE = 7,    /* a block isn't 512 bytes */
+    TAKUM_MARK = 8,    /* a block's byte 0 isn't 0x54 */
+    TAKUM_CHECK = 9,   /* a block's check sum A or B differs */
+    TAKUM_COUNT = 10,  /* a block has more words than its width has room for */
+    TAKUM_FILL = 11    /* an unused word byte of a block isn't zero */
+};
+
+/* The bounds of a width in bits, the size of a block in bytes, and the most words that a block has. */
+enum { TAKUM_LEAST_WIDTH = 2, TAKUM_GREATEST_WIDTH = 64, TAKUM_BLOCK_SIZE = 512, TAKUM_BLOCK_WORDS = 496 };
+
+/* The rule of a call, its argument `strict`. Writing and moving are rounded or strict, taking a whole number is cut or strict.
+ *
+ * - ROUNDED: of the nonzero words with the value's sign the one nearest to it by value; of two that are equally near the one whose lowest
+ *   bit is 0; past the ends the end word, never zero and never NaR. Zero gives zero.
+ * - CUT: the whole part, the fraction dropped toward zero.
+ * - STRICT: exactly the value, or INEXACT. */
+#define TAKUM_ROUNDED false
+#define TAKUM_CUT false
+#define TAKUM_STRICT true
+
+/* The field `kind` of a reading. */
+enum takum_kind { TAKUM_KIND_ZERO = 0, TAKUM_KIND_NAR = 1, TAKUM_KIND_NUMBER = 2 };
+
+typedef struct takum_word_answer {
+    uint32_t refusal;
+    uint64_t word;
+} takum_word_answer;
+
+/* The fields after `kind` are zero unless it is TAKUM_KIND_NUMBER. Then the size is m * 2^(h - p), with 2^p <= m < 2^(p + 1), p being the number of
+ * fraction bits (of a word of fewer than 12 bits with zero bits appended up to 12), and `negative` the sign. */
+typedef struct takum_reading_answer {
+    uint32_t refusal;
+    uint32_t kind;
+    bool negative;
+    int32_t h;
+    uint64_t m;
+    uint32_t p;
+} takum_reading_answer;
+
+typedef struct takum_order_answer {
+    uint32_t refusal;
+    int32_t order;
+} takum_order_answer;
+
+typedef struct takum_limit_answer {
+    uint32_t refusal;
+    uint64_t limit;
+} takum_limit_answer;
+
+typedef struct takum_whole_answer {
+    uint32_t refusal;
+    int64_t whole;
+} takum_whole_answer;
+
+/* `real` is false where the word is NaR: there is no reading, and the number is 0. */
+typedef struct takum_number_answer {
+    uint32_t refusal;
+    bool real;
+    double number;
+} takum_number_answer;
+
+/* `moved` is how many words were moved. Where the refusal is STRAY or INEXACT, `position` is that of the word that was refused, counted from
+ * 0; otherwise it is 0. */
+typedef struct takum_column_answer {
+    uint32_t refusal;
+    size_t position;
+    size_t moved;
+} takum_column_answer;
+
+/* The width of a block's words in bits, the block's number, and how many words it has. */
+typedef struct takum_block_answer {
+    uint32_t refusal;
+    uint32_t width;
+    uint32_t number;
+    uint32_t count;
+} takum_block_answer;
+
+/* What belongs to width n: its largest positive word 2^(n - 1) - 1, its smallest positive word 1, and its NaR word 2^(n - 1). */
+takum_word_answer takum_largest(uint32_t n);
+takum_word_answer takum_smallest(uint32_t n);
+takum_word_answer takum_nar(uint32_t n);
+
+/* The exact-count limit of width n, a power of two: each whole number from -limit to limit has a word, and limit + 1 has none. */
+takum_limit_answer takum_limit(uint32_t n);
+
+/* The value of a word: zero, NaR, or a number by its parts. */
+takum_reading_answer takum_read(uint32_t n, uint64_t word);
+
+/* -1, 0 or 1 as x is below, equal to or above y. NaR is below everything and equals itself. STRAY for either word. */
+takum_order_answer takum_compare(uint32_t n, uint64_t x, uint64_t y);
+
+/* The word with the negated value; zero and NaR stay. */
+takum_word_answer takum_negate(uint32_t n, uint64_t word);
+
+/* The word for m * 2^k, or for -m * 2^k where `negative` is true; m = 0 is zero, whichever the sign. INEXACT by the strict rule. */
+takum_word_answer takum_write(uint32_t n, bool strict, bool negative, uint64_t m, int32_t k);
+
+/* The word of width `to` for the value of a word of width `from`; NaR gives NaR. Going wider never changes a value. INEXACT by the strict
+ * rule. */
+takum_word_answer takum_move(uint32_t from, uint32_t to, bool strict, uint64_t word);
+
+/* The word for a whole number. INEXACT by the strict rule. */
+takum_word_answer takum_write_whole(uint32_t n, bool strict, int64_t x);
+
+/* The whole number of a word, cut or strict. NAR for NaR, OVER where its whole part is below -2^63 or above 2^63 - 1, and, by the
+ * strict rule, INEXACT where the value isn't whole. */
+takum_whole_answer takum_take_whole(uint32_t n, bool strict, uint64_t word);
+
+/* The word for a double (binary64): NaN and both infinities give NaR, both zeros give zero. INEXACT by the strict rule. A signalling NaN raises the
+ * floating-point exception INVALID, as every comparison with it does. */
+takum_word_answer takum_write_binary64(uint32_t n, bool strict, double x);
+
+/* The double for a word: exactly its value up to width 57; from 58 on the nearest double, ties to even, in every rounding mode. Zero is positive
+ * zero. No floating-point exception is raised: nothing is rounded by the processor. */
+takum_number_answer takum_take_binary64(uint32_t n, uint64_t word);
+
+/* Moves a column, each of the words as takum_move does: the first results are the moved words, in order, and the others stay as they were.
+ * ROOM where there are fewer results than words, even if a word would be refused too. A word's refusal, STRAY or INEXACT, comes with its
+ * position: the lowest at which there is one. An empty column moves 0 words. */
+takum_column_answer takum_move_column(uint32_t from, uint32_t to, bool strict, const uint64_t *words, size_t words_length, uint64_t *results,
+                                      size_t results_length);
+
+/* Reads a sheet block of 512 bytes: the first results are its words, in order, and the others stay as they were. TAKUM_BLOCK_WORDS results
+ * are enough for every block. SIZE, MARK, CHECK, WIDTH, COUNT, FILL or ROOM, in this order; any word that a block holds is a good one. */
+takum_block_answer takum_read_block(const uint8_t *block, size_t block_length, uint64_t *results, size_t results_length);
+
+#ifdef __cplusplus
+}
+#endif
+
+#endif

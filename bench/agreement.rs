@@ -24,7 +24,7 @@ fn perhaps_stray(n: u32, word: u64) -> u64 {
 
 fn agree_on_writes(calls: [Write; 3], n: u32, strict: bool, offers: &[Offer]) {
     for o in offers.iter().step_by(16) {
-        let [ours, theirs] = [0, 1].map(|i| unsafe { calls[i](n, strict, o.negative, o.m, o.k) }.parts());
+        let [ours, theirs] = [0, 1].map(|i| unsafe { calls[i](n, strict as u32, o.negative, o.m, o.k) }.parts());
         if ours != theirs {
             differ(&format!("writing at {}, strict {}: negative {}, m {:x}, k {}", n, strict, o.negative, o.m, o.k), ours, theirs);
         }
@@ -34,7 +34,7 @@ fn agree_on_writes(calls: [Write; 3], n: u32, strict: bool, offers: &[Offer]) {
 fn agree_on_moves(calls: [Move; 3], from: u32, to: u32, strict: bool, words: &[u64]) {
     for w in words.iter().step_by(512) {
         let word = perhaps_stray(from, *w);
-        let [ours, theirs] = [0, 1].map(|i| unsafe { calls[i](from, to, strict, word) }.parts());
+        let [ours, theirs] = [0, 1].map(|i| unsafe { calls[i](from, to, strict as u32, word) }.parts());
         if ours != theirs {
             differ(&format!("moving {:x} from {} to {}, strict {}", word, from, to, strict), ours, theirs);
         }

@@ -4,24 +4,24 @@ use crate::handed::{HandedBlock, HandedColumn, HandedNumber, HandedWhole, Handed
 use crate::plain;
 use std::slice::{from_raw_parts, from_raw_parts_mut};
 
-pub type Write = unsafe extern "C" fn(u32, bool, bool, u64, i32) -> HandedWord;
-pub type Move = unsafe extern "C" fn(u32, u32, bool, u64) -> HandedWord;
+pub type Write = unsafe extern "C" fn(u32, u32, bool, u64, i32) -> HandedWord;
+pub type Move = unsafe extern "C" fn(u32, u32, u32, u64) -> HandedWord;
 // Something of one width in, or a word of it out: by a rule, or where there is none.
-pub type ByRule<T, R> = unsafe extern "C" fn(u32, bool, T) -> R;
+pub type ByRule<T, R> = unsafe extern "C" fn(u32, u32, T) -> R;
 pub type Outright<T, R> = unsafe extern "C" fn(u32, T) -> R;
 // A lent slice is a pointer and a length.
-pub type MoveColumn = unsafe extern "C" fn(u32, u32, bool, *const u64, usize, *mut u64, usize) -> HandedColumn;
+pub type MoveColumn = unsafe extern "C" fn(u32, u32, u32, *const u64, usize, *mut u64, usize) -> HandedColumn;
 pub type ReadBlock = unsafe extern "C" fn(*const u8, usize, *mut u64, usize) -> HandedBlock;
 
 // crates/ledusprig
 extern "C" {
-    fn takum_write(n: u32, strict: bool, negative: bool, m: u64, k: i32) -> HandedWord;
-    fn takum_move(from: u32, to: u32, strict: bool, word: u64) -> HandedWord;
-    fn takum_write_whole(n: u32, strict: bool, x: i64) -> HandedWord;
-    fn takum_take_whole(n: u32, strict: bool, word: u64) -> HandedWhole;
-    fn takum_write_binary64(n: u32, strict: bool, x: f64) -> HandedWord;
+    fn takum_write(n: u32, rule: u32, negative: bool, m: u64, k: i32) -> HandedWord;
+    fn takum_move(from: u32, to: u32, rule: u32, word: u64) -> HandedWord;
+    fn takum_write_whole(n: u32, rule: u32, x: i64) -> HandedWord;
+    fn takum_take_whole(n: u32, taking: u32, word: u64) -> HandedWhole;
+    fn takum_write_binary64(n: u32, rule: u32, x: f64) -> HandedWord;
     fn takum_take_binary64(n: u32, word: u64) -> HandedNumber;
-    fn takum_move_column(from: u32, to: u32, strict: bool, words: *const u64, count: usize, results: *mut u64, room: usize) -> HandedColumn;
+    fn takum_move_column(from: u32, to: u32, rule: u32, words: *const u64, count: usize, results: *mut u64, room: usize) -> HandedColumn;
     fn takum_read_block(block: *const u8, size: usize, results: *mut u64, room: usize) -> HandedBlock;
 }
 
@@ -34,55 +34,55 @@ pub const TAKE_BINARY64: [Outright<u64, HandedNumber>; 3] = [takum_take_binary64
 pub const MOVE_COLUMN: [MoveColumn; 3] = [takum_move_column, plain_move_column, empty_move_column];
 pub const READ_BLOCK: [ReadBlock; 3] = [takum_read_block, plain_read_block, empty_read_block];
 
-extern "C" fn plain_write(n: u32, strict: bool, negative: bool, m: u64, k: i32) -> HandedWord {
-    plain::write(n, strict, negative, m, k).into()
+extern "C" fn plain_write(n: u32, rule: u32, negative: bool, m: u64, k: i32) -> HandedWord {
+    plain::write(n, rule != 0, negative, m, k).into()
 }
 
-extern "C" fn plain_move(from: u32, to: u32, strict: bool, word: u64) -> HandedWord {
-    plain::move_word(from, to, strict, word).into()
+extern "C" fn plain_move(from: u32, to: u32, rule: u32, word: u64) -> HandedWord {
+    plain::move_word(from, to, rule != 0, word).into()
 }
 
-extern "C" fn plain_write_whole(n: u32, strict: bool, x: i64) -> HandedWord {
-    plain::whole::write_whole(n, strict, x).into()
+extern "C" fn plain_write_whole(n: u32, rule: u32, x: i64) -> HandedWord {
+    plain::whole::write_whole(n, rule != 0, x).into()
 }
 
-extern "C" fn plain_take_whole(n: u32, strict: bool, word: u64) -> HandedWhole {
-    plain::whole::take_whole(n, strict, word).into()
+extern "C" fn plain_take_whole(n: u32, rule: u32, word: u64) -> HandedWhole {
+    plain::whole::take_whole(n, rule != 0, word).into()
 }
 
-extern "C" fn plain_write_binary64(n: u32, strict: bool, x: f64) -> HandedWord {
-    plain::binary64::write_binary64(n, strict, x).into()
+extern "C" fn plain_write_binary64(n: u32, rule: u32, x: f64) -> HandedWord {
+    plain::binary64::write_binary64(n, rule != 0, x).into()
 }
 
 extern "C" fn plain_take_binary64(n: u32, word: u64) -> HandedNumber {
     plain::binary64::take_binary64(n, word).into()
 }
 
-unsafe extern "C" fn plain_move_column(from: u32, to: u32, strict: bool, words: *const u64, count: usize, results: *mut u64, room: usize) -> HandedColumn {
-    plain::column::move_column(from, to, strict, from_raw_parts(words, count), from_raw_parts_mut(results, room)).into()
+unsafe extern "C" fn plain_move_column(from: u32, to: u32, rule: u32, words: *const u64, count: usize, results: *mut u64, room: usize) -> HandedColumn {
+    plain::column::move_column(from, to, rule != 0, from_raw_parts(words, count), from_raw_parts_mut(results, room)).into()
 }
 
 unsafe extern "C" fn plain_read_block(block: *const u8, size: usize, results: *mut u64, room: usize) -> HandedBlock {
     plain::block::read_block(from_raw_parts(block, size), from_raw_parts_mut(results, room)).into()
 }
 
-extern "C" fn empty_write(_n: u32, _strict: bool, _negative: bool, m: u64, _k: i32) -> HandedWord {
+extern "C" fn empty_write(_n: u32, _rule: u32, _negative: bool, m: u64, _k: i32) -> HandedWord {
     HandedWord { refusal: 0, word: m }
 }
 
-extern "C" fn empty_move(_from: u32, _to: u32, _strict: bool, word: u64) -> HandedWord {
+extern "C" fn empty_move(_from: u32, _to: u32, _rule: u32, word: u64) -> HandedWord {
     HandedWord { refusal: 0, word }
 }
 
-extern "C" fn empty_write_whole(_n: u32, _strict: bool, x: i64) -> HandedWord {
+extern "C" fn empty_write_whole(_n: u32, _rule: u32, x: i64) -> HandedWord {
     HandedWord { refusal: 0, word: x as u64 }
 }
 
-extern "C" fn empty_take_whole(_n: u32, _strict: bool, word: u64) -> HandedWhole {
+extern "C" fn empty_take_whole(_n: u32, _rule: u32, word: u64) -> HandedWhole {
     HandedWhole { refusal: 0, whole: word as i64 }
 }
 
-extern "C" fn empty_write_binary64(_n: u32, _strict: bool, x: f64) -> HandedWord {
+extern "C" fn empty_write_binary64(_n: u32, _rule: u32, x: f64) -> HandedWord {
     HandedWord { refusal: 0, word: x.to_bits() }
 }
 
@@ -90,7 +90,7 @@ extern "C" fn empty_take_binary64(_n: u32, word: u64) -> HandedNumber {
     HandedNumber { refusal: 0, real: true, number: f64::from_bits(word) }
 }
 
-extern "C" fn empty_move_column(_from: u32, _to: u32, _strict: bool, _words: *const u64, count: usize, _results: *mut u64, _room: usize) -> HandedColumn {
+extern "C" fn empty_move_column(_from: u32, _to: u32, _rule: u32, _words: *const u64, count: usize, _results: *mut u64, _room: usize) -> HandedColumn {
     HandedColumn { refusal: 0, position: 0, moved: count }
 }
 
@@ -106,7 +106,7 @@ pub trait One<T, R>: Copy {
 impl<T, R> One<T, R> for ByRule<T, R> {
     #[inline(always)]
     fn on(self, n: u32, strict: bool, x: T) -> R {
-        unsafe { self(n, strict, x) }
+        unsafe { self(n, strict as u32, x) }
     }
 }
 
@@ -120,7 +120,7 @@ impl<T, R> One<T, R> for Outright<T, R> {
 // The two that work on slices, called on slices.
 #[inline(always)]
 pub fn on_column(call: MoveColumn, from: u32, to: u32, strict: bool, words: &[u64], results: &mut [u64]) -> HandedColumn {
-    unsafe { call(from, to, strict, words.as_ptr(), words.len(), results.as_mut_ptr(), results.len()) }
+    unsafe { call(from, to, strict as u32, words.as_ptr(), words.len(), results.as_mut_ptr(), results.len()) }
 }
 
 #[inline(always)]

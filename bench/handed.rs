@@ -65,7 +65,7 @@ impl From<Result<Option<f64>, u32>> for HandedNumber {
     fn from(answer: Result<Option<f64>, u32>) -> Self {
         match answer {
             Ok(Some(number)) => HandedNumber { refusal: 0, real: true, number },
-            Ok(None) => HandedNumber { refusal: 0, real: false, number: 0.0 },
+            Ok(None) => HandedNumber { refusal: 0, real: false, number: f64::NAN },
             Err(refusal) => HandedNumber { refusal, real: false, number: 0.0 },
         }
     }

@@ -58,11 +58,11 @@ fn main() {
 
     let mut within = true;
     for n in [16, 64] {
-        let side = |i: usize| { let (call, offers) = (hidden(&WRITE[i]), &offers); move || sum(offers.iter().map(|o| unsafe { call(n, false, o.negative, o.m, o.k) }.bits())) };
+        let side = |i: usize| { let (call, offers) = (hidden(&WRITE[i]), &offers); move || sum(offers.iter().map(|o| unsafe { call(n, 0, o.negative, o.m, o.k) }.bits())) };
         within &= compare(&format!("writing at {}", n), COUNT, [&mut side(0), &mut side(1), &mut side(2)]);
     }
     for (from, to, words) in [(64, 16, &wide), (16, 64, &narrow)] {
-        let side = |i: usize| { let call = hidden(&MOVE[i]); move || sum(words.iter().map(|&w| unsafe { call(from, to, false, w) }.bits())) };
+        let side = |i: usize| { let call = hidden(&MOVE[i]); move || sum(words.iter().map(|&w| unsafe { call(from, to, 0, w) }.bits())) };
         within &= compare(&format!("moving {} to {}", from, to), COUNT, [&mut side(0), &mut side(1), &mut side(2)]);
     }
     for n in [16, 64] {

@@ -1,13 +1,13 @@
-/* Linear takums of width 2 to 64: the calls of libledusprig.a, a library in which every function is proved to do what its contract says. This page says
- * the same in words, and tests/face tries it.
+/* Linear takums of width 2 to 64: the calls of libledusprig.a, a library in which every function is proved to do what its contract says. This page
+ * says the same in words, and tests/face tries it.
  *
  *     takum_word_answer tag = takum_write_whole(16, TAKUM_STRICT, 515);
- *     if (tag.refusal == TAKUM_INEXACT) ...    515 has no word of 16 bits
+ *     if (tag.refusal == TAKUM_INEXACT) puts("515 has no word of 16 bits");
  *
- * To build: `rt staticlib ledusprig` makes target/staticlib/libledusprig.a (x86-64), which is linked like any archive: cc program.c -Iinclude
- * target/staticlib/libledusprig.a. It stands on nothing else, not even the C library, holds no state and may be called from any thread. No answer
- * depends on the floating-point rounding mode; no call changes it, and none raises an exception of IEEE 754 unless it says so below. (x86-64's own
- * flag "denormal operand" is none of these; a subnormal double may set it.)
+ * The archive is for x86-64 or for Arm (aarch64), under Linux. It is linked like any other: cc program.c libledusprig.a, or, where it is installed,
+ * cc program.c $(pkg-config --cflags --libs ledusprig). It stands on nothing else, not even the C library, holds no state and may be called from
+ * any thread. No answer depends on the floating-point rounding mode; no call changes it, and none raises an exception of IEEE 754 unless it says so
+ * below. (The processors' own flag for a subnormal operand is none of these; a subnormal double may set it.)
  *
  * A word of width n (in bits, 2 to 64) is carried in the low n bits of a uint64_t; the bits above must be zero. Zero is all bits zero, NaR
  * ("not a real") is the highest of the n bits alone. As n-bit two's complement numbers, words are in the order of their values.
@@ -16,7 +16,7 @@
  *
  * - It is 0 (TAKUM_OK) where the call was answered, and the other fields are the answer.
  * - It is a number from 1 to 11 where the call was refused. Then all other fields are zero (but for the position of a column), and a lent
- *   slice is as it was before the call. Where several refusals apply, the first is given, in this order:
+ *   slice is as it was before the call. takum_refusal_name gives its name. Where several refusals apply, the first is given, in this order:
  *   words: WIDTH, STRAY, NAR, OVER, INEXACT; columns: WIDTH, ROOM, then position by position, at each STRAY and INEXACT; blocks: SIZE,
  *   MARK, CHECK, WIDTH, COUNT, FILL, ROOM.
  *
@@ -34,6 +34,22 @@
 #include <stdbool.h>
 #include <stddef.h>
 #include <stdint.h>
+
+/* The version of this header and of the library that it came with; as a number, 10000 * major + 100 * minor + patch. */
+#define TAKUM_VERSION "0.2.0"
+#define TAKUM_VERSION_NUMBER 200
+
+/* No call throws, and a compiler that can tells where an answer is dropped: what was not looked at may have been refused. */
+#ifdef __cplusplus
+#define TAKUM_NOEXCEPT noexcept
+#else
+#define TAKUM_NOEXCEPT
+#endif
+#ifdef __GNUC__
+#define TAKUM_MUST_USE __attribute__((warn_unused_result))
+#else
+#define TAKUM_MUST_USE
+#endif
 
 #ifdef __cplusplus
 extern "C" {
@@ -56,18 +72,43 @@ enum takum_refusal {
     TAKUM_FILL = 11    /* an unused word byte of a block isn't zero */
 };
 
+/* The paper's name of a refusal: "INEXACT" for 4, "OK" for 0, and "UNKNOWN" for a number that this header doesn't have, as a later library may. */
+static inline const char *takum_refusal_name(uint32_t refusal) TAKUM_NOEXCEPT {
+    switch (refusal) {
+    case TAKUM_OK: return "OK";
+    case TAKUM_WIDTH: return "WIDTH";
+    case TAKUM_STRAY: return "STRAY";
+    case TAKUM_NAR: return "NAR";
+    case TAKUM_INEXACT: return "INEXACT";
+    case TAKUM_OVER: return "OVER";
+    case TAKUM_ROOM: return "ROOM";
+    case TAKUM_SIZE: return "SIZE";
+    case TAKUM_MARK: return "MARK";
+    case TAKUM_CHECK: return "CHECK";
+    case TAKUM_COUNT: return "COUNT";
+    case TAKUM_FILL: return "FILL";
+    default: return "UNKNOWN";
+    }
+}
+
 /* The bounds of a width in bits, the size of a block in bytes, and the most words that a block has. */
 enum { TAKUM_LEAST_WIDTH = 2, TAKUM_GREATEST_WIDTH = 64, TAKUM_BLOCK_SIZE = 512, TAKUM_BLOCK_WORDS = 496 };
 
-/* The rule of a call, its argument `strict`. Writing and moving are rounded or strict, taking a whole number is cut or strict.
+/* The rule of writing and moving. Any number but 0 is strict, so that a rule that is none never rounds.
  *
  * - ROUNDED: of the nonzero words with the value's sign the one nearest to it by value; of two that are equally near the one whose lowest
  *   bit is 0; past the ends the end word, never zero and never NaR. Zero gives zero.
+ * - STRICT: the word with exactly the value, or INEXACT. */
+typedef enum takum_rule { TAKUM_ROUNDED = 0, TAKUM_STRICT = 1 } takum_rule;
+
+/* The rule of taking a whole number. Any number but 0 is strict.
+ *
  * - CUT: the whole part, the fraction dropped toward zero.
  * - STRICT: exactly the value, or INEXACT. */
-#define TAKUM_ROUNDED false
-#define TAKUM_CUT false
-#define TAKUM_STRICT true
+typedef enum takum_taking { TAKUM_TAKE_CUT = 0, TAKUM_TAKE_STRICT = 1 } takum_taking;
+
+/* Both are handed over as 32 bits (gcc's -fshort-enums would make them shorter): else this is no type. */
+typedef char takum_rules_have_32_bits[sizeof(takum_rule) == 4 && sizeof(takum_taking) == 4 ? 1 : -1];
 
 /* The field `kind` of a reading. */
 enum takum_kind { TAKUM_KIND_ZERO = 0, TAKUM_KIND_NAR = 1, TAKUM_KIND_NUMBER = 2 };
@@ -103,7 +144,7 @@ typedef struct takum_whole_answer {
     int64_t whole;
 } takum_whole_answer;
 
-/* `real` is false where the word is NaR: there is no reading, and the number is 0. */
+/* `real` is false where the word is NaR: there is no reading, and the number is a NaN, so that a void is not booked as 0. */
 typedef struct takum_number_answer {
     uint32_t refusal;
     bool real;
@@ -127,53 +168,54 @@ typedef struct takum_block_answer {
 } takum_block_answer;
 
 /* What belongs to width n: its largest positive word 2^(n - 1) - 1, its smallest positive word 1, and its NaR word 2^(n - 1). */
-takum_word_answer takum_largest(uint32_t n);
-takum_word_answer takum_smallest(uint32_t n);
-takum_word_answer takum_nar(uint32_t n);
+TAKUM_MUST_USE takum_word_answer takum_largest(uint32_t n) TAKUM_NOEXCEPT;
+TAKUM_MUST_USE takum_word_answer takum_smallest(uint32_t n) TAKUM_NOEXCEPT;
+TAKUM_MUST_USE takum_word_answer takum_nar(uint32_t n) TAKUM_NOEXCEPT;
 
 /* The exact-count limit of width n, a power of two: each whole number from -limit to limit has a word, and limit + 1 has none. */
-takum_limit_answer takum_limit(uint32_t n);
+TAKUM_MUST_USE takum_limit_answer takum_limit(uint32_t n) TAKUM_NOEXCEPT;
 
 /* The value of a word: zero, NaR, or a number by its parts. */
-takum_reading_answer takum_read(uint32_t n, uint64_t word);
+TAKUM_MUST_USE takum_reading_answer takum_read(uint32_t n, uint64_t word) TAKUM_NOEXCEPT;
 
 /* -1, 0 or 1 as x is below, equal to or above y. NaR is below everything and equals itself. STRAY for either word. */
-takum_order_answer takum_compare(uint32_t n, uint64_t x, uint64_t y);
+TAKUM_MUST_USE takum_order_answer takum_compare(uint32_t n, uint64_t x, uint64_t y) TAKUM_NOEXCEPT;
 
 /* The word with the negated value; zero and NaR stay. */
-takum_word_answer takum_negate(uint32_t n, uint64_t word);
+TAKUM_MUST_USE takum_word_answer takum_negate(uint32_t n, uint64_t word) TAKUM_NOEXCEPT;
 
 /* The word for m * 2^k, or for -m * 2^k where `negative` is true; m = 0 is zero, whichever the sign. INEXACT by the strict rule. */
-takum_word_answer takum_write(uint32_t n, bool strict, bool negative, uint64_t m, int32_t k);
+TAKUM_MUST_USE takum_word_answer takum_write(uint32_t n, takum_rule rule, bool negative, uint64_t m, int32_t k) TAKUM_NOEXCEPT;
 
 /* The word of width `to` for the value of a word of width `from`; NaR gives NaR. Going wider never changes a value. INEXACT by the strict
  * rule. */
-takum_word_answer takum_move(uint32_t from, uint32_t to, bool strict, uint64_t word);
+TAKUM_MUST_USE takum_word_answer takum_move(uint32_t from, uint32_t to, takum_rule rule, uint64_t word) TAKUM_NOEXCEPT;
 
 /* The word for a whole number. INEXACT by the strict rule. */
-takum_word_answer takum_write_whole(uint32_t n, bool strict, int64_t x);
+TAKUM_MUST_USE takum_word_answer takum_write_whole(uint32_t n, takum_rule rule, int64_t x) TAKUM_NOEXCEPT;
 
 /* The whole number of a word, cut or strict. NAR for NaR, OVER where its whole part is below -2^63 or above 2^63 - 1, and, by the
  * strict rule, INEXACT where the value isn't whole. */
-takum_whole_answer takum_take_whole(uint32_t n, bool strict, uint64_t word);
+TAKUM_MUST_USE takum_whole_answer takum_take_whole(uint32_t n, takum_taking taking, uint64_t word) TAKUM_NOEXCEPT;
 
 /* The word for a double (binary64): NaN and both infinities give NaR, both zeros give zero. INEXACT by the strict rule. A signalling NaN raises the
  * floating-point exception INVALID, as every comparison with it does. */
-takum_word_answer takum_write_binary64(uint32_t n, bool strict, double x);
+TAKUM_MUST_USE takum_word_answer takum_write_binary64(uint32_t n, takum_rule rule, double x) TAKUM_NOEXCEPT;
 
 /* The double for a word: exactly its value up to width 57; from 58 on the nearest double, ties to even, in every rounding mode. Zero is positive
  * zero. No floating-point exception is raised: nothing is rounded by the processor. */
-takum_number_answer takum_take_binary64(uint32_t n, uint64_t word);
+TAKUM_MUST_USE takum_number_answer takum_take_binary64(uint32_t n, uint64_t word) TAKUM_NOEXCEPT;
 
 /* Moves a column, each of the words as takum_move does: the first results are the moved words, in order, and the others stay as they were.
  * ROOM where there are fewer results than words, even if a word would be refused too. A word's refusal, STRAY or INEXACT, comes with its
  * position: the lowest at which there is one. An empty column moves 0 words. */
-takum_column_answer takum_move_column(uint32_t from, uint32_t to, bool strict, const uint64_t *words, size_t words_length, uint64_t *results,
-                                      size_t results_length);
+TAKUM_MUST_USE takum_column_answer takum_move_column(uint32_t from, uint32_t to, takum_rule rule, const uint64_t *words, size_t words_length,
+                                                     uint64_t *results, size_t results_length) TAKUM_NOEXCEPT;
 
 /* Reads a sheet block of 512 bytes: the first results are its words, in order, and the others stay as they were. TAKUM_BLOCK_WORDS results
  * are enough for every block. SIZE, MARK, CHECK, WIDTH, COUNT, FILL or ROOM, in this order; any word that a block holds is a good one. */
-takum_block_answer takum_read_block(const uint8_t *block, size_t block_length, uint64_t *results, size_t results_length);
+TAKUM_MUST_USE takum_block_answer takum_read_block(const uint8_t *block, size_t block_length, uint64_t *results,
+                                                   size_t results_length) TAKUM_NOEXCEPT;
 
 #ifdef __cplusplus
 }

@@ -2,27 +2,8 @@
 #include "calls.h"
 
 #include "rounding.h"
-#include "ledusprig.h"
 
 #include <string.h>
-
-/* Paper 01's name for the number that the header gives its own name. */
-static const char *name_of(uint32_t refusal) {
-    switch (refusal) {
-    case TAKUM_WIDTH: return "WIDTH";
-    case TAKUM_STRAY: return "STRAY";
-    case TAKUM_NAR: return "NAR";
-    case TAKUM_INEXACT: return "INEXACT";
-    case TAKUM_OVER: return "OVER";
-    case TAKUM_ROOM: return "ROOM";
-    case TAKUM_SIZE: return "SIZE";
-    case TAKUM_MARK: return "MARK";
-    case TAKUM_CHECK: return "CHECK";
-    case TAKUM_COUNT: return "COUNT";
-    case TAKUM_FILL: return "FILL";
-    default: return "which has no name";
-    }
-}
 
 bool put_refusal(answer *to, uint32_t refusal, bool rest_is_zero) {
     if (refusal == TAKUM_OK) {
@@ -30,7 +11,7 @@ bool put_refusal(answer *to, uint32_t refusal, bool rest_is_zero) {
     }
     put_number(to, "refused ", refusal);
     put(to, " ");
-    put(to, name_of(refusal));
+    put(to, takum_refusal_name(refusal));
     if (!rest_is_zero) {
         put(to, " beside fields that are not zero");
     }
@@ -43,8 +24,15 @@ static void put_word(answer *to, takum_word_answer got) {
     }
 }
 
-bool take_rule(given *from) {
-    return take_choice(from, "rounded", "strict") ? TAKUM_STRICT : TAKUM_ROUNDED;
+/* The header says that every number but 0 is strict, so each strict call takes another one. */
+static unsigned strict_in_turn(void) {
+    static const unsigned numbers[] = {TAKUM_STRICT, TAKUM_TAKE_STRICT, 2, 0x100, 0x80000000, 0xffffffff};
+    static size_t next;
+    return numbers[next++ % (sizeof numbers / sizeof numbers[0])];
+}
+
+takum_rule take_rule(given *from) {
+    return take_choice(from, "rounded", "strict") ? (takum_rule)strict_in_turn() : TAKUM_ROUNDED;
 }
 
 static uint64_t pattern_of(double number) {
@@ -132,45 +120,48 @@ void of_negate(given *from, answer *to) {
 
 void of_write(given *from, answer *to) {
     uint32_t n = take_width(from);
-    bool strict = take_rule(from);
+    takum_rule rule = take_rule(from);
     bool negative = take_choice(from, "plus", "minus");
     uint64_t m = take_number(from);
-    put_word(to, takum_write(n, strict, negative, m, (int32_t)take_signed(from)));
+    put_word(to, takum_write(n, rule, negative, m, (int32_t)take_signed(from)));
 }
 
 void of_move(given *from, answer *to) {
     uint32_t source = take_width(from);
     uint32_t target = take_width(from);
-    bool strict = take_rule(from);
-    put_word(to, takum_move(source, target, strict, take_number(from)));
+    takum_rule rule = take_rule(from);
+    put_word(to, takum_move(source, target, rule, take_number(from)));
 }
 
 void of_write_whole(given *from, answer *to) {
     uint32_t n = take_width(from);
-    bool strict = take_rule(from);
-    put_word(to, takum_write_whole(n, strict, take_signed(from)));
+    takum_rule rule = take_rule(from);
+    put_word(to, takum_write_whole(n, rule, take_signed(from)));
 }
 
 void of_take_whole(given *from, answer *to) {
     uint32_t n = take_width(from);
-    bool strict = take_choice(from, "cut", "strict") ? TAKUM_STRICT : TAKUM_CUT;
-    takum_whole_answer got = takum_take_whole(n, strict, take_number(from));
+    takum_taking taking = take_choice(from, "cut", "strict") ? (takum_taking)strict_in_turn() : TAKUM_TAKE_CUT;
+    takum_whole_answer got = takum_take_whole(n, taking, take_number(from));
     if (!put_refusal(to, got.refusal, got.whole == 0)) {
         put_signed(to, "whole ", got.whole);
     }
 }
 
+static bool is_nan(uint64_t pattern) {
+    return (pattern & 0x7fffffffffffffff) > 0x7ff0000000000000;
+}
+
 /* A NaN whose highest fraction bit is 0. */
 static bool is_signalling(uint64_t pattern) {
-    uint64_t size = pattern & 0x7fffffffffffffff;
-    return size > 0x7ff0000000000000 && size < 0x7ff8000000000000;
+    return is_nan(pattern) && !(pattern & 0x0008000000000000);
 }
 
 void of_write_binary64(given *from, answer *to) {
     uint32_t n = take_width(from);
-    bool strict = take_rule(from);
+    takum_rule rule = take_rule(from);
     uint64_t pattern = take_number(from);
-    put_word(to, takum_write_binary64(n, strict, number_of(pattern)));
+    put_word(to, takum_write_binary64(n, rule, number_of(pattern)));
     if (is_signalling(pattern)) {
         lower_invalid();
     }
@@ -179,13 +170,13 @@ void of_write_binary64(given *from, answer *to) {
 void of_take_binary64(given *from, answer *to) {
     uint32_t n = take_width(from);
     takum_number_answer got = takum_take_binary64(n, take_number(from));
-    bool is_zero = pattern_of(got.number) == 0;
-    if (put_refusal(to, got.refusal, !got.real && is_zero)) {
+    uint64_t pattern = pattern_of(got.number);
+    if (put_refusal(to, got.refusal, !got.real && pattern == 0)) {
         return;
     }
     if (got.real) {
-        put_hex(to, "number ", pattern_of(got.number));
+        put_hex(to, "number ", pattern);
     } else {
-        put(to, is_zero ? "nar" : "nar beside a number that is not zero");
+        put(to, is_nan(pattern) && !is_signalling(pattern) ? "nar" : "nar beside a number that is no quiet NaN");
     }
 }

@@ -2,6 +2,7 @@
 #ifndef CALLS_H
 #define CALLS_H
 
+#include "ledusprig.h"
 #include "text.h"
 
 /* Takes what the call is given, makes it, and puts its answer. */
@@ -15,7 +16,7 @@ call of_constant, of_largest, of_smallest, of_nar, of_limit, of_read, of_compare
 call of_move_column, of_read_block;
 
 /* The rule of writing and moving. */
-bool take_rule(given *from);
+takum_rule take_rule(given *from);
 
 /* Puts the refusal by its number and name, if there is one, and whether the rest of the answer is zero then, as it must be. */
 bool put_refusal(answer *to, uint32_t refusal, bool rest_is_zero);

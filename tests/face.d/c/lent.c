@@ -1,7 +1,6 @@
 /* The calls that are lent slices. Each slice lies between guards, and what the call may not change is compared afterwards. */
 #include "calls.h"
 
-#include "ledusprig.h"
 
 #include <string.h>
 
@@ -46,7 +45,7 @@ static void put_difference(answer *to, const void *lent, const void *copy, size_
 void of_move_column(given *from, answer *to) {
     uint32_t source = take_width(from);
     uint32_t target = take_width(from);
-    bool strict = take_rule(from);
+    takum_rule rule = take_rule(from);
     static uint64_t lent[GUARDS + MOST_WORDS + GUARDS], copy[GUARDS + MOST_WORDS + GUARDS];
     size_t count = take_words(from, lent + GUARDS, MOST_WORDS);
     size_t size = (GUARDS + count + GUARDS) * sizeof lent[0];
@@ -54,7 +53,7 @@ void of_move_column(given *from, answer *to) {
     uint64_t *results = lend_results(room);
     memcpy(copy, lent, size);
 
-    takum_column_answer got = takum_move_column(source, target, strict, lent + GUARDS, count, results, room);
+    takum_column_answer got = takum_move_column(source, target, rule, lent + GUARDS, count, results, room);
 
     bool has_position = got.refusal == TAKUM_STRAY || got.refusal == TAKUM_INEXACT;
     if (put_refusal(to, got.refusal, got.moved == 0 && (has_position || got.position == 0))) {

@@ -4,7 +4,7 @@
 
 #include "text.h"
 
-/* The rounding modes, in the order of x86-64's numbers for them. */
+/* The rounding modes. */
 enum { MODES = 4 };
 extern const char *const modes[MODES];
 

@@ -3,7 +3,7 @@
 use mathlib.Core.Path.{_≡_}
 use mathlib.Core.Bool.{Bool, true, false}
 use mathlib.Core.List.{List}
-use Prim.Native.Nat.{ℕ}
+use Prim.Native.Nat.{ℕ, zero, suc}
 use lib.IntN.{ℤ, pos}
 use lib.Ieee.{binary64, ofBits}
 use lib.ListN.{length}
@@ -28,14 +28,14 @@ use Rattle.ledusprig.specs.declared.handed.numbers.HandedNumber.{HandedN
 use Rattle.ledusprig.specs.declared.handed.columns.HandedColumn.{HandedColumn}
 use Rattle.ledusprig.specs.declared.handed.columns.HandedBlock.{HandedBlock}
 
--- the rule that a flag stands for
-abbrev pub ruleOf : Bool → Rule
-ruleOf true = Rule.Strict
-ruleOf false = Rule.Rounded
+-- the rule that a number stands for: 0 rounds or cuts, and every other number is strict
+abbrev pub ruleOf : ℕ → Rule
+ruleOf zero = Rule.Rounded
+ruleOf (suc other) = Rule.Strict
 
-abbrev pub takingOf : Bool → Taking
-takingOf true = Taking.Strict
-takingOf false = Taking.Cut
+abbrev pub takingOf : ℕ → Taking
+takingOf zero = Taking.Cut
+takingOf (suc other) = Taking.Strict
 
 -- how each answer is handed over
 abbrev pub wordHanded : Answer → HandedWord

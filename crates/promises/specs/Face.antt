@@ -4,7 +4,7 @@ use mathlib.Core.Path.{_≡_}
 use mathlib.Core.Bool.{Bool, true, false}
 use mathlib.Core.List.{List, [], _∷_, _++_}
 use mathlib.Core.Logic.{_⊎_}
-use Prim.Native.Nat.{ℕ, _+_, _*_, _^_, _≤_, _<_}
+use Prim.Native.Nat.{ℕ, zero, suc, _+_, _*_, _^_, _≤_, _<_}
 use lib.Ieee.{Float, nan, inf, fin, up, down, binary64, ofBits}
 use lib.IntN.{ℤ, pos, negsuc, natAbs, _+ℤ_}
 use lib.ListN.{length, getD, drop}
@@ -53,7 +53,12 @@ HandsWord lines Is r = Hands (r .refusal) lines (r .word ≡ 0) (Is (r .word))
 unfoldable pub RefusalNumbersAre1To11 : Type 0
 RefusalNumbersAre1To11 = (q : Refusal) → (1 ≤ numberOf q) × (numberOf q ≤ 11)
 
--- ---- the flag `strict`
+-- ---- the rule
+-- a rule's number: 0 rounds, or cuts a number to its whole part, and every other number is strict
+unfoldable pub isStrict : ℕ → Bool
+isStrict zero = false
+isStrict (suc other) = true
+
 -- 4 INEXACT: strict, and nothing has the value
 abbrev pub inexact : {A : Type 0} → Bool → (A → Type 0) → Line
 inexact {A} strict HasTheValue = line 4 ((strict ≡ true) × ((x : A) → HasTheValue x → ⊥))

@@ -5,7 +5,7 @@ use mathlib.Core.Bool.{Bool, true, false}
 use mathlib.Core.List.{List}
 use Prim.Native.Nat.{ℕ, zero, suc}
 use lib.IntN.{ℤ, pos}
-use lib.Ieee.{binary64, ofBits}
+use lib.Ieee.{nan, binary64, ofBits}
 use lib.ListN.{length}
 use Rattle.bounds.specs.Refusals.{numberOf}
 use Rattle.bounds.specs.declared.answer.Answer.{Answer}
@@ -62,7 +62,7 @@ wholeHanded (Whole.Refused q) = record { refusal = numberOf q; whole = pos 0 }
 
 abbrev pub numberHanded : Binary64 → HandedNumber
 numberHanded (Binary64.Number x) = record { refusal = 0; real = true; number = x }
-numberHanded Binary64.Nar = record { refusal = 0; real = false; number = ofBits binary64 0 }
+numberHanded Binary64.Nar = record { refusal = 0; real = false; number = nan }
 numberHanded (Binary64.Refused q) = record { refusal = numberOf q; real = false; number = ofBits binary64 0 }
 
 abbrev pub columnHanded : Column → HandedColumn

@@ -140,7 +140,7 @@ unfolding HandsNumber taken.TakesBinary64 TheNumberOutIsTheNearest
 take-binary64-hands n w = hands Binary64.Refused (λ r. r .refusal) (λ r. (r .real ≡ false) × (r .number ≡ ofBits binary64 0)) (λ r. (r .refusal ≡ 0) × Taken r) (width n ∷ stray n w ∷ []) (λ q x. (refl, (refl, refl))) by (refusals-follow-the-table .take-binary64 n w)
   where
     Taken : HandedNumber → Type 0
-    Taken r = ((r .real ≡ true) × (z : ℤ) × (takum n w ≡ real z) × NearestBinary64 z (r .number)) ⊎ ((r .real ≡ false) × (r .number ≡ ofBits binary64 0) × (takum n w ≡ NaR))
+    Taken r = ((r .real ≡ true) × (z : ℤ) × (takum n w ≡ real z) × NearestBinary64 z (r .number)) ⊎ ((r .real ≡ false) × (r .number ≡ nan) × (takum n w ≡ NaR))
 
     by : (a : Binary64) → taken.TakesBinary64 n w a → ((q : Refusal) → a ≡ Binary64.Refused q → ⊥) → (numberHanded a .refusal ≡ 0) × Taken (numberHanded a)
     by (Binary64.Number x) t none = let (z, means, near) = the-number-out-is-the-nearest n w x t in (refl, inl (refl, z, means, near))

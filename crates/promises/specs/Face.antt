@@ -148,10 +148,10 @@ unfoldable pub HandsWhole : ℕ → Bool → ℕ → HandedWhole → Type 0
 HandsWhole n strict w r = Hands (r .refusal) (width n ∷ stray n w ∷ nar n w ∷ over n w ∷ inexact strict (λ x. IsWhole n x w) ∷ []) (r .whole ≡ pos 0)
     (((z : ℤ) × (takum n w ≡ real z) × IsWholePart z (r .whole)) × (strict ≡ true → IsWhole n (r .whole) w))
 
--- the nearest binary64 to the word's value, ties to even; `real` is false exactly where the word is NaR, and then the number is 0
+-- the nearest binary64 to the word's value, ties to even; where the word is NaR, and only there, `real` is false beside refusal 0, and the number is a NaN
 unfoldable pub HandsNumber : ℕ → ℕ → HandedNumber → Type 0
 HandsNumber n w r = Hands (r .refusal) (width n ∷ stray n w ∷ []) ((r .real ≡ false) × (r .number ≡ ofBits binary64 0))
-    (((r .real ≡ true) × (z : ℤ) × (takum n w ≡ real z) × NearestBinary64 z (r .number)) ⊎ ((r .real ≡ false) × (r .number ≡ ofBits binary64 0) × (takum n w ≡ NaR)))
+    (((r .real ≡ true) × (z : ℤ) × (takum n w ≡ real z) × NearestBinary64 z (r .number)) ⊎ ((r .real ≡ false) × (r .number ≡ nan) × (takum n w ≡ NaR)))
 
 -- ---- takum_move and takum_move_column
 -- the lines of a word in a move, after those of the widths

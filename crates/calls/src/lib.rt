@@ -23,7 +23,7 @@ use ledusprig::words::takum_move;
 use ledusprig::words::takum_negate;
 use ledusprig::words::takum_read;
 use ledusprig::words::takum_write;
-ghost use Rattle.promises.specs.Face.{HandsLargest, HandsSmallest, HandsNaR, HandsLimit, HandsReading, HandsComparison, HandsNegated, HandsWritten, HandsMoved, HandsWholeWritten, HandsWhole, HandsBinary64Written, HandsNumber, HandsColumn, HandsBlock};
+ghost use Rattle.promises.specs.Face.{isStrict, HandsLargest, HandsSmallest, HandsNaR, HandsLimit, HandsReading, HandsComparison, HandsNegated, HandsWritten, HandsMoved, HandsWholeWritten, HandsWhole, HandsBinary64Written, HandsNumber, HandsColumn, HandsBlock};
 
 pub fn call_largest(n: u32) -> HandedWord
     ensures { λ r. ⌜ HandsLargest n r ⌝ }
@@ -67,34 +67,34 @@ pub fn call_negate(n: u32, word: u64) -> HandedWord
     takum_negate(n, word)
 }
 
-pub fn call_write(n: u32, strict: bool, negative: bool, m: u64, k: i32) -> HandedWord
-    ensures { λ r. ⌜ HandsWritten n strict negative m k r ⌝ }
+pub fn call_write(n: u32, rule: u32, negative: bool, m: u64, k: i32) -> HandedWord
+    ensures { λ r. ⌜ HandsWritten n (isStrict rule) negative m k r ⌝ }
 {
-    takum_write(n, strict, negative, m, k)
+    takum_write(n, rule, negative, m, k)
 }
 
-pub fn call_move(from: u32, to: u32, strict: bool, word: u64) -> HandedWord
-    ensures { λ r. ⌜ HandsMoved from to strict word r ⌝ }
+pub fn call_move(from: u32, to: u32, rule: u32, word: u64) -> HandedWord
+    ensures { λ r. ⌜ HandsMoved from to (isStrict rule) word r ⌝ }
 {
-    takum_move(from, to, strict, word)
+    takum_move(from, to, rule, word)
 }
 
-pub fn call_write_whole(n: u32, strict: bool, x: i64) -> HandedWord
-    ensures { λ r. ⌜ HandsWholeWritten n strict x r ⌝ }
+pub fn call_write_whole(n: u32, rule: u32, x: i64) -> HandedWord
+    ensures { λ r. ⌜ HandsWholeWritten n (isStrict rule) x r ⌝ }
 {
-    takum_write_whole(n, strict, x)
+    takum_write_whole(n, rule, x)
 }
 
-pub fn call_take_whole(n: u32, strict: bool, word: u64) -> HandedWhole
-    ensures { λ r. ⌜ HandsWhole n strict word r ⌝ }
+pub fn call_take_whole(n: u32, taking: u32, word: u64) -> HandedWhole
+    ensures { λ r. ⌜ HandsWhole n (isStrict taking) word r ⌝ }
 {
-    takum_take_whole(n, strict, word)
+    takum_take_whole(n, taking, word)
 }
 
-pub fn call_write_binary64(n: u32, strict: bool, x: f64) -> HandedWord
-    ensures { λ r. ⌜ HandsBinary64Written n strict x r ⌝ }
+pub fn call_write_binary64(n: u32, rule: u32, x: f64) -> HandedWord
+    ensures { λ r. ⌜ HandsBinary64Written n (isStrict rule) x r ⌝ }
 {
-    takum_write_binary64(n, strict, x)
+    takum_write_binary64(n, rule, x)
 }
 
 pub fn call_take_binary64(n: u32, word: u64) -> HandedNumber
@@ -106,13 +106,13 @@ pub fn call_take_binary64(n: u32, word: u64) -> HandedNumber
 pub fn call_move_column(
     from: u32,
     to: u32,
-    strict: bool,
+    rule: u32,
     words: &[u64],
     results: &mut [u64],
 ) -> HandedColumn
-    ensures { λ r. ⌜ HandsColumn from to strict (now (words .entry)) (now (results .entry)) (now (results .exit)) r ⌝ }
+    ensures { λ r. ⌜ HandsColumn from to (isStrict rule) (now (words .entry)) (now (results .entry)) (now (results .exit)) r ⌝ }
 {
-    takum_move_column(from, to, strict, words, results)
+    takum_move_column(from, to, rule, words, results)
 }
 
 pub fn call_read_block(block: &[u8], results: &mut [u64]) -> HandedBlock

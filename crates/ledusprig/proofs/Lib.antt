@@ -1,4 +1,6 @@
--- The law of the face; no function's proof uses it.
+-- The laws of the face.
 
--- where the public call allows one answer, one struct is handed over
+-- where the public call allows one answer, one struct is handed over; no function's proof uses it
 pub mod OneOutcome
+-- the numbers of rules
+pub mod Rules

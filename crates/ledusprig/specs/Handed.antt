@@ -3,9 +3,9 @@
 use mathlib.Core.Path.{_≡_}
 use mathlib.Core.Bool.{Bool, true, false}
 use mathlib.Core.List.{List}
-use Prim.Native.Nat.{ℕ}
+use Prim.Native.Nat.{ℕ, zero, suc}
 use lib.IntN.{ℤ, pos}
-use lib.Ieee.{binary64, ofBits}
+use lib.Ieee.{nan, binary64, ofBits}
 use lib.ListN.{length}
 use Rattle.bounds.specs.Refusals.{numberOf}
 use Rattle.bounds.specs.declared.answer.Answer.{Answer}
@@ -28,14 +28,14 @@ use Rattle.ledusprig.specs.declared.handed.numbers.HandedNumber.{HandedN
 use Rattle.ledusprig.specs.declared.handed.columns.HandedColumn.{HandedColumn}
 use Rattle.ledusprig.specs.declared.handed.columns.HandedBlock.{HandedBlock}
 
--- the rule that a flag stands for
-abbrev pub ruleOf : Bool → Rule
-ruleOf true = Rule.Strict
-ruleOf false = Rule.Rounded
+-- the rule that a number stands for: 0 rounds or cuts, and every other number is strict
+abbrev pub ruleOf : ℕ → Rule
+ruleOf zero = Rule.Rounded
+ruleOf (suc other) = Rule.Strict
 
-abbrev pub takingOf : Bool → Taking
-takingOf true = Taking.Strict
-takingOf false = Taking.Cut
+abbrev pub takingOf : ℕ → Taking
+takingOf zero = Taking.Cut
+takingOf (suc other) = Taking.Strict
 
 -- how each answer is handed over
 abbrev pub wordHanded : Answer → HandedWord
@@ -62,7 +62,7 @@ wholeHanded (Whole.Refused q) = record { refusal = numberOf q; whole = pos 0 }
 
 abbrev pub numberHanded : Binary64 → HandedNumber
 numberHanded (Binary64.Number x) = record { refusal = 0; real = true; number = x }
-numberHanded Binary64.Nar = record { refusal = 0; real = false; number = ofBits binary64 0 }
+numberHanded Binary64.Nar = record { refusal = 0; real = false; number = nan }
 numberHanded (Binary64.Refused q) = record { refusal = numberOf q; real = false; number = ofBits binary64 0 }
 
 abbrev pub columnHanded : Column → HandedColumn

@@ -11,22 +11,22 @@ ghost use lib.ListN.{length};
 ghost use Rattle.sheet.specs.Reads.{ReadsBlock, FillsResults};
 ghost use Rattle.ledusprig.specs.Handed.{HandsOver, MovesTheColumn, columnHanded, blockHanded, ruleOf};
 
-// The flag is asked first, so that each rule has a loop of its own.
+// The rule's number is asked first, so that each rule has a loop of its own.
 #[no_mangle]
 pub extern "C" fn takum_move_column(
     from: u32,
     to: u32,
-    strict: bool,
+    rule: u32,
     words: &[u64],
     results: &mut [u64],
 ) -> HandedColumn
-    ensures { λ r. ⌜ HandsOver columnHanded (MovesTheColumn from to (ruleOf strict) (now (words .entry)) (now (results .entry)) (now (results .exit))) r ⌝ }
+    ensures { λ r. ⌜ HandsOver columnHanded (MovesTheColumn from to (ruleOf rule) (now (words .entry)) (now (results .entry)) (now (results .exit))) r ⌝ }
 {
-    if strict {
+    if rule == 0 {
         return hand_column(move_column(
             Width { bits: from },
             Width { bits: to },
-            Rule::Strict,
+            Rule::Rounded,
             words,
             results,
         ));
@@ -34,7 +34,7 @@ pub extern "C" fn takum_move_column(
     hand_column(move_column(
         Width { bits: from },
         Width { bits: to },
-        Rule::Rounded,
+        Rule::Strict,
         words,
         results,
     ))

@@ -1,4 +1,4 @@
-// Whole numbers and binary64 numbers, in and out. A flag is asked first, so that each rule's call is compiled by itself.
+// Whole numbers and binary64 numbers, in and out. The rule's number is asked first, so that each rule's call is compiled by itself.
 use crate::handed::numbers::HandedNumber;
 use crate::handed::numbers::HandedWhole;
 use crate::handed::numbers::hand_number;
@@ -18,33 +18,33 @@ ghost use Rattle.binary64.specs.Writes.{WritesBinary64};
 ghost use Rattle.ledusprig.specs.Handed.{HandsOver, wordHanded, wholeHanded, numberHanded, ruleOf, takingOf};
 
 #[no_mangle]
-pub extern "C" fn takum_write_whole(n: u32, strict: bool, x: i64) -> HandedWord
-    ensures { λ r. ⌜ HandsOver wordHanded (WritesWhole n (ruleOf strict) x) r ⌝ }
+pub extern "C" fn takum_write_whole(n: u32, rule: u32, x: i64) -> HandedWord
+    ensures { λ r. ⌜ HandsOver wordHanded (WritesWhole n (ruleOf rule) x) r ⌝ }
 {
-    if strict {
-        return hand_word(write_whole(Width { bits: n }, Rule::Strict, x));
+    if rule == 0 {
+        return hand_word(write_whole(Width { bits: n }, Rule::Rounded, x));
     }
-    hand_word(write_whole(Width { bits: n }, Rule::Rounded, x))
+    hand_word(write_whole(Width { bits: n }, Rule::Strict, x))
 }
 
 #[no_mangle]
-pub extern "C" fn takum_take_whole(n: u32, strict: bool, word: u64) -> HandedWhole
-    ensures { λ r. ⌜ HandsOver wholeHanded (TakesWhole n (takingOf strict) word) r ⌝ }
+pub extern "C" fn takum_take_whole(n: u32, taking: u32, word: u64) -> HandedWhole
+    ensures { λ r. ⌜ HandsOver wholeHanded (TakesWhole n (takingOf taking) word) r ⌝ }
 {
-    if strict {
-        return hand_whole(take_whole(Width { bits: n }, Taking::Strict, word));
+    if taking == 0 {
+        return hand_whole(take_whole(Width { bits: n }, Taking::Cut, word));
     }
-    hand_whole(take_whole(Width { bits: n }, Taking::Cut, word))
+    hand_whole(take_whole(Width { bits: n }, Taking::Strict, word))
 }
 
 #[no_mangle]
-pub extern "C" fn takum_write_binary64(n: u32, strict: bool, x: f64) -> HandedWord
-    ensures { λ r. ⌜ HandsOver wordHanded (WritesBinary64 n (ruleOf strict) x) r ⌝ }
+pub extern "C" fn takum_write_binary64(n: u32, rule: u32, x: f64) -> HandedWord
+    ensures { λ r. ⌜ HandsOver wordHanded (WritesBinary64 n (ruleOf rule) x) r ⌝ }
 {
-    if strict {
-        return hand_word(write_binary64(Width { bits: n }, Rule::Strict, x));
+    if rule == 0 {
+        return hand_word(write_binary64(Width { bits: n }, Rule::Rounded, x));
     }
-    hand_word(write_binary64(Width { bits: n }, Rule::Rounded, x))
+    hand_word(write_binary64(Width { bits: n }, Rule::Strict, x))
 }
 
 #[no_mangle]

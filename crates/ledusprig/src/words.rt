@@ -1,5 +1,5 @@
-// One word: reading, comparing and negating it, writing a value as one, and moving it to another width. A flag is asked first, so that each
-// rule's call is compiled by itself.
+// One word: reading, comparing and negating it, writing a value as one, and moving it to another width. The rule's number is asked first, so that
+// each rule's call is compiled by itself.
 use crate::handed::words::HandedComparison;
 use crate::handed::words::HandedReading;
 use crate::handed::words::HandedWord;
@@ -42,27 +42,27 @@ pub extern "C" fn takum_negate(n: u32, word: u64) -> HandedWord
 
 // Plus or minus m * 2^k.
 #[no_mangle]
-pub extern "C" fn takum_write(n: u32, strict: bool, negative: bool, m: u64, k: i32) -> HandedWord
-    ensures { λ r. ⌜ HandsOver wordHanded (Writes n (ruleOf strict) (record { negative = negative; m = m; k = k })) r ⌝ }
+pub extern "C" fn takum_write(n: u32, rule: u32, negative: bool, m: u64, k: i32) -> HandedWord
+    ensures { λ r. ⌜ HandsOver wordHanded (Writes n (ruleOf rule) (record { negative = negative; m = m; k = k })) r ⌝ }
 {
     let value = Value { negative, m, k };
-    if strict {
-        return hand_word(write(Width { bits: n }, Rule::Strict, value));
+    if rule == 0 {
+        return hand_word(write(Width { bits: n }, Rule::Rounded, value));
     }
-    hand_word(write(Width { bits: n }, Rule::Rounded, value))
+    hand_word(write(Width { bits: n }, Rule::Strict, value))
 }
 
 #[no_mangle]
-pub extern "C" fn takum_move(from: u32, to: u32, strict: bool, word: u64) -> HandedWord
-    ensures { λ r. ⌜ HandsOver wordHanded (Moves from to (ruleOf strict) word) r ⌝ }
+pub extern "C" fn takum_move(from: u32, to: u32, rule: u32, word: u64) -> HandedWord
+    ensures { λ r. ⌜ HandsOver wordHanded (Moves from to (ruleOf rule) word) r ⌝ }
 {
-    if strict {
-        return hand_word(move_word(Width { bits: from }, Width { bits: to }, Rule::Strict, word));
+    if rule == 0 {
+        return hand_word(move_word(
+            Width { bits: from },
+            Width { bits: to },
+            Rule::Rounded,
+            word,
+        ));
     }
-    hand_word(move_word(
-        Width { bits: from },
-        Width { bits: to },
-        Rule::Rounded,
-        word,
-    ))
+    hand_word(move_word(Width { bits: from }, Width { bits: to }, Rule::Strict, word))
 }

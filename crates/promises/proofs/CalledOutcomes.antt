@@ -8,7 +8,7 @@ use Prim.Native.Nat.{ℕ, _+_, _*_, _^_, _≤_, _<_}
 use native.Mathlib.Decide.{decLt}
 use native.Mathlib.Nat.{le-antisymm}
 use native.Mathlib.Omega.{arith}
-use lib.Ieee.{Float, nan, inf, fin, up, down, binary64, ofBits}
+use lib.Ieee.{Float, nan, inf, fin, up, down}
 use lib.Ieee.Fits.{down-pos}
 use lib.IntN.{ℤ, pos, natAbs, _+ℤ_}
 use lib.ListN.{length, getD}
@@ -180,7 +180,7 @@ number-called-one n w r s = follows-one (width n ∷ stray n w ∷ []) (λ e (f,
     same e f g = λ i. record { refusal = e i; real = f i; number = g i }
 
     Taken : HandedNumber → Type 0
-    Taken r = ((r .real ≡ true) × (z : ℤ) × (takum n w ≡ real z) × NearestBinary64 z (r .number)) ⊎ ((r .real ≡ false) × (r .number ≡ ofBits binary64 0) × (takum n w ≡ NaR))
+    Taken r = ((r .real ≡ true) × (z : ℤ) × (takum n w ≡ real z) × NearestBinary64 z (r .number)) ⊎ ((r .real ≡ false) × (r .number ≡ nan) × (takum n w ≡ NaR))
 
     by : r .refusal ≡ s .refusal → Taken r → Taken s → r ≡ s
     by e (inl (f, z, h, x)) (inl (f', z', h', y)) = same e (both f f') (one-number-is-the-nearest z' (r .number) (s .number) (subst (λ (k : ℤ). NearestBinary64 k (r .number)) (real-inj (sym h ∙ h')) x) y)

@@ -3,7 +3,7 @@ use mathlib.Core.Path.{_≡_, refl, sym, ap, _∙_, subst}
 use mathlib.Core.Bool.{Bool, true, false}
 use mathlib.Core.List.{List, [], _∷_, _++_}
 use mathlib.Core.Logic.{inl, inr}
-use Prim.Native.Nat.{ℕ}
+use Prim.Native.Nat.{ℕ, zero, suc}
 use native.Mathlib.Omega.{arith}
 use Rattle.bounds.specs.declared.answer.Answer.{Answer}
 use Rattle.bounds.specs.declared.refusal.Refusal.{Refusal}
@@ -14,7 +14,7 @@ use Rattle.whole.specs.declared.taking.Taking.{Taking}
 use Rattle.ledusprig.specs.declared.handed.words.HandedWord.{HandedWord}
 use Rattle.ledusprig.specs.Handed.{HandsOver, ruleOf, takingOf, wordHanded}
 use Rattle.promises.specs.Refusals.{Line, line, FollowsUpTo, Follows}
-use Rattle.promises.specs.Face.{FieldFollows, HandsWord, NoneHolds}
+use Rattle.promises.specs.Face.{FieldFollows, HandsWord, NoneHolds, isStrict}
 use Rattle.promises.proofs.WordRefusals.{rounded-strict}
 
 -- from one answer to its struct
@@ -57,7 +57,24 @@ none-holds R a [] none x = tt
 none-holds R a (line number When ∷ lines) none (inl (h, x)) = absurd (none (x .q) (x .is))
 none-holds R a (line number When ∷ lines) none (inr (h, x)) = (h, none-holds R a lines none x)
 
--- ---- the flag
+-- ---- the rule
+-- 1 where the rule is to be strict, and 0 where it isn't: what the exported calls hand over is proved of these two
+abbrev pub numbered : Bool → ℕ
+numbered false = 0
+numbered true = 1
+
+-- and each other number stands for the rule that 1 stands for
+any-number : {A : Type 0} (of : ℕ → A) → ((k : ℕ) → of (suc k) ≡ of 1) → (number : ℕ) → of number ≡ of (numbered (isStrict number))
+unfolding isStrict
+any-number of same zero = refl
+any-number of same (suc k) = same k
+
+pub any-rule : (rule : ℕ) → ruleOf rule ≡ ruleOf (numbered (isStrict rule))
+any-rule = any-number ruleOf (λ k. refl)
+
+pub any-taking : (taking : ℕ) → takingOf taking ≡ takingOf (numbered (isStrict taking))
+any-taking = any-number takingOf (λ k. refl)
+
 -- the last line said otherwise
 pub last-retold : {A : Type 0} (R : Refusal → A) (a : A) (lines : List Line) (number : ℕ) (C D : Type 0) → (C → D) → (D → C) → Follows R a (lines ++ line number C ∷ []) → Follows R a (lines ++ line number D ∷ [])
 unfolding Follows FollowsUpTo
@@ -66,14 +83,14 @@ last-retold R a [] number C D to from (inr x) = inr (λ d. x .0 (from d), x .1)
 last-retold R a (line k When ∷ lines) number C D to from (inl x) = inl x
 last-retold R a (line k When ∷ lines) number C D to from (inr x) = inr (x .0, last-retold R a lines number C D to from (x .1))
 
--- the flag is set exactly where the rule is the strict one
-pub is-strict : (strict : Bool) → ruleOf strict ≡ Rule.Strict → strict ≡ true
+-- the rule is the strict one exactly where strict is asked for
+pub is-strict : (strict : Bool) → ruleOf (numbered strict) ≡ Rule.Strict → strict ≡ true
 is-strict true e = refl
 is-strict false e = absurd (rounded-strict e)
 
-pub takes-strictly : (strict : Bool) → takingOf strict ≡ Taking.Strict → strict ≡ true
+pub takes-strictly : (strict : Bool) → takingOf (numbered strict) ≡ Taking.Strict → strict ≡ true
 takes-strictly true e = refl
 takes-strictly false e = let z : _≡_ {A = ℕ} 0 1 = cc in absurd (omega arith)
 
-pub flag-retold : {A : Type 0} (R : Refusal → A) (a : A) (lines : List Line) (number : ℕ) (strict : Bool) (C : Type 0) → Follows R a (lines ++ line number ((ruleOf strict ≡ Rule.Strict) × C) ∷ []) → Follows R a (lines ++ line number ((strict ≡ true) × C) ∷ [])
-flag-retold R a lines number strict C = last-retold R a lines number _ _ (λ h. (is-strict strict (h .0), h .1)) (λ h. (ap ruleOf (h .0), h .1))
+pub rule-retold : {A : Type 0} (R : Refusal → A) (a : A) (lines : List Line) (number : ℕ) (strict : Bool) (C : Type 0) → Follows R a (lines ++ line number ((ruleOf (numbered strict) ≡ Rule.Strict) × C) ∷ []) → Follows R a (lines ++ line number ((strict ≡ true) × C) ∷ [])
+rule-retold R a lines number strict C = last-retold R a lines number _ _ (λ h. (is-strict strict (h .0), h .1)) (λ h. (ap (λ (b : Bool). ruleOf (numbered b)) (h .0), h .1))

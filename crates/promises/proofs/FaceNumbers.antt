@@ -37,7 +37,7 @@ use Rattle.promises.specs.Numbers.{IsWhole, AWordThatIsNotNaRGoesOutAsAN
 use Rattle.promises.specs.Refusals.{Line, FollowsUpTo, Follows, width, stray, nar, over, moveLines}
 use Rattle.promises.specs.Face.{inexact, IsGiven, IsNaR, HandsNaR, HandsValue, HandsWritten, HandsWholeWritten, HandsBinary64Written, HandsWhole, HandsNumber, wordLines, IsMovedTo, HandsMoved}
 use Rattle.promises.proofs.Demands.{the-NaR-word}
-use Rattle.promises.proofs.FaceLaws.{hands, word-hands, unrefused, last-retold, flag-retold, takes-strictly}
+use Rattle.promises.proofs.FaceLaws.{hands, word-hands, unrefused, numbered, last-retold, rule-retold, takes-strictly}
 use Rattle.promises.proofs.FaceWords.{NaR-hands}
 use Rattle.promises.proofs.Lines.{width-tells, follow}
 use Rattle.promises.proofs.Nearest.{the-number-out-is-the-nearest}
@@ -45,28 +45,28 @@ use Rattle.promises.proofs.Numbers.{a-word-that-is-not-NaR-goes-out-as-
 use Rattle.promises.proofs.Refusals.{refusals-follow-the-table}
 use Rattle.promises.proofs.WordRefusals.{word-none, inexact-line}
 
--- ---- writing: the flag's rule gives what the flag asks for
-given : (strict : Bool) (n : ℕ) (s : Bool) (a b w : ℕ) → IsWritten n (ruleOf strict) s a b (Answer.Word w) → IsGiven strict n s a b w
+-- ---- writing: the rule gives what is asked for
+given : (strict : Bool) (n : ℕ) (s : Bool) (a b w : ℕ) → IsWritten n (ruleOf (numbered strict)) s a b (Answer.Word w) → IsGiven strict n s a b w
 unfolding IsWritten IsGiven
 given true n s a b w x = x
 given false n s a b w x = x
 
 -- what is written for a value, at a width that is tested first
 IsWrittenAt : ℕ → Bool → Bool → ℕ → ℕ → Answer → Type 0
-IsWrittenAt n strict s a b r = Decided (widthTest n) (λ q. r ≡ Answer.Refused q) (IsWritten n (ruleOf strict) s a b r)
+IsWrittenAt n strict s a b r = Decided (widthTest n) (λ q. r ≡ Answer.Refused q) (IsWritten n (ruleOf (numbered strict)) s a b r)
 
 value-hands : (n : ℕ) (strict s : Bool) (a b : ℕ) (r : HandedWord) → HandsOver wordHanded (IsWrittenAt n strict s a b) r → HandsValue n strict s a b r
 unfolding IsWrittenAt Follows FollowsUpTo
 value-hands n strict s a b = word-hands (width n ∷ inexact strict (IsExact n s a b) ∷ []) (IsGiven strict n s a b) (λ w x. given strict n s a b w (unrefused (word-none w _ refl) x .1)) follows
   where
     follows : (r : Answer) → IsWrittenAt n strict s a b r → Follows Answer.Refused r (width n ∷ inexact strict (IsExact n s a b) ∷ [])
-    follows r x = flag-retold Answer.Refused r (width n ∷ []) 4 strict ((w : ℕ) → IsExact n s a b w → ⊥) (follow Refusal.Width (width-tells n) x (λ e. inexact-line n (ruleOf strict) s a b (IsExact n s a b) r (λ w y. y) (λ w y. y)))
+    follows r x = rule-retold Answer.Refused r (width n ∷ []) 4 strict ((w : ℕ) → IsExact n s a b w → ⊥) (follow Refusal.Width (width-tells n) x (λ e. inexact-line n (ruleOf (numbered strict)) s a b (IsExact n s a b) r (λ w y. y) (λ w y. y)))
 
-pub write-hands : (n : ℕ) (strict s : Bool) (m : ℕ) (k : ℤ) (r : HandedWord) → HandsOver wordHanded (Writes n (ruleOf strict) (record { negative = s; m = m; k = k })) r → HandsWritten n strict s m k r
+pub write-hands : (n : ℕ) (strict s : Bool) (m : ℕ) (k : ℤ) (r : HandedWord) → HandsOver wordHanded (Writes n (ruleOf (numbered strict)) (record { negative = s; m = m; k = k })) r → HandsWritten n strict s m k r
 unfolding HandsWritten Writes IsWrittenAt
 write-hands n strict s m k r h = value-hands n strict s (m * num (k +ℤ pos 307)) (den (k +ℤ pos 307)) r h
 
-pub write-whole-hands : (n : ℕ) (strict : Bool) (x : ℤ) (r : HandedWord) → HandsOver wordHanded (WritesWhole n (ruleOf strict) x) r → HandsWholeWritten n strict x r
+pub write-whole-hands : (n : ℕ) (strict : Bool) (x : ℤ) (r : HandedWord) → HandsOver wordHanded (WritesWhole n (ruleOf (numbered strict)) x) r → HandsWholeWritten n strict x r
 unfolding HandsWholeWritten WritesWhole IsWrittenAt
 write-whole-hands n strict x r h = value-hands n strict (isNegative x) (natAbs x * 2 ^ 307) 1 r h
 
@@ -75,42 +75,42 @@ is-NaR : (n w : ℕ) → widthTest n ≡ Verdict.Through → narWord n ≡ w →
 unfolding IsNaR TheNaRWord
 is-NaR n w h e = let u = width-through n h in let t = the-NaR-word n (u .0) (u .1) in subst (IsNaR n) e (t .0, t .1)
 
-pub write-binary64-hands : (n : ℕ) (strict : Bool) (x : Float) (r : HandedWord) → HandsOver wordHanded (WritesBinary64 n (ruleOf strict) x) r → HandsBinary64Written n strict x r
+pub write-binary64-hands : (n : ℕ) (strict : Bool) (x : Float) (r : HandedWord) → HandsOver wordHanded (WritesBinary64 n (ruleOf (numbered strict)) x) r → HandsBinary64Written n strict x r
 unfolding HandsBinary64Written WritesBinary64 IsWrittenBinary64 IsWrittenAt GivesWord HandsNaR
 write-binary64-hands n strict nan r h = NaR-hands n r h
 write-binary64-hands n strict (inf s) r h = NaR-hands n r h
 write-binary64-hands n strict (fin s m e) r h = value-hands n strict s (m * up e * 2 ^ 307) (down e) r h
 
 -- ---- moving
-moved-to : (strict : Bool) (n : ℕ) (t : Takum) (w : ℕ) → widthTest n ≡ Verdict.Through → IsMoved n (ruleOf strict) t (Answer.Word w) → IsMovedTo n strict t w
+moved-to : (strict : Bool) (n : ℕ) (t : Takum) (w : ℕ) → widthTest n ≡ Verdict.Through → IsMoved n (ruleOf (numbered strict)) t (Answer.Word w) → IsMovedTo n strict t w
 unfolding IsMoved IsMovedTo
 moved-to strict n (real z) w h x = given strict n (isNegative z) (natAbs z) 1 w x
 moved-to strict n NaR w h x = is-NaR n w h cc
 
--- a moved word is what the flag asks for
-pub moved-word : (n n' : ℕ) (strict : Bool) (w w' : ℕ) → Moves n n' (ruleOf strict) w (Answer.Word w') → IsMovedTo n' strict (takum n w) w'
+-- a moved word is what is asked for
+pub moved-word : (n n' : ℕ) (strict : Bool) (w w' : ℕ) → Moves n n' (ruleOf (numbered strict)) w (Answer.Word w') → IsMovedTo n' strict (takum n w) w'
 unfolding Moves
 moved-word n n' strict w w' x = let t = unrefused (word-none w' _ refl) x in moved-to strict n' (takum n w) w' (move-through n n' w (t .0) .1) (t .1)
 
-pub moved-follows : (n n' : ℕ) (strict : Bool) (w : ℕ) (a : Answer) → Moves n n' (ruleOf strict) w a → Follows Answer.Refused a (width n ∷ width n' ∷ wordLines n n' strict w)
+pub moved-follows : (n n' : ℕ) (strict : Bool) (w : ℕ) (a : Answer) → Moves n n' (ruleOf (numbered strict)) w a → Follows Answer.Refused a (width n ∷ width n' ∷ wordLines n n' strict w)
 unfolding moveLines wordLines
-moved-follows n n' strict w a x = flag-retold Answer.Refused a (width n ∷ width n' ∷ stray n w ∷ []) 4 strict ((w' : ℕ) → IsWord n' w' × (takum n' w' ≡ takum n w) → ⊥) (refusals-follow-the-table .move-word n n' (ruleOf strict) w a x)
+moved-follows n n' strict w a x = rule-retold Answer.Refused a (width n ∷ width n' ∷ stray n w ∷ []) 4 strict ((w' : ℕ) → IsWord n' w' × (takum n' w' ≡ takum n w) → ⊥) (refusals-follow-the-table .move-word n n' (ruleOf (numbered strict)) w a x)
 
-pub move-hands : (n n' : ℕ) (strict : Bool) (w : ℕ) (r : HandedWord) → HandsOver wordHanded (Moves n n' (ruleOf strict) w) r → HandsMoved n n' strict w r
+pub move-hands : (n n' : ℕ) (strict : Bool) (w : ℕ) (r : HandedWord) → HandsOver wordHanded (Moves n n' (ruleOf (numbered strict)) w) r → HandsMoved n n' strict w r
 unfolding HandsMoved
 move-hands n n' strict w = word-hands (width n ∷ width n' ∷ wordLines n n' strict w) (IsMovedTo n' strict (takum n w)) (moved-word n n' strict w) (moved-follows n n' strict w)
 
 -- ---- taking
-taken-strictly : (strict : Bool) (n w : ℕ) (x : ℤ) → TakesWhole n (takingOf strict) w (Whole.Is x) → strict ≡ true → IsWhole n x w
+taken-strictly : (strict : Bool) (n w : ℕ) (x : ℤ) → TakesWhole n (takingOf (numbered strict)) w (Whole.Is x) → strict ≡ true → IsWhole n x w
 unfolding IsWhole valueOf
 taken-strictly true n w x y e = let k = strictly-taken n w x y in record { word = k .word; means = k .means }
 taken-strictly false n w x y e = absurd (false≢true e)
 
-pub take-whole-hands : (n : ℕ) (strict : Bool) (w : ℕ) (r : HandedWhole) → HandsOver wholeHanded (TakesWhole n (takingOf strict) w) r → HandsWhole n strict w r
+pub take-whole-hands : (n : ℕ) (strict : Bool) (w : ℕ) (r : HandedWhole) → HandsOver wholeHanded (TakesWhole n (takingOf (numbered strict)) w) r → HandsWhole n strict w r
 unfolding HandsWhole
 take-whole-hands n strict w =
     hands Whole.Refused (λ r. r .refusal) (λ r. r .whole ≡ pos 0) (λ r. (r .refusal ≡ 0) × Taken (r .whole)) lines (λ q x. (refl, refl)) by
-    (λ a x. last-retold Whole.Refused a (width n ∷ stray n w ∷ nar n w ∷ over n w ∷ []) 4 _ _ (λ h. (takes-strictly strict (h .0), h .1)) (λ h. (ap takingOf (h .0), h .1)) (refusals-follow-the-table .take-whole n (takingOf strict) w a x))
+    (λ a x. last-retold Whole.Refused a (width n ∷ stray n w ∷ nar n w ∷ over n w ∷ []) 4 _ _ (λ h. (takes-strictly strict (h .0), h .1)) (λ h. (ap (λ (b : Bool). takingOf (numbered b)) (h .0), h .1)) (refusals-follow-the-table .take-whole n (takingOf (numbered strict)) w a x))
   where
     lines : List Line
     lines = width n ∷ stray n w ∷ nar n w ∷ over n w ∷ inexact strict (λ x. IsWhole n x w) ∷ []
@@ -118,8 +118,8 @@ take-whole-hands n strict w =
     Taken : ℤ → Type 0
     Taken x = ((z : ℤ) × (takum n w ≡ real z) × IsWholePart z x) × (strict ≡ true → IsWhole n x w)
 
-    by : (a : Whole) → TakesWhole n (takingOf strict) w a → ((q : Refusal) → a ≡ Whole.Refused q → ⊥) → (wholeHanded a .refusal ≡ 0) × Taken (wholeHanded a .whole)
-    by (Whole.Is x) y none = let k = taken-out n (takingOf strict) w x y in (refl, ((k .z, k .means, k .part), taken-strictly strict n w x y))
+    by : (a : Whole) → TakesWhole n (takingOf (numbered strict)) w a → ((q : Refusal) → a ≡ Whole.Refused q → ⊥) → (wholeHanded a .refusal ≡ 0) × Taken (wholeHanded a .whole)
+    by (Whole.Is x) y none = let k = taken-out n (takingOf (numbered strict)) w x y in (refl, ((k .z, k .means, k .part), taken-strictly strict n w x y))
     by (Whole.Refused q) y none = absurd (none q refl)
 
 -- no number goes out exactly where the word is NaR
@@ -140,7 +140,7 @@ unfolding HandsNumber taken.TakesBinary64 TheNumberOutIsTheNearest
 take-binary64-hands n w = hands Binary64.Refused (λ r. r .refusal) (λ r. (r .real ≡ false) × (r .number ≡ ofBits binary64 0)) (λ r. (r .refusal ≡ 0) × Taken r) (width n ∷ stray n w ∷ []) (λ q x. (refl, (refl, refl))) by (refusals-follow-the-table .take-binary64 n w)
   where
     Taken : HandedNumber → Type 0
-    Taken r = ((r .real ≡ true) × (z : ℤ) × (takum n w ≡ real z) × NearestBinary64 z (r .number)) ⊎ ((r .real ≡ false) × (r .number ≡ ofBits binary64 0) × (takum n w ≡ NaR))
+    Taken r = ((r .real ≡ true) × (z : ℤ) × (takum n w ≡ real z) × NearestBinary64 z (r .number)) ⊎ ((r .real ≡ false) × (r .number ≡ nan) × (takum n w ≡ NaR))
 
     by : (a : Binary64) → taken.TakesBinary64 n w a → ((q : Refusal) → a ≡ Binary64.Refused q → ⊥) → (numberHanded a .refusal ≡ 0) × Taken (numberHanded a)
     by (Binary64.Number x) t none = let (z, means, near) = the-number-out-is-the-nearest n w x t in (refl, inl (refl, z, means, near))

@@ -22,7 +22,7 @@ use Rattle.ledusprig.specs.Handed.{HandsOver, MovesTheColumn, ruleOf, columnHan
 use Rattle.promises.specs.Refusals.{Follows, width, room, size, mark, check, blockWidth, count, fill}
 use Rattle.promises.specs.Slices.{ARefusedBlockWritesNothing}
 use Rattle.promises.specs.Face.{NoneHolds, wordLines, MovedAll, RefusedAtPosition, HandsColumn, HandsBlock}
-use Rattle.promises.proofs.FaceLaws.{handed-so, hands, unrefused, none-holds}
+use Rattle.promises.proofs.FaceLaws.{handed-so, hands, unrefused, none-holds, numbered}
 use Rattle.promises.proofs.FaceNumbers.{moved-word, moved-follows}
 use Rattle.promises.proofs.Lines.{past, good-width}
 use Rattle.promises.proofs.Refusals.{refusals-follow-the-table}
@@ -32,13 +32,13 @@ use Rattle.promises.proofs.WordRefusals.{word-none}
 -- ---- a column
 module _ (n n' : ℕ) (strict : Bool) (words before after : List ℕ) where
   -- at widths that are right, a word of the column has its own lines only
-  at-word : (a : Answer) (w : ℕ) → widthTest n ≡ Verdict.Through → widthTest n' ≡ Verdict.Through → Moves n n' (ruleOf strict) w a → Follows Answer.Refused a (wordLines n n' strict w)
+  at-word : (a : Answer) (w : ℕ) → widthTest n ≡ Verdict.Through → widthTest n' ≡ Verdict.Through → Moves n n' (ruleOf (numbered strict)) w a → Follows Answer.Refused a (wordLines n n' strict w)
   at-word a w e e' m = past Answer.Refused a 1 _ _ (good-width n' (width-through n' e')) (past Answer.Refused a 1 _ _ (good-width n (width-through n e)) (moved-follows n n' strict w a m))
 
-  none-at : (w w' : ℕ) → widthTest n ≡ Verdict.Through → widthTest n' ≡ Verdict.Through → Moves n n' (ruleOf strict) w (Answer.Word w') → NoneHolds (wordLines n n' strict w)
+  none-at : (w w' : ℕ) → widthTest n ≡ Verdict.Through → widthTest n' ≡ Verdict.Through → Moves n n' (ruleOf (numbered strict)) w (Answer.Word w') → NoneHolds (wordLines n n' strict w)
   none-at w w' e e' m = none-holds Answer.Refused (Answer.Word w') (wordLines n n' strict w) (word-none w' _ refl) (at-word (Answer.Word w') w e e' m)
 
-  tried : (a : Column) → widthTest n ≡ Verdict.Through → widthTest n' ≡ Verdict.Through → IsTried n n' (ruleOf strict) words a → Holds n n' (ruleOf strict) words before a after → MovedAll n n' strict words before after (columnHanded a) ⊎ RefusedAtPosition n n' strict words before after (columnHanded a)
+  tried : (a : Column) → widthTest n ≡ Verdict.Through → widthTest n' ≡ Verdict.Through → IsTried n n' (ruleOf (numbered strict)) words a → Holds n n' (ruleOf (numbered strict)) words before a after → MovedAll n n' strict words before after (columnHanded a) ⊎ RefusedAtPosition n n' strict words before after (columnHanded a)
   unfolding IsTried Holds MovableUpTo Movable
   tried (Column.Moved count) e e' x y =
       inl (record {
@@ -64,14 +64,14 @@ module _ (n n' : ℕ) (strict : Bool) (words before after : List ℕ) where
       same : (q' : Refusal) → Answer.Refused q ≡ Answer.Refused q' → q ≡ q'
       same q' h = cc
 
-  pub column-hands : (r : HandedColumn) → HandsOver columnHanded (MovesTheColumn n n' (ruleOf strict) words before after) r → HandsColumn n n' strict words before after r
+  pub column-hands : (r : HandedColumn) → HandsOver columnHanded (MovesTheColumn n n' (ruleOf (numbered strict)) words before after) r → HandsColumn n n' strict words before after r
   unfolding HandsColumn MovesTheColumn MovesColumn Holds
-  column-hands = hands Column.Refused (λ r. r .refusal) (λ r. (r .position ≡ 0) × (r .moved ≡ 0) × (after ≡ before)) Tried (width n ∷ width n' ∷ room (length words) (length before) ∷ []) (λ q x. (refl, (refl, refl, x .1))) by (λ a x. refusals-follow-the-table .move-column n n' (ruleOf strict) words (length before) a (x .0))
+  column-hands = hands Column.Refused (λ r. r .refusal) (λ r. (r .position ≡ 0) × (r .moved ≡ 0) × (after ≡ before)) Tried (width n ∷ width n' ∷ room (length words) (length before) ∷ []) (λ q x. (refl, (refl, refl, x .1))) by (λ a x. refusals-follow-the-table .move-column n n' (ruleOf (numbered strict)) words (length before) a (x .0))
     where
       Tried : HandedColumn → Type 0
       Tried r = MovedAll n n' strict words before after r ⊎ RefusedAtPosition n n' strict words before after r
 
-      by : (a : Column) → MovesTheColumn n n' (ruleOf strict) words before after a → ((q : Refusal) → a ≡ Column.Refused q → ⊥) → Tried (columnHanded a)
+      by : (a : Column) → MovesTheColumn n n' (ruleOf (numbered strict)) words before after a → ((q : Refusal) → a ≡ Column.Refused q → ⊥) → Tried (columnHanded a)
       by a x none =
           let t = unrefused none (x .0) in
           let u = then-through (widthTest n then widthTest n') (roomTest (length words) (length before)) (t .0) in

@@ -4,7 +4,7 @@ use mathlib.Core.Path.{_≡_}
 use mathlib.Core.Bool.{Bool, true, false}
 use mathlib.Core.List.{List, [], _∷_, _++_}
 use mathlib.Core.Logic.{_⊎_}
-use Prim.Native.Nat.{ℕ, _+_, _*_, _^_, _≤_, _<_}
+use Prim.Native.Nat.{ℕ, zero, suc, _+_, _*_, _^_, _≤_, _<_}
 use lib.Ieee.{Float, nan, inf, fin, up, down, binary64, ofBits}
 use lib.IntN.{ℤ, pos, negsuc, natAbs, _+ℤ_}
 use lib.ListN.{length, getD, drop}
@@ -53,7 +53,12 @@ HandsWord lines Is r = Hands (r .refusal) lines (r .word ≡ 0) (Is (r .word))
 unfoldable pub RefusalNumbersAre1To11 : Type 0
 RefusalNumbersAre1To11 = (q : Refusal) → (1 ≤ numberOf q) × (numberOf q ≤ 11)
 
--- ---- the flag `strict`
+-- ---- the rule
+-- a rule's number: 0 rounds, or cuts a number to its whole part, and every other number is strict
+unfoldable pub isStrict : ℕ → Bool
+isStrict zero = false
+isStrict (suc other) = true
+
 -- 4 INEXACT: strict, and nothing has the value
 abbrev pub inexact : {A : Type 0} → Bool → (A → Type 0) → Line
 inexact {A} strict HasTheValue = line 4 ((strict ≡ true) × ((x : A) → HasTheValue x → ⊥))
@@ -143,10 +148,10 @@ unfoldable pub HandsWhole : ℕ → Bool → ℕ → HandedWhole → Type 0
 HandsWhole n strict w r = Hands (r .refusal) (width n ∷ stray n w ∷ nar n w ∷ over n w ∷ inexact strict (λ x. IsWhole n x w) ∷ []) (r .whole ≡ pos 0)
     (((z : ℤ) × (takum n w ≡ real z) × IsWholePart z (r .whole)) × (strict ≡ true → IsWhole n (r .whole) w))
 
--- the nearest binary64 to the word's value, ties to even; `real` is false exactly where the word is NaR, and then the number is 0
+-- the nearest binary64 to the word's value, ties to even; where the word is NaR, and only there, `real` is false beside refusal 0, and the number is a NaN
 unfoldable pub HandsNumber : ℕ → ℕ → HandedNumber → Type 0
 HandsNumber n w r = Hands (r .refusal) (width n ∷ stray n w ∷ []) ((r .real ≡ false) × (r .number ≡ ofBits binary64 0))
-    (((r .real ≡ true) × (z : ℤ) × (takum n w ≡ real z) × NearestBinary64 z (r .number)) ⊎ ((r .real ≡ false) × (r .number ≡ ofBits binary64 0) × (takum n w ≡ NaR)))
+    (((r .real ≡ true) × (z : ℤ) × (takum n w ≡ real z) × NearestBinary64 z (r .number)) ⊎ ((r .real ≡ false) × (r .number ≡ nan) × (takum n w ≡ NaR)))
 
 -- ---- takum_move and takum_move_column
 -- the lines of a word in a move, after those of the widths

@@ -22,7 +22,7 @@ pub(crate) fn hand_whole(answer: Whole) -> HandedWhole
     }
 }
 
-// Where the word is NaR, `real` is false and the number 0.
+// Where the word is NaR, `real` is false and the number a NaN, so that who passes over `real` doesn't go on with a 0.
 #[repr(C)]
 pub struct HandedNumber {
     pub refusal: u32,
@@ -30,6 +30,7 @@ pub struct HandedNumber {
     pub number: f64,
 }
 
+// The NaN is a quotient, because f64::from_bits takes no pattern of a NaN, and a constant can't be one. It is divided when this is compiled, not in a call.
 pub(crate) fn hand_number(answer: Binary64) -> HandedNumber
     ensures { λ r. ⌜ r ≡ numberHanded answer ⌝ }
 {
@@ -42,7 +43,7 @@ pub(crate) fn hand_number(answer: Binary64) -> HandedNumber
         Binary64::Nar => HandedNumber {
             refusal: 0,
             real: false,
-            number: 0.0,
+            number: 0.0 / 0.0,
         },
         Binary64::Refused(q) => HandedNumber {
             refusal: q.number(),

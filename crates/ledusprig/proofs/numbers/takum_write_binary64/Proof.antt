@@ -1,5 +1,6 @@
--- `takum_write_binary64` meets its contract: the public call is asked by the rule that the flag stands for, in each branch. Assumes nothing.
+-- `takum_write_binary64` meets its contract: the public call is asked by the rule that the number stands for, in each branch. Assumes nothing.
 use borrow.Author.Needs.{needs}
+use Rattle.ledusprig.proofs.Rules.{other-than-0}
 use Rattle.ledusprig.proofs.numbers.takum_write_binary64.Statement.{statement}
 use Rattle.ledusprig.proofs.numbers.takum_write_binary64.Tie as tie
 
@@ -19,7 +20,7 @@ hand-word-requires-2 : tie.Need-hand-word-requires-2
 hand-word-requires-2 c κs = search needs
 
 returns-2 : tie.Need-returns-2
-returns-2 c = record { answer = c .before .write-binary642 .result; given = rw (c .before .before .if1 .left) (c .before .write-binary642 .ensures); is = c .hand-word2 .ensures }
+returns-2 c = record { answer = c .before .write-binary642 .result; given = rw (other-than-0 (c .before .before .if1 .left)) (c .before .write-binary642 .ensures); is = c .hand-word2 .ensures }
 
 pub takum-write-binary64-spec : {M : Type 1} → statement M
 takum-write-binary64-spec = tie.close (tie.spec write-binary64-requires hand-word-requires returns write-binary64-requires-2 hand-word-requires-2 returns-2)

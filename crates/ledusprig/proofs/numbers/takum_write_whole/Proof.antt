@@ -1,6 +1,7 @@
--- `takum_write_whole` meets its contract: the public call is asked by the rule that the flag stands for, in each branch; the number goes through its machine form unchanged. Assumes nothing.
+-- `takum_write_whole` meets its contract: the public call is asked by the rule that the number stands for, in each branch; the number goes through its machine form unchanged. Assumes nothing.
 use mir.Facts.{toZ-ofZ}
 use borrow.Author.Needs.{needs}
+use Rattle.ledusprig.proofs.Rules.{other-than-0}
 use Rattle.ledusprig.proofs.numbers.takum_write_whole.Statement.{statement}
 use Rattle.ledusprig.proofs.numbers.takum_write_whole.Tie as tie
 
@@ -20,7 +21,7 @@ hand-word-requires-2 : tie.Need-hand-word-requires-2
 hand-word-requires-2 c κs = search needs
 
 returns-2 : tie.Need-returns-2
-returns-2 c = record { answer = c .before .write-whole2 .result; given = rw (c .before .before .if1 .left) (rw (toZ-ofZ (c .before .before .before .fits .x)) at (c .before .write-whole2 .ensures)); is = c .hand-word2 .ensures }
+returns-2 c = record { answer = c .before .write-whole2 .result; given = rw (other-than-0 (c .before .before .if1 .left)) (rw (toZ-ofZ (c .before .before .before .fits .x)) at (c .before .write-whole2 .ensures)); is = c .hand-word2 .ensures }
 
 pub takum-write-whole-spec : {M : Type 1} → statement M
 takum-write-whole-spec = tie.close (tie.spec write-whole-requires hand-word-requires returns write-whole-requires-2 hand-word-requires-2 returns-2)

@@ -1,4 +1,5 @@
 -- `hand_number` meets its contract: each answer in its own case, a refusal by its number. Assumes nothing.
+use lib.Ieee.{ofBits, div}
 use borrow.Author.Needs.{needs}
 use Rattle.ledusprig.proofs.handed.numbers.hand_number.Statement.{statement}
 use Rattle.ledusprig.proofs.handed.numbers.hand_number.Tie as tie
@@ -19,6 +20,7 @@ returns : tie.Need-returns
 returns c = rw (c .before .answer .given .1)
 
 returns-2 : tie.Need-returns-2
+unfolding div ofBits
 returns-2 c = rw (c .enum-told .given .1)
 
 returns-3 : tie.Need-returns-3

@@ -6,23 +6,26 @@ pub const BLOCK_SIZE: usize = 512;
 /// The most words that a block has: a result slice of this length has room for every block.
 pub const BLOCK_WORDS: usize = 496;
 
-/// How a value becomes a word.
+/// The word of zero, at every width. With its width it is [`Width::zero`](crate::Width::zero).
+pub const ZERO: u64 = 0;
+
+/// How a value becomes a word. The numbers are the archive's.
 #[derive(Clone, Copy, Debug, PartialEq, Eq, Hash)]
 pub enum Rule {
     /// Of the nonzero words with the value's sign the one nearest to it by value; of two that are equally near the one whose lowest bit is
     /// 0; past the ends the end word, never zero and never NaR. Zero gives zero.
-    Rounded,
+    Rounded = 0,
     /// The word with exactly that value, or [`Refusal::Inexact`](crate::Refusal::Inexact).
-    Strict,
+    Strict = 1,
 }
 
-/// How a word becomes a whole number.
+/// How a word becomes a whole number. The numbers are the archive's.
 #[derive(Clone, Copy, Debug, PartialEq, Eq, Hash)]
 pub enum Taking {
     /// The whole part, the fraction dropped toward zero.
-    Cut,
+    Cut = 0,
     /// The value itself, or [`Refusal::Inexact`](crate::Refusal::Inexact) where it isn't whole.
-    Strict,
+    Strict = 1,
 }
 
 /// A value offered for writing: m * 2^k, or its negation; m = 0 is zero, whichever the sign.

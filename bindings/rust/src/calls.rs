@@ -68,28 +68,28 @@ pub fn negate(n: u32, word: u64) -> Result<u64, Refusal> {
 
 /// The word for a value.
 pub fn write(n: u32, rule: Rule, value: Value) -> Result<u64, Refusal> {
-    word_of(unsafe { face::takum_write(n, rule == Rule::Strict, value.negative, value.m, value.k) })
+    word_of(unsafe { face::takum_write(n, rule as u32, value.negative, value.m, value.k) })
 }
 
 /// The word of width `to` for the value of a word of width `from`; NaR gives NaR. Going wider never changes a value.
 pub fn move_word(from: u32, to: u32, rule: Rule, word: u64) -> Result<u64, Refusal> {
-    word_of(unsafe { face::takum_move(from, to, rule == Rule::Strict, word) })
+    word_of(unsafe { face::takum_move(from, to, rule as u32, word) })
 }
 
 /// The word for a whole number.
 pub fn write_whole(n: u32, rule: Rule, x: i64) -> Result<u64, Refusal> {
-    word_of(unsafe { face::takum_write_whole(n, rule == Rule::Strict, x) })
+    word_of(unsafe { face::takum_write_whole(n, rule as u32, x) })
 }
 
 /// The whole number of a word; `Nar` for NaR, `Over` outside signed 64 bits.
 pub fn take_whole(n: u32, taking: Taking, word: u64) -> Result<i64, Refusal> {
-    let answer = unsafe { face::takum_take_whole(n, taking == Taking::Strict, word) };
+    let answer = unsafe { face::takum_take_whole(n, taking as u32, word) };
     Refusal::unless(answer.refusal, answer.whole)
 }
 
 /// The word for a binary64 number: NaN and both infinities give NaR, both zeros give zero.
 pub fn write_binary64(n: u32, rule: Rule, x: f64) -> Result<u64, Refusal> {
-    word_of(unsafe { face::takum_write_binary64(n, rule == Rule::Strict, x) })
+    word_of(unsafe { face::takum_write_binary64(n, rule as u32, x) })
 }
 
 /// The binary64 number for a word, none for NaR: exactly its value up to width 57; from 58 on the nearest, ties to even. Zero is positive
@@ -111,13 +111,13 @@ pub fn take_binary64(n: u32, word: u64) -> Result<Option<f64>, Refusal> {
 /// assert_eq!(results, [0x5A00_0000, 0x8000_0000, 7]);
 /// ```
 pub fn move_column(from: u32, to: u32, rule: Rule, words: &[u64], results: &mut [u64]) -> Result<usize, ColumnRefusal> {
-    let strict = rule == Rule::Strict;
     let (given, room) = (words.len(), results.len());
-    let answer = unsafe { face::takum_move_column(from, to, strict, words.as_ptr(), given, results.as_mut_ptr(), room) };
+    let answer = unsafe { face::takum_move_column(from, to, rule as u32, words.as_ptr(), given, results.as_mut_ptr(), room) };
     Refusal::unless(answer.refusal, answer.moved).map_err(|refusal| {
+        // with every other refusal the position says nothing
         let position = match refusal {
-            Refusal::Width | Refusal::Room => None,
-            _ => Some(answer.position),
+            Refusal::Stray | Refusal::Inexact => Some(answer.position),
+            _ => None,
         };
         ColumnRefusal { refusal, position }
     })

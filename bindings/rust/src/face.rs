@@ -68,16 +68,16 @@ extern "C" {
     pub fn takum_read(n: u32, word: u64) -> ReadingAnswer;
     pub fn takum_compare(n: u32, x: u64, y: u64) -> OrderAnswer;
     pub fn takum_negate(n: u32, word: u64) -> WordAnswer;
-    pub fn takum_write(n: u32, strict: bool, negative: bool, m: u64, k: i32) -> WordAnswer;
-    pub fn takum_move(from: u32, to: u32, strict: bool, word: u64) -> WordAnswer;
-    pub fn takum_write_whole(n: u32, strict: bool, x: i64) -> WordAnswer;
-    pub fn takum_take_whole(n: u32, strict: bool, word: u64) -> WholeAnswer;
-    pub fn takum_write_binary64(n: u32, strict: bool, x: f64) -> WordAnswer;
+    pub fn takum_write(n: u32, rule: u32, negative: bool, m: u64, k: i32) -> WordAnswer;
+    pub fn takum_move(from: u32, to: u32, rule: u32, word: u64) -> WordAnswer;
+    pub fn takum_write_whole(n: u32, rule: u32, x: i64) -> WordAnswer;
+    pub fn takum_take_whole(n: u32, taking: u32, word: u64) -> WholeAnswer;
+    pub fn takum_write_binary64(n: u32, rule: u32, x: f64) -> WordAnswer;
     pub fn takum_take_binary64(n: u32, word: u64) -> NumberAnswer;
     pub fn takum_move_column(
         from: u32,
         to: u32,
-        strict: bool,
+        rule: u32,
         words: *const u64,
         words_length: usize,
         results: *mut u64,

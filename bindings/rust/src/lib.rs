@@ -3,11 +3,11 @@
 //! ```
 //! use ledusprig::{Refusal, Rule, Taking, Width};
 //!
-//! let tag = Width::new(16)?;
-//! let tally = tag.write_whole(Rule::Strict, 514)?;
+//! let tally = Width::W16.write_whole(Rule::Strict, 514)?;
 //! assert_eq!(tally.word(), 0x5A01);
 //! assert_eq!(tally.take_whole(Taking::Strict), Ok(514));
-//! assert_eq!(tag.write_whole(Rule::Strict, 515), Err(Refusal::Inexact));
+//! assert_eq!(tally.to_string(), "514");
+//! assert_eq!(Width::W16.write_whole(Rule::Strict, 515), Err(Refusal::Inexact));
 //! # Ok::<(), Refusal>(())
 //! ```
 //!
@@ -15,8 +15,13 @@
 //! [`calls`] has the library's calls as they are: they take any numbers, and refuse a bad width or a stray bit. There is no rule of the
 //! format in this crate; what is refused, and in which order, is decided by the library.
 //!
-//! `cargo` looks for libledusprig.a in the folder that the environment variable `LEDUSPRIG_LIB_DIR` names, or else in the repository's
-//! target/staticlib, where `rt staticlib ledusprig` puts it. It is for x86-64. Without `cargo`, `rustc` is told so where it compiles this crate:
+//! The standard traits convert what can be meant in one way only: `Width::try_from(16)`, `i64::try_from(takum)` and
+//! `Takum::try_from((width, 514_i64))`, which are strict, and `f64::from(takum)`. A [`Refusal`] is an error with a number, a name and a sentence;
+//! a number that a newer archive gives and this crate does not know is handed over as [`Refusal::Other`].
+//!
+//! `cargo` looks for libledusprig.a in the folder that the environment variable `LEDUSPRIG_LIB_DIR` names by its full path, or else in
+//! target/PROCESSOR/ of the repository that this crate lies in, where `bindings/archive` puts it. Without `cargo`, `rustc` is told so where it
+//! compiles this crate:
 //! `rustc --edition 2021 --crate-type lib --crate-name ledusprig -L FOLDER -l static=ledusprig src/lib.rs`.
 #![no_std]
 #![deny(missing_docs)]
@@ -25,10 +30,22 @@
 mod answers;
 #[allow(unsafe_code)] // the calls of the archive, and no others
 pub mod calls;
+mod conversions;
 mod face;
 mod refusals;
+mod shown;
 mod words;
 
-pub use answers::{Block, Reading, Rule, Taking, Value, BLOCK_SIZE, BLOCK_WORDS};
-pub use refusals::{ColumnRefusal, Refusal};
+pub use answers::{Block, Reading, Rule, Taking, Value, BLOCK_SIZE, BLOCK_WORDS, ZERO};
+pub use refusals::{ColumnRefusal, NoRefusal, Refusal};
 pub use words::{Takum, Width};
+
+/// The version of this crate, as `0.2.0`. Where it was built without `cargo` and nobody set `CARGO_PKG_VERSION`, it is `unknown`.
+pub const VERSION: &str = match option_env!("CARGO_PKG_VERSION") {
+    Some(version) => version,
+    None => "unknown",
+};
+
+#[cfg(doctest)]
+#[doc = include_str!("../README.md")]
+struct Readme; // its example is run with the others

@@ -1,100 +1,201 @@
 //! Why a call was refused.
+use core::error::Error;
 use core::fmt;
 
-/// A refusal, with the number that the yard's papers fix for it.
-///
-/// ```
-/// use ledusprig::{calls, Refusal};
-///
-/// assert_eq!(calls::limit(65), Err(Refusal::Width));
-/// assert_eq!(Refusal::Width.number(), 1);
-/// ```
-#[derive(Clone, Copy, Debug, PartialEq, Eq, Hash)]
-#[repr(u32)]
-pub enum Refusal {
-    /// A width isn't 2 to 64, or a block's isn't 8, 16, 32 or 64.
-    Width = 1,
-    /// A word has a bit set at or above its width.
-    Stray = 2,
-    /// A whole number is wanted of NaR.
-    Nar = 3,
-    /// Strict, and no word, or no whole number, has the value.
-    Inexact = 4,
-    /// The whole number falls outside signed 64 bits.
-    Over = 5,
-    /// The result slice is too short.
-    Room = 6,
-    /// A block isn't 512 bytes.
-    Size = 7,
-    /// A block's byte 0 isn't 0x54.
-    Mark = 8,
-    /// A block's check sum A or B differs.
-    Check = 9,
-    /// A block has more words than its width has room for.
-    Count = 10,
-    /// An unused word byte of a block isn't zero.
-    Fill = 11,
+// The papers' table makes the type, so that a refusal is one line of it. The sentences are those of include/ledusprig.h; tests/cargo compares them.
+macro_rules! refusals {
+    ($($variant:ident = $number:literal, $name:literal, $sentence:literal;)*) => {
+        /// A refusal, with the number and the name that the yard's papers fix for it, and a sentence.
+        ///
+        /// ```
+        /// use ledusprig::{calls, Refusal};
+        ///
+        /// let refusal = calls::limit(65).unwrap_err();
+        /// assert_eq!(refusal, Refusal::Width);
+        /// assert_eq!((refusal.number(), refusal.name()), (1, "WIDTH"));
+        /// assert_eq!(refusal.to_string(), "refusal 1 (WIDTH): a width isn't 2 to 64, or a block's isn't 8, 16, 32 or 64");
+        /// ```
+        ///
+        /// It is an [`Error`], so `?` hands it on:
+        ///
+        /// ```
+        /// use ledusprig::{Rule, Width};
+        ///
+        /// fn tag(tally: i64) -> Result<u64, Box<dyn std::error::Error>> {
+        ///     Ok(Width::W16.write_whole(Rule::Strict, tally)?.word())
+        /// }
+        /// assert_eq!(tag(514).unwrap(), 0x5A01);
+        /// assert!(tag(515).unwrap_err().to_string().starts_with("refusal 4 (INEXACT): "));
+        /// ```
+        #[derive(Clone, Copy, Debug, PartialEq, Eq, Hash)]
+        #[non_exhaustive]
+        pub enum Refusal {
+            $(
+                #[doc = concat!("Refusal ", $number, " (", $name, "): ", $sentence, ".")]
+                $variant,
+            )*
+            /// A refusal whose number this version of the crate does not know: that of a newer archive. Only a number that has no name of its own
+            /// becomes one, so that a refusal never has two forms.
+            ///
+            /// ```
+            /// use ledusprig::Refusal;
+            ///
+            /// let newer = Refusal::try_from(4_294_967_295).unwrap();
+            /// assert!(matches!(newer, Refusal::Other { number: 4_294_967_295, .. }));
+            /// ```
+            #[non_exhaustive]
+            Other {
+                /// The number.
+                number: u32,
+            },
+        }
+
+        impl Refusal {
+            /// The papers' number.
+            #[must_use]
+            pub const fn number(self) -> u32 {
+                match self {
+                    $(Refusal::$variant => $number,)*
+                    Refusal::Other { number } => number,
+                }
+            }
+
+            /// The papers' name, as `INEXACT`; `OTHER` where this version of the crate does not know it.
+            #[must_use]
+            pub const fn name(self) -> &'static str {
+                match self {
+                    $(Refusal::$variant => $name,)*
+                    Refusal::Other { .. } => "OTHER",
+                }
+            }
+
+            fn sentence(self) -> &'static str {
+                match self {
+                    $(Refusal::$variant => $sentence,)*
+                    Refusal::Other { .. } => "the library is newer than this crate, which has no name for it",
+                }
+            }
+        }
+
+        /// The refusal of a number, which is never 0.
+        ///
+        /// ```
+        /// use ledusprig::Refusal;
+        ///
+        /// assert_eq!(Refusal::try_from(4), Ok(Refusal::Inexact));
+        /// assert_eq!(Refusal::try_from(12).unwrap().number(), 12);
+        /// assert!(Refusal::try_from(0).is_err());
+        /// ```
+        impl TryFrom<u32> for Refusal {
+            type Error = NoRefusal;
+
+            fn try_from(number: u32) -> Result<Refusal, NoRefusal> {
+                match number {
+                    0 => Err(NoRefusal),
+                    $($number => Ok(Refusal::$variant),)*
+                    number => Ok(Refusal::Other { number }),
+                }
+            }
+        }
+    };
 }
 
-const ALL: [Refusal; 11] = [
-    Refusal::Width,
-    Refusal::Stray,
-    Refusal::Nar,
-    Refusal::Inexact,
-    Refusal::Over,
-    Refusal::Room,
-    Refusal::Size,
-    Refusal::Mark,
-    Refusal::Check,
-    Refusal::Count,
-    Refusal::Fill,
-];
+refusals! {
+    Width = 1, "WIDTH", "a width isn't 2 to 64, or a block's isn't 8, 16, 32 or 64";
+    Stray = 2, "STRAY", "a word has a bit set at or above its width";
+    Nar = 3, "NAR", "a whole number is wanted of NaR";
+    Inexact = 4, "INEXACT", "strict, and no word, or no whole number, has the value";
+    Over = 5, "OVER", "the whole number falls outside signed 64 bits";
+    Room = 6, "ROOM", "the result slice is too short";
+    Size = 7, "SIZE", "a block isn't 512 bytes";
+    Mark = 8, "MARK", "a block's byte 0 isn't 0x54";
+    Check = 9, "CHECK", "a block's check sum A or B differs";
+    Count = 10, "COUNT", "a block has more words than its width has room for";
+    Fill = 11, "FILL", "an unused word byte of a block isn't zero";
+}
 
 impl Refusal {
-    /// The papers' number, from 1 to 11.
-    pub fn number(self) -> u32 {
-        self as u32
-    }
-
     /// The answer of a call, or the refusal of that number; 0 is none.
     pub(crate) fn unless<T>(number: u32, answer: T) -> Result<T, Refusal> {
-        match number {
-            0 => Ok(answer),
-            number => Err(ALL[number as usize - 1]),
+        match Refusal::try_from(number) {
+            Ok(refusal) => Err(refusal),
+            Err(NoRefusal) => Ok(answer),
         }
     }
 }
 
-/// Its number and name, as `refusal 4 (Inexact)`.
+/// Its number, name and sentence.
 impl fmt::Display for Refusal {
     fn fmt(&self, f: &mut fmt::Formatter<'_>) -> fmt::Result {
-        write!(f, "refusal {} ({:?})", self.number(), self)
+        write!(f, "refusal {} ({}): {}", self.number(), self.name(), self.sentence())
     }
 }
+
+impl Error for Refusal {}
+
+/// The number 0 was to become a refusal.
+#[derive(Clone, Copy, Debug, PartialEq, Eq, Hash)]
+#[non_exhaustive]
+pub struct NoRefusal;
+
+impl fmt::Display for NoRefusal {
+    fn fmt(&self, f: &mut fmt::Formatter<'_>) -> fmt::Result {
+        f.write_str("0 is no refusal: it says that a call was answered")
+    }
+}
+
+impl Error for NoRefusal {}
 
 /// Why a column was not moved, and which of its words is to blame.
 ///
 /// ```
-/// use ledusprig::{calls, ColumnRefusal, Refusal, Rule};
+/// use ledusprig::{calls, Refusal, Rule};
 ///
 /// let mut results = [0; 3];
-/// let refused = calls::move_column(16, 8, Rule::Strict, &[0x4000, 0x5A01, 0x5A01], &mut results);
-/// assert_eq!(refused, Err(ColumnRefusal { refusal: Refusal::Inexact, position: Some(1) }));
+/// let refused = calls::move_column(16, 8, Rule::Strict, &[0x4000, 0x5A01, 0x5A01], &mut results).unwrap_err();
+/// assert_eq!((refused.refusal, refused.position), (Refusal::Inexact, Some(1)));
+/// assert!(refused.to_string().ends_with(" at position 1"));
 /// assert_eq!(results, [0; 3]);
 /// ```
 #[derive(Clone, Copy, Debug, PartialEq, Eq, Hash)]
+#[non_exhaustive]
 pub struct ColumnRefusal {
     /// Why.
     pub refusal: Refusal,
-    /// The lowest position of a word that is refused, counted from 0; none where the whole column is refused (`Width` and `Room`).
+    /// The lowest position of a word that is refused, counted from 0; none where it is not one word that is refused, but the whole column.
     pub position: Option<usize>,
 }
 
+/// The refusal of a whole column.
+impl From<Refusal> for ColumnRefusal {
+    fn from(refusal: Refusal) -> ColumnRefusal {
+        ColumnRefusal { refusal, position: None }
+    }
+}
+
+/// The refusal's sentence, and the position where there is one.
 impl fmt::Display for ColumnRefusal {
     fn fmt(&self, f: &mut fmt::Formatter<'_>) -> fmt::Result {
+        self.refusal.fmt(f)?;
         match self.position {
-            Some(position) => write!(f, "{} at position {}", self.refusal, position),
-            None => self.refusal.fmt(f),
+            Some(position) => write!(f, ", at position {position}"),
+            None => Ok(()),
         }
+    }
+}
+
+impl Error for ColumnRefusal {}
+
+#[cfg(test)]
+mod tests {
+    use super::Refusal;
+
+    #[test]
+    fn the_number_of_a_newer_archive_is_handed_over() {
+        assert_eq!(Refusal::unless(0, 'a'), Ok('a'));
+        for number in 1..=20 {
+            assert_eq!(Refusal::unless(number, 'a').map_err(Refusal::number), Err(number));
+        }
+        assert_eq!(Refusal::unless(u32::MAX, 'a'), Err(Refusal::Other { number: u32::MAX }));
     }
 }

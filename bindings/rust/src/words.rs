@@ -1,5 +1,5 @@
 //! A width and a word that have been accepted once.
-use crate::answers::{Reading, Rule, Taking, Value};
+use crate::answers::{Reading, Rule, Taking, Value, ZERO};
 use crate::calls;
 use crate::refusals::{ColumnRefusal, Refusal};
 use core::cmp::Ordering;
@@ -10,7 +10,8 @@ use core::ops::Neg;
 /// ```
 /// use ledusprig::{Refusal, Width};
 ///
-/// assert_eq!(Width::new(16)?.limit(), 512);
+/// assert_eq!(Width::W16.limit(), 512);
+/// assert_eq!(Width::new(12)?.limit(), 64);
 /// assert_eq!(Width::new(65), Err(Refusal::Width));
 /// # Ok::<(), Refusal>(())
 /// ```
@@ -24,19 +25,20 @@ pub struct Width {
 /// ```
 /// use ledusprig::{Refusal, Rule, Takum, Width};
 ///
-/// let one_and_a_half = Takum::new(Width::new(16)?, 0x4400)?;
+/// let one_and_a_half = Takum::new(Width::W16, 0x4400)?;
 /// assert_eq!(one_and_a_half.take_binary64(), Some(1.5));
 /// assert_eq!((-one_and_a_half).word(), 0xBC00);
-/// assert_eq!(one_and_a_half.move_to(Width::new(64)?, Rule::Strict)?.take_binary64(), Some(1.5));
+/// assert_eq!(one_and_a_half.move_to(Width::W64, Rule::Strict)?.take_binary64(), Some(1.5));
 /// # Ok::<(), Refusal>(())
 /// ```
-#[derive(Clone, Copy, Debug, PartialEq, Eq, Hash)]
+#[derive(Clone, Copy, PartialEq, Eq, Hash)]
 pub struct Takum {
     width: Width,
     word: u64,
 }
 
-/// The answer of a call that the library refuses only for a bad width or a stray bit, given a width and words that it accepted before.
+/// The answer of a call that, by its contract, the library refuses only for a bad width or a stray bit, given a width and words that it
+/// accepted before.
 fn accepted<T>(answer: Result<T, Refusal>) -> T {
     answer.expect("the library accepted this width and word before")
 }
@@ -48,37 +50,67 @@ impl Width {
     /// The greatest width, 64.
     pub const GREATEST: Width = Width { bits: 64 };
 
+    /// 8 bits. This and the next three are the widths that a sheet block can have.
+    pub const W8: Width = Width { bits: 8 };
+
+    /// 16 bits.
+    pub const W16: Width = Width { bits: 16 };
+
+    /// 32 bits.
+    pub const W32: Width = Width { bits: 32 };
+
+    /// 64 bits.
+    pub const W64: Width = Width { bits: 64 };
+
     /// A width, or [`Refusal::Width`] if it isn't 2 to 64.
     pub fn new(bits: u32) -> Result<Width, Refusal> {
         calls::nar(bits).map(|_| Width { bits })
     }
 
     /// Its number of bits.
-    pub fn bits(self) -> u32 {
+    #[must_use]
+    pub const fn bits(self) -> u32 {
         self.bits
     }
 
     /// A word that the library gave for this width.
-    fn given(self, word: u64) -> Takum {
+    const fn given(self, word: u64) -> Takum {
         Takum { width: self, word }
     }
 
     /// The largest positive word.
+    #[must_use]
     pub fn largest(self) -> Takum {
         self.given(accepted(calls::largest(self.bits)))
     }
 
     /// The smallest positive word.
+    #[must_use]
     pub fn smallest(self) -> Takum {
         self.given(accepted(calls::smallest(self.bits)))
     }
 
+    /// Zero: the word [`ZERO`].
+    ///
+    /// ```
+    /// use ledusprig::{Takum, Width};
+    ///
+    /// const EMPTY: Takum = Width::W16.zero();
+    /// assert!(EMPTY.is_zero());
+    /// ```
+    #[must_use]
+    pub const fn zero(self) -> Takum {
+        self.given(ZERO)
+    }
+
     /// NaR, "not a real".
+    #[must_use]
     pub fn nar(self) -> Takum {
         self.given(accepted(calls::nar(self.bits)))
     }
 
     /// The exact-count limit: each whole number from -limit to limit has a word, and limit + 1 has none.
+    #[must_use]
     pub fn limit(self) -> u64 {
         accepted(calls::limit(self.bits))
     }
@@ -89,7 +121,7 @@ impl Width {
     /// use ledusprig::{Refusal, Rule, Value, Width};
     ///
     /// let three_quarters = Value { negative: false, m: 3, k: -2 };
-    /// assert_eq!(Width::new(16)?.write(Rule::Strict, three_quarters)?.take_binary64(), Some(0.75));
+    /// assert_eq!(Width::W16.write(Rule::Strict, three_quarters)?.take_binary64(), Some(0.75));
     /// # Ok::<(), Refusal>(())
     /// ```
     pub fn write(self, rule: Rule, value: Value) -> Result<Takum, Refusal> {
@@ -119,16 +151,31 @@ impl Takum {
     }
 
     /// Its width.
-    pub fn width(self) -> Width {
+    #[must_use]
+    pub const fn width(self) -> Width {
         self.width
     }
 
     /// Its bits, the low ones of 64; all others are zero.
-    pub fn word(self) -> u64 {
+    #[must_use]
+    pub const fn word(self) -> u64 {
         self.word
     }
 
+    /// Whether it is NaR, "not a real".
+    #[must_use]
+    pub fn is_nar(self) -> bool {
+        self.read() == Reading::Nar
+    }
+
+    /// Whether it is zero.
+    #[must_use]
+    pub fn is_zero(self) -> bool {
+        self.read() == Reading::Zero
+    }
+
     /// Its value by its parts.
+    #[must_use]
     pub fn read(self) -> Reading {
         accepted(calls::read(self.width.bits, self.word))
     }
@@ -144,6 +191,7 @@ impl Takum {
     }
 
     /// Its binary64 number, none for NaR; see [`calls::take_binary64`].
+    #[must_use]
     pub fn take_binary64(self) -> Option<f64> {
         accepted(calls::take_binary64(self.width.bits, self.word))
     }
@@ -161,12 +209,11 @@ impl Neg for Takum {
 /// The order of values within one width, NaR below everything; words of two widths have none.
 ///
 /// ```
-/// use ledusprig::{Refusal, Width};
+/// use ledusprig::Width;
 ///
-/// let width = Width::new(16)?;
+/// let width = Width::W16;
 /// assert!(width.nar() < -width.largest() && width.smallest() < width.largest());
-/// assert_eq!(width.nar().partial_cmp(&Width::GREATEST.nar()), None);
-/// # Ok::<(), Refusal>(())
+/// assert_eq!(width.nar().partial_cmp(&Width::W64.nar()), None);
 /// ```
 impl PartialOrd for Takum {
     fn partial_cmp(&self, other: &Takum) -> Option<Ordering> {

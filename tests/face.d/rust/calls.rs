@@ -21,10 +21,25 @@ pub fn rule(given: &mut Given) -> Rule {
     given.choice(("rounded", Rule::Rounded), ("strict", Rule::Strict))
 }
 
+/// A width by its conversion, which must be as `Width::new` has it.
+fn width(n: u32) -> Result<Width, Refusal> {
+    let width = Width::try_from(n);
+    assert_eq!((width, width.map_or(n, u32::from)), (Width::new(n), n));
+    width
+}
+
 fn takum(n: u32, word: u64) -> Result<Takum, Refusal> {
-    let takum = Takum::new(Width::new(n)?, word)?;
+    let takum = Takum::new(width(n)?, word)?;
     assert!(takum.width().bits() == n && takum.word() == word);
     Ok(takum)
+}
+
+/// The answer by the types; where there is a conversion, and it answers another, the text says so. What can fail is strict, as conversions are.
+fn same_by_conversion<T: PartialEq>(to: &mut String, is_one: bool, typed: T, converted: impl FnOnce() -> T) -> T {
+    if is_one && converted() != typed {
+        to.push_str("by conversion another, and ");
+    }
+    typed
 }
 
 pub fn constant(given: &mut Given, to: &mut String) {
@@ -40,29 +55,31 @@ pub fn constant(given: &mut Given, to: &mut String) {
 
 pub fn largest(given: &mut Given, to: &mut String) {
     let n = given.width();
-    put_word(to, calls::largest(n), Width::new(n).map(Width::largest));
+    put_word(to, calls::largest(n), width(n).map(Width::largest));
 }
 
 pub fn smallest(given: &mut Given, to: &mut String) {
     let n = given.width();
-    put_word(to, calls::smallest(n), Width::new(n).map(Width::smallest));
+    put_word(to, calls::smallest(n), width(n).map(Width::smallest));
 }
 
 pub fn nar(given: &mut Given, to: &mut String) {
     let n = given.width();
-    put_word(to, calls::nar(n), Width::new(n).map(Width::nar));
+    put_word(to, calls::nar(n), width(n).map(Width::nar));
 }
 
 pub fn limit(given: &mut Given, to: &mut String) {
     let n = given.width();
-    let answer = same(to, calls::limit(n), Width::new(n).map(Width::limit));
+    let answer = same(to, calls::limit(n), width(n).map(Width::limit));
     put(to, answer, |to, limit| write!(to, "limit {limit}"));
 }
 
 pub fn read(given: &mut Given, to: &mut String) {
     let (n, word) = (given.width(), given.number());
-    let answer = same(to, calls::read(n, word), takum(n, word).map(Takum::read));
-    put(to, answer, |to, reading| match reading {
+    let plain = calls::read(n, word).map(|reading| (reading, reading == Reading::Zero, reading == Reading::Nar));
+    let typed = takum(n, word).map(|takum| (takum.read(), takum.is_zero(), takum.is_nar()));
+    let answer = same(to, plain, typed);
+    put(to, answer, |to, (reading, _, _)| match reading {
         Reading::Zero => write!(to, "zero"),
         Reading::Nar => write!(to, "nar"),
         Reading::Number { negative, h, m, p } => write!(to, "number {} {h} {m} {p}", if negative { "minus" } else { "plus" }),
@@ -93,7 +110,7 @@ pub fn write(given: &mut Given, to: &mut String) {
     let (n, rule) = (given.width(), rule(given));
     let negative = given.choice(("plus", false), ("minus", true));
     let value = Value { negative, m: given.number(), k: given.signed() as i32 };
-    put_word(to, calls::write(n, rule, value), Width::new(n).and_then(|width| width.write(rule, value)));
+    put_word(to, calls::write(n, rule, value), width(n).and_then(|width| width.write(rule, value)));
 }
 
 pub fn move_word(given: &mut Given, to: &mut String) {
@@ -107,26 +124,34 @@ pub fn move_word(given: &mut Given, to: &mut String) {
 
 pub fn write_whole(given: &mut Given, to: &mut String) {
     let (n, rule, x) = (given.width(), rule(given), given.signed());
-    put_word(to, calls::write_whole(n, rule, x), Width::new(n).and_then(|width| width.write_whole(rule, x)));
+    let typed = width(n).and_then(|width| width.write_whole(rule, x));
+    let typed = same_by_conversion(to, rule == Rule::Strict, typed, || Takum::try_from((width(n)?, x)));
+    put_word(to, calls::write_whole(n, rule, x), typed);
 }
 
 pub fn take_whole(given: &mut Given, to: &mut String) {
     let n = given.width();
     let taking = given.choice(("cut", Taking::Cut), ("strict", Taking::Strict));
     let word = given.number();
-    let answer = same(to, calls::take_whole(n, taking, word), takum(n, word).and_then(|takum| takum.take_whole(taking)));
+    let typed = takum(n, word).and_then(|takum| takum.take_whole(taking));
+    let typed = same_by_conversion(to, taking == Taking::Strict, typed, || i64::try_from(takum(n, word)?));
+    let answer = same(to, calls::take_whole(n, taking, word), typed);
     put(to, answer, |to, whole| write!(to, "whole {whole}"));
 }
 
 pub fn write_binary64(given: &mut Given, to: &mut String) {
     let (n, rule, x) = (given.width(), rule(given), f64::from_bits(given.number()));
-    put_word(to, calls::write_binary64(n, rule, x), Width::new(n).and_then(|width| width.write_binary64(rule, x)));
+    let typed = width(n).and_then(|width| width.write_binary64(rule, x));
+    let typed = same_by_conversion(to, rule == Rule::Strict, typed, || Takum::try_from((width(n)?, x)));
+    put_word(to, calls::write_binary64(n, rule, x), typed);
 }
 
 pub fn take_binary64(given: &mut Given, to: &mut String) {
     let (n, word) = (given.width(), given.number());
     let pattern = |number: Option<f64>| number.map(f64::to_bits);
     let typed = takum(n, word).map(|takum| pattern(takum.take_binary64()));
+    let converted = || takum(n, word).map(f64::from).map(|number| pattern(Some(number).filter(|number| !number.is_nan())));
+    let typed = same_by_conversion(to, true, typed, converted);
     let answer = same(to, calls::take_binary64(n, word).map(pattern), typed);
     put(to, answer, |to, pattern| match pattern {
         Some(pattern) => write!(to, "number {pattern:#x}"),

@@ -2,7 +2,7 @@
 use crate::calls::{rule, same};
 use crate::text::{put, put_words, Given};
 use std::fmt::Write;
-use ledusprig::{calls, ColumnRefusal, Width};
+use ledusprig::{calls, Width};
 
 const GUARDS: usize = 8;
 
@@ -48,8 +48,7 @@ pub fn move_column(given: &mut Given, to: &mut String) {
     let (words, room) = (&column[GUARDS..column.len() - GUARDS], given.room());
     let plain = lend(room, |results| calls::move_column(source, target, rule, words, results));
     let typed = lend(room, |results| {
-        let widths = Width::new(source).and_then(|source| Ok((source, Width::new(target)?)));
-        let (source, target) = widths.map_err(|refusal| ColumnRefusal { refusal, position: None })?;
+        let (source, target) = (Width::new(source)?, Width::new(target)?);
         source.move_column(target, rule, words, results)
     });
     let (answer, row) = same(to, plain, typed);

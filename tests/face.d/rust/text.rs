@@ -89,7 +89,7 @@ impl<'a> Given<'a> {
     }
 }
 
-/// Paper 01's name for the refusal that the bindings give their own name.
+/// Paper 01's name for the refusal that the bindings give their own name, by the variant: the name that the bindings tell must be the same.
 fn name_of(refusal: Refusal) -> &'static str {
     match refusal {
         Refusal::Width => "WIDTH",
@@ -103,14 +103,25 @@ fn name_of(refusal: Refusal) -> &'static str {
         Refusal::Check => "CHECK",
         Refusal::Count => "COUNT",
         Refusal::Fill => "FILL",
+        _ => "of no name",
     }
+}
+
+/// The text of a refusal; where its number or its name does not lead back to it, the text says so.
+fn put_refusal(to: &mut String, refusal: Refusal) -> std::fmt::Result {
+    let (number, name) = (refusal.number(), name_of(refusal));
+    write!(to, "refused {number} {name}")?;
+    if refusal.name() != name || Refusal::try_from(number) != Ok(refusal) {
+        write!(to, ", which the bindings call {} and {number} {:?}", refusal.name(), Refusal::try_from(number))?;
+    }
+    Ok(())
 }
 
 /// Puts the text of an answer, or of its refusal by its number and name.
 pub fn put<T>(to: &mut String, answer: Result<T, Refusal>, text: impl FnOnce(&mut String, T) -> std::fmt::Result) {
     match answer {
         Ok(answer) => text(to, answer),
-        Err(refusal) => write!(to, "refused {} {}", refusal.number(), name_of(refusal)),
+        Err(refusal) => put_refusal(to, refusal),
     }
     .expect("a text takes all that is put");
 }

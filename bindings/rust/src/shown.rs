@@ -1,0 +1,126 @@
+//! How widths and words are shown.
+use crate::answers::{Reading, Taking};
+use crate::words::{Takum, Width};
+use core::fmt::{self, Alignment, Write};
+
+/// Its number of bits.
+impl fmt::Display for Width {
+    fn fmt(&self, f: &mut fmt::Formatter<'_>) -> fmt::Result {
+        self.bits().fmt(f)
+    }
+}
+
+/// Its value as a decimal number, `NaR` for NaR. A number without `~` is exactly the value; where its binary64 number has to be shown by the
+/// fewest digits that tell it apart, which need not be all of them, `~` stands before it. [`Takum::read`] has the value exactly.
+///
+/// With a precision it is the binary64 number with so many decimals, as an `f64` is shown.
+///
+/// ```
+/// use ledusprig::{Refusal, Rule, Takum, Width};
+///
+/// let third = |width: Width| width.write_binary64(Rule::Rounded, 1.0 / 3.0);
+/// assert_eq!(Takum::new(Width::W16, 0x5A01)?.to_string(), "514");
+/// assert_eq!(Takum::new(Width::W16, 0xBC00)?.to_string(), "-1.5");
+/// assert_eq!(third(Width::W8)?.to_string(), "0.3125");
+/// assert_eq!(third(Width::W32)?.to_string(), "~0.3333333320915699");
+/// assert_eq!(format!("{:.2} {:>5}", third(Width::W32)?, Width::W16.nar()), "0.33   NaR");
+/// # Ok::<(), Refusal>(())
+/// ```
+impl fmt::Display for Takum {
+    fn fmt(&self, f: &mut fmt::Formatter<'_>) -> fmt::Result {
+        let Some(number) = self.take_binary64() else {
+            return pad(f, format_args!("NaR"));
+        };
+        if let Some(decimals) = f.precision() {
+            return pad(f, format_args!("{number:.decimals$}"));
+        }
+        if let Ok(whole) = self.take_whole(Taking::Strict) {
+            return pad(f, format_args!("{whole}"));
+        }
+        let mark = if is_short(self.read()) { "" } else { "~" };
+        pad(f, format_args!("{mark}{number:?}"))
+    }
+}
+
+/// Whether a value that is no whole number has at most 15 decimal digits. Then they are the ones that an `f64` is shown by: no other number of
+/// so few digits has the same binary64 number.
+fn is_short(reading: Reading) -> bool {
+    let Reading::Number { h, m, p, .. } = reading else {
+        return true;
+    };
+    // m * 2^k with m odd; 2^k is 5^-k / 10^-k
+    let zeros = m.trailing_zeros();
+    let k = h - p as i32 + zeros as i32;
+    let digits = (k..0).try_fold(m >> zeros, |digits, _| digits.checked_mul(5));
+    k < 0 && digits.is_some_and(|digits| digits < 1_000_000_000_000_000)
+}
+
+/// Puts a text into its field as a number is put: at the right, unless told otherwise.
+fn pad(f: &mut fmt::Formatter<'_>, text: fmt::Arguments<'_>) -> fmt::Result {
+    let mut length = Length(0);
+    length.write_fmt(text)?;
+    let free = f.width().unwrap_or(0).saturating_sub(length.0);
+    let before = match f.align() {
+        Some(Alignment::Left) => 0,
+        Some(Alignment::Center) => free / 2,
+        _ => free,
+    };
+    fill(f, before)?;
+    f.write_fmt(text)?;
+    fill(f, free - before)
+}
+
+fn fill(f: &mut fmt::Formatter<'_>, places: usize) -> fmt::Result {
+    let fill = f.fill();
+    (0..places).try_for_each(|_| f.write_char(fill))
+}
+
+/// The length of what is written to it, since there is no place to keep that.
+struct Length(usize);
+
+impl Write for Length {
+    fn write_str(&mut self, text: &str) -> fmt::Result {
+        self.0 += text.len();
+        Ok(())
+    }
+}
+
+/// Its width and its word in hex.
+///
+/// ```
+/// use ledusprig::{Refusal, Takum, Width};
+///
+/// assert_eq!(format!("{:?}", Takum::new(Width::W16, 0x5A01)?), "Takum { width: 16, word: 0x5a01 }");
+/// # Ok::<(), Refusal>(())
+/// ```
+impl fmt::Debug for Takum {
+    fn fmt(&self, f: &mut fmt::Formatter<'_>) -> fmt::Result {
+        let word = self.word();
+        f.debug_struct("Takum").field("width", &self.width().bits()).field("word", &format_args!("{word:#x}")).finish()
+    }
+}
+
+macro_rules! as_the_word {
+    ($($form:ident $example:literal;)*) => {$(
+        /// Its word, as a `u64` is shown.
+        ///
+        /// ```
+        /// use ledusprig::{Refusal, Takum, Width};
+        ///
+        /// let tally = Takum::new(Width::W16, 0x5A01)?;
+        #[doc = $example]
+        /// # Ok::<(), Refusal>(())
+        /// ```
+        impl fmt::$form for Takum {
+            fn fmt(&self, f: &mut fmt::Formatter<'_>) -> fmt::Result {
+                fmt::$form::fmt(&self.word(), f)
+            }
+        }
+    )*};
+}
+
+as_the_word! {
+    LowerHex r#"assert_eq!(format!("{tally:x} {tally:#x} {tally:06x}"), "5a01 0x5a01 005a01");"#;
+    UpperHex r#"assert_eq!(format!("{tally:X} {tally:#X}"), "5A01 0x5A01");"#;
+    Binary r#"assert_eq!(format!("{tally:b} {tally:#018b}"), "101101000000001 0b0101101000000001");"#;
+}

@@ -1,0 +1,57 @@
+//! What is shown of a word: its value, never as if it were exact where it is not, and its bits.
+use ledusprig::{Rule, Takum, Width};
+
+/// The digits that count: no sign, point or exponent, and no zeros at the ends.
+fn digits(text: &str) -> String {
+    let mantissa = text.split('e').next().unwrap().replace(['-', '.'], "");
+    mantissa.trim_matches('0').to_string()
+}
+
+#[test]
+fn a_value_without_a_mark_has_all_its_digits() {
+    let (mut exact, mut marked) = (0, 0);
+    for word in (0..=0xFFFF).step_by(32) {
+        let takum = Takum::new(Width::W16, word).unwrap();
+        let (text, number) = (takum.to_string(), f64::from(takum));
+        if takum.is_nar() {
+            assert_eq!(text, "NaR");
+        } else if let Some(rest) = text.strip_prefix('~') {
+            assert_eq!(rest.parse(), Ok(number));
+            marked += 1;
+        } else {
+            assert_eq!(text.parse(), Ok(number));
+            assert_eq!(digits(&text), digits(&format!("{number:.400e}")), "{text}");
+            exact += 1;
+        }
+    }
+    assert!(exact > 500 && marked > 500, "{exact} {marked}");
+}
+
+#[test]
+fn of_a_wide_word_it_is_never_said_to_be_exact_by_too_few_digits() {
+    let shown = |x: f64| Width::W64.write_binary64(Rule::Strict, x).unwrap().to_string();
+    assert_eq!(shown(0.1), "~0.1");
+    assert_eq!(shown(0.75), "0.75");
+    assert_eq!(shown(-1.0 / 1_048_576.0), "-9.5367431640625e-7");
+    assert_eq!(shown((1_u64 << 60) as f64), "1152921504606846976");
+    assert_eq!(shown((1_u64 << 63) as f64), "~9.223372036854776e18");
+    let odd = Width::W64.write_whole(Rule::Strict, (1 << 54) + 1).unwrap();
+    assert_eq!(odd.to_string(), "18014398509481985");
+}
+
+#[test]
+fn fields_are_filled_as_those_of_numbers() {
+    let (half, nar) = (Takum::try_from((Width::W16, -0.5)).unwrap(), Width::W16.nar());
+    assert_eq!(format!("[{half:7}] [{half:<7}] [{half:^7}] [{half:*>7}] [{half:2}]"), "[   -0.5] [-0.5   ] [ -0.5  ] [***-0.5] [-0.5]");
+    assert_eq!(format!("[{nar:5}] [{nar:<5}] [{nar:.1}]"), "[  NaR] [NaR  ] [NaR]");
+    assert_eq!(format!("[{half:.3}] [{half:8.1}]"), "[-0.500] [    -0.5]");
+}
+
+#[test]
+fn bits_are_shown_as_those_of_a_number() {
+    let tally = Takum::new(Width::W16, 0x5A01).unwrap();
+    assert_eq!(format!("{tally:x} {tally:X} {tally:#x} {tally:#010x} {tally:>6x}"), "5a01 5A01 0x5a01 0x00005a01   5a01");
+    assert_eq!(format!("{tally:b} {tally:#b}"), "101101000000001 0b101101000000001");
+    assert_eq!(format!("{tally:?}"), "Takum { width: 16, word: 0x5a01 }");
+    assert_eq!(format!("{}", tally.width()), "16");
+}

@@ -1,7 +1,7 @@
 -- How an answer is handed over to C and Rust: the refusal's number, 0 where nothing was refused, with the answer beside it, which is all zeros
 -- where it was refused, but for the position of a column's refused word. Nothing else is decided here.
 use mathlib.Core.Path.{_≡_}
-use mathlib.Core.Bool.{Bool, true, false}
+use mathlib.Core.Bool.{true, false}
 use mathlib.Core.List.{List}
 use Prim.Native.Nat.{ℕ, zero, suc}
 use lib.IntN.{ℤ, pos}

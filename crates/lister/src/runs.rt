@@ -39,7 +39,7 @@ fn put_block(out: &mut [u8], at: usize, block: &[u8], place: u64) -> usize
     ensures { λ r. ⌜ PutsSome (ListsBlock (now (block .entry)) place) (now (out .entry)) at (now (out .exit)) r × (r ≤ at + textRoom) ⌝ }
 {
     match list_block(block, place, &mut out[at..]) {
-        Listed::Length(length) => at + length,
+        Listed::Length { length, refused: _ } => at + length,
         Listed::Refused(_) => at,
     }
 }

@@ -1,39 +1,32 @@
-// Filling a lent buffer from standard input, in as many pieces as it comes.
+// One read of standard input into the rest of a lent buffer.
 use libc::STDIN_FILENO;
 ghost use mathlib.Core.Path.{_≡_};
-ghost use mathlib.Core.Bool.{false};
+ghost use mathlib.Core.Bool.{true};
 ghost use Prim.Native.Nat.{_+_, _≤_, _<_};
 ghost use lib.ListN.{length};
 
-// How many bytes there are, and whether the input ends with them; else the buffer is full.
-pub(crate) struct Filled {
+// How many bytes came, and whether none came because the input ends. None come from a read that fails, either.
+pub(crate) struct Got {
     pub(crate) count: usize,
     pub(crate) ends: bool,
 }
 
-pub(crate) fn fill(buf: &mut [u8]) -> Filled
-    ensures { λ r. ⌜ (r .count ≤ length (now (buf .exit))) × (r .ends ≡ false → r .count ≡ length (now (buf .exit))) ⌝ }
-{
-    let mut count = 0;
-    while count < buf.len() {
-        let got = read_at(buf, count);
-        if got == 0 {
-            return Filled { count, ends: true };
-        }
-        count += got;
-    }
-    Filled { count, ends: false }
-}
-
-// One read behind what is there. A read that fails is told on standard error, and ends the input as its end does.
-fn read_at(buf: &mut [u8], at: usize) -> usize
+// One read behind the first `at` bytes. A failure is told on standard error.
+pub(crate) fn read_at(buf: &mut [u8], at: usize) -> Got
     requires { ⌜ at < length (now buf) ⌝ }
-    ensures { λ r. ⌜ at + r ≤ length (now (buf .exit)) ⌝ }
+    ensures { λ r. ⌜ (at + r .count ≤ length (now (buf .exit))) × (r .ends ≡ true → r .count ≡ 0) ⌝ }
 {
     let got = libc::read(STDIN_FILENO, &mut buf[at..]);
     if got < 0 {
         os::fail(b"lister: standard input");
-        return 0;
+        return Got {
+            count: 0,
+            ends: false,
+        };
     }
-    io::count(got, &buf[at..])
+    let count = io::count(got, &buf[at..]);
+    Got {
+        count,
+        ends: count == 0,
+    }
 }

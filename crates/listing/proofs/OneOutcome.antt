@@ -87,11 +87,11 @@ puts-one P one before at f n g m (t, x, p) (u, y, q) =
 
 listed-one : (block : List ℕ) (i : ℕ) (before f g : List ℕ) (a b : Listed) → IsListed block i before f a → IsListed block i before g b → (a ≡ b) × (f ≡ g)
 unfolding IsListed
-listed-one block i before f g (Listed.Length n) (Listed.Length m) x y =
+listed-one block i before f g (Listed.Length n r) (Listed.Length m s) x y =
     let same = puts-one (ListsBlock block i) (block-one block i) before 0 f n g m (x .0) (y .0) in
-    (ap Listed.Length (same .0), same .1)
+    (ap₂ Listed.Length (same .0) (x .2 ∙ sym (y .2)), same .1)
 listed-one block i before f g (Listed.Refused q) b x y = absurd x
-listed-one block i before f g (Listed.Length n) (Listed.Refused q) x y = absurd y
+listed-one block i before f g (Listed.Length n r) (Listed.Refused q) x y = absurd y
 
 -- what the call answers, and what the lent slice holds afterwards
 pub lists-into-one : (block : List ℕ) (i : ℕ) (before f g : List ℕ) (a b : Listed) → ListsInto block i before f a → ListsInto block i before g b → (a ≡ b) × (f ≡ g)

@@ -11,7 +11,7 @@ use sheet::block::read_block;
 ghost use mathlib.Core.Path.{_≡_};
 ghost use Prim.Native.Nat.{_+_, _*_, _≤_};
 ghost use lib.ListN.{length, take};
-ghost use Rattle.listing.specs.Listing.{most, textRoom, ListsBlock, ListsInto};
+ghost use Rattle.listing.specs.Listing.{most, textRoom, IsListed, ListsInto};
 ghost use Rattle.listing.specs.Puts.{PutsSome};
 ghost use Rattle.listing.specs.Text.{AreLines, IsRefusedLine};
 
@@ -21,9 +21,9 @@ const WORDS: usize = 496;
 // Room for the text of any block: a line of up to 96 bytes for each word.
 const ROOM: usize = WORDS * 96;
 
-// How long the text is, or why none was put.
+// How long the text is, and the number of the block's refusal, 0 for a block that was read; or why none was put.
 pub enum Listed {
-    Length(usize),
+    Length { length: usize, refused: u32 },
     Refused(Refusal),
 }
 
@@ -37,21 +37,27 @@ pub fn list_block(block: &[u8], place: u64, out: &mut [u8]) -> Listed
     }
     // None is read before it is written. Zeros would be a call of the C library's memset for each block, and under the emulator that is slow.
     let mut words = [1u64; WORDS];
-    Listed::Length(put_block(out, &mut words, block, place))
+    put_block(out, &mut words, block, place)
 }
 
-// The text of a block; the lent words are for its words.
-fn put_block(out: &mut [u8], words: &mut [u64], block: &[u8], place: u64) -> usize
+// The text of a block, for which there is room; the lent words are for its words.
+fn put_block(out: &mut [u8], words: &mut [u64], block: &[u8], place: u64) -> Listed
     requires { ⌜ (length (now words) ≡ most) × (textRoom ≤ length (now out)) ⌝ }
-    ensures { λ r. ⌜ PutsSome (ListsBlock (now (block .entry)) place) (now (out .entry)) 0 (now (out .exit)) r × (r ≤ textRoom) ⌝ }
+    ensures { λ r. ⌜ IsListed (now (block .entry)) place (now (out .entry)) (now (out .exit)) r ⌝ }
 {
     match read_block(block, words) {
         Block::Read {
             width,
             number,
             count,
-        } => put_lines(out, 0, number, width, words, count),
-        Block::Refused(q) => put_refused(out, 0, place, q),
+        } => Listed::Length {
+            length: put_lines(out, 0, number, width, words, count),
+            refused: 0,
+        },
+        Block::Refused(q) => Listed::Length {
+            length: put_refused(out, 0, place, q),
+            refused: q.number(),
+        },
     }
 }
 

@@ -4,7 +4,7 @@ use lib.ListN.{length}
 use Rattle.bounds.specs.declared.refusal.Verdict.{Verdict}
 use Rattle.bounds.specs.Refusals.{roomTest, through, refused}
 use Rattle.bounds.proofs.Rooms.{room-through}
-use Rattle.listing.specs.Listing.{most, textRoom, IsListed, ListsInto}
+use Rattle.listing.specs.Listing.{most, textRoom, ListsInto}
 use borrow.Author.Needs.{needs}
 use Rattle.listing.proofs.blocks.list_block.Statement.{statement}
 use Rattle.listing.proofs.blocks.list_block.Tie as tie
@@ -40,7 +40,7 @@ same-length : tie.Need-same-length
 same-length c = search needs
 
 returns-2 : tie.Need-returns-2
-unfolding ListsInto IsListed
+unfolding ListsInto
 returns-2 c = through (told (c .before .before .before .before .before .before)) (c .before .before .before .put-block .ensures)
 
 pub list-block-spec : {M : Type 1} → statement M

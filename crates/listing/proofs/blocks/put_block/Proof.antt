@@ -1,13 +1,13 @@
 -- `put_block` meets its contract. Assumes nothing.
-use mathlib.Core.Path.{subst}
+use mathlib.Core.Path.{_∙_, subst}
 use Prim.Native.Nat.{ℕ}
 use native.Mathlib.Omega.{arith}
 use lib.ListN.{length}
 use Rattle.sheet.specs.declared.block.Block.{Block}
 use Rattle.sheet.specs.Reads.{ReadsBlock, FillsResults}
-use Rattle.listing.specs.Listing.{most, textRoom}
+use Rattle.listing.specs.Listing.{most, textRoom, IsListed}
 use Rattle.listing.specs.Puts.{PutsSome}
-use Rattle.listing.proofs.ReadOut.{narrow, few, lines-listed, refused-listed}
+use Rattle.listing.proofs.ReadOut.{narrow, few, lines-listed, number-0, refused-listed, number-of-it}
 use borrow.Author.Needs.{needs}
 use Rattle.listing.proofs.blocks.put_block.Statement.{statement}
 use Rattle.listing.proofs.blocks.put_block.Tie as tie
@@ -51,6 +51,9 @@ put-refused-requires : tie.Need-put-refused-requires
 unfolding textRoom
 put-refused-requires c κs = search needs
 
+number-requires : tie.Need-number-requires
+number-requires c κs = search needs
+
 same-length : tie.Need-same-length
 same-length c = search needs
 
@@ -58,12 +61,15 @@ same-length-2 : tie.Need-same-length-2
 same-length-2 c = search needs
 
 returns : tie.Need-returns
-unfolding PutsSome textRoom
+unfolding IsListed PutsSome textRoom
 returns c =
     let k = c .before .before .before in
     let p = c .before .before .put-lines .ensures in
-    let m = few _ _ _ _ _ _ (s k .pre .0) (reads k) (fills k) in
-    ((_, lines-listed _ _ _ _ _ _ (s k .pre .0) (reads k) (fills k) _ _ (p .0 .1), p .0 .2), omega (arith, m, p .1))
+    let m = few _ _ _ _ _ _ (s k .pre .0) (reads k) (fills k) in (
+      (_, lines-listed _ _ _ _ _ _ (s k .pre .0) (reads k) (fills k) _ _ (p .0 .1), p .0 .2),
+      omega (arith, m, p .1),
+      number-0 _ _ _ _ _ _ (s k .pre .0) (reads k) (fills k),
+    )
 
 same-length-3 : tie.Need-same-length-3
 same-length-3 c = search needs
@@ -72,13 +78,13 @@ same-length-4 : tie.Need-same-length-4
 same-length-4 c = search needs
 
 returns-2 : tie.Need-returns-2
-unfolding PutsSome textRoom
+unfolding IsListed PutsSome textRoom
 returns-2 c =
-    let s = c .before .before .before .before .before .before .before .before .before .before .before .before .before .before in
-    let q = c .before .before .before .before .before .q in
-    let p = c .before .before .put-refused .ensures in
-    let r = subst (ReadsBlock (s .args .block .now) (length (s .args .words .now))) (q .given .1) (c .before .before .before .before .before .before .before .before .before .read-block .ensures .0) in
-    ((_, refused-listed _ _ _ (s .pre .0) r _ _ (p .0 .1), p .0 .2), omega (arith, p .1))
+    let s = c .before .before .before .before .before .before .before .before .before .before .before .before .before .before .before in
+    let q = c .before .before .before .before .before .before .q in
+    let p = c .before .before .before .put-refused .ensures in
+    let r = subst (ReadsBlock (s .args .block .now) (length (s .args .words .now))) (q .given .1) (c .before .before .before .before .before .before .before .before .before .before .read-block .ensures .0) in
+    ((_, refused-listed _ _ _ (s .pre .0) r _ _ (p .0 .1), p .0 .2), omega (arith, p .1), c .number .ensures ∙ number-of-it _ _ _ (s .pre .0) r)
 
 pub put-block-spec : {M : Type 1} → statement M
 put-block-spec =
@@ -89,6 +95,7 @@ put-block-spec =
     put-lines-requires
     enum-known-q
     put-refused-requires
+    number-requires
     same-length
     same-length-2
     returns

@@ -73,7 +73,7 @@ impl Width {
         self.bits
     }
 
-    /// A word that the library gave for this width.
+    /// A word that is known to be one of this width: the library gave or accepted it, or it is zero.
     const fn given(self, word: u64) -> Takum {
         Takum { width: self, word }
     }

@@ -60,12 +60,12 @@ macro_rules! refusals {
                 }
             }
 
-            /// The papers' name, as `INEXACT`; `OTHER` where this version of the crate does not know it.
+            /// The papers' name, as `INEXACT`; `UNKNOWN` where this version of the crate does not know it.
             #[must_use]
             pub const fn name(self) -> &'static str {
                 match self {
                     $(Refusal::$variant => $name,)*
-                    Refusal::Other { .. } => "OTHER",
+                    Refusal::Other { .. } => "UNKNOWN",
                 }
             }
 

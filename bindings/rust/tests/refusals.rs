@@ -22,8 +22,8 @@ fn a_number_that_is_not_known_is_kept() {
     for number in [12, 13, 14, 15, 16, u32::MAX] {
         let refusal = Refusal::try_from(number).unwrap();
         assert!(matches!(refusal, Refusal::Other { .. }));
-        assert_eq!((refusal.number(), refusal.name()), (number, "OTHER"));
-        assert!(refusal.to_string().starts_with(&format!("refusal {number} (OTHER): ")));
+        assert_eq!((refusal.number(), refusal.name()), (number, "UNKNOWN"));
+        assert!(refusal.to_string().starts_with(&format!("refusal {number} (UNKNOWN): ")));
     }
 }
 

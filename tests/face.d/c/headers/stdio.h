@@ -6,5 +6,6 @@ typedef struct FILE FILE;
 extern FILE *stdin;
 char *fgets(char *line, int size, FILE *from);
 int printf(const char *format, ...);
+int puts(const char *line);
 
 #endif

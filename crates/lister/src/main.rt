@@ -12,9 +12,7 @@ use crate::report::report;
 fn main() {
     let mut counts = [0u64; NUMBERS];
     let listed = list_all(&mut counts);
-    if listed.complete {
-        if os::arg_count() > 1 {
-            report(listed.place, &counts);
-        }
+    if listed.complete && os::arg_count() > 1 {
+        report(listed.place, &counts);
     }
 }

@@ -21,24 +21,24 @@ pub(crate) fn count_block(counts: &mut [u64], number: u32)
 // `blocks N`, a line `refused NUMBER COUNT` for each number that occurred, and `end`. Whoever started the program may have gone, so a failure to
 // write is passed over: the report then lacks its end.
 pub(crate) fn report(blocks: u64, counts: &[u64]) {
-    io::write_all(REPORT_FILENO, b"blocks ");
-    io::print_decimal(REPORT_FILENO, blocks);
-    io::write_all(REPORT_FILENO, b"\n");
+    report_number(b"blocks ", blocks);
     let mut number = 1;
     while number < counts.len() {
-        report_refused(number, counts[number]);
+        report_refused(number as u64, counts[number]);
         number += 1;
     }
-    io::write_all(REPORT_FILENO, b"end\n");
+    io::write_all(REPORT_FILENO, b"\nend\n");
 }
 
-fn report_refused(number: usize, count: u64) {
-    if count == 0 {
-        return;
+fn report_refused(number: u64, count: u64) {
+    if count > 0 {
+        report_number(b"\nrefused ", number);
+        report_number(b" ", count);
     }
-    io::write_all(REPORT_FILENO, b"refused ");
-    io::print_decimal(REPORT_FILENO, number as u64);
-    io::write_all(REPORT_FILENO, b" ");
-    io::print_decimal(REPORT_FILENO, count);
-    io::write_all(REPORT_FILENO, b"\n");
+}
+
+// A number behind what stands before it.
+fn report_number(before: &[u8], number: u64) {
+    io::write_all(REPORT_FILENO, before);
+    io::print_decimal(REPORT_FILENO, number);
 }

@@ -7,25 +7,16 @@ use Rattle.lister.proofs.report.report.Statement.{statement}
 use Rattle.lister.proofs.report.report.Tie as tie
 
 abbrev Inv-loop : tie.InvT-loop
-Inv-loop blocks counts number₀ t6 number = length t6 ≡ 4
+Inv-loop blocks counts number₀ t5 number = length t5 ≡ 5
 
 abbrev μ-loop : tie.MeasureT-loop
-μ-loop blocks counts number₀ t6 number = length counts - number
+μ-loop blocks counts number₀ t5 number = length counts - number
 
-slice-aggregate-write-all : tie.Need-slice-aggregate-write-all Inv-loop μ-loop
-slice-aggregate-write-all c = search needs
+slice-aggregate-report-number : tie.Need-slice-aggregate-report-number Inv-loop μ-loop
+slice-aggregate-report-number c = search needs
 
-write-all-requires : tie.Need-write-all-requires Inv-loop μ-loop
-write-all-requires c κs = search needs
-
-print-decimal-requires : tie.Need-print-decimal-requires Inv-loop μ-loop
-print-decimal-requires c κs = search needs
-
-slice-aggregate-write-all-2 : tie.Need-slice-aggregate-write-all-2 Inv-loop μ-loop
-slice-aggregate-write-all-2 c = search needs
-
-write-all-requires-2 : tie.Need-write-all-requires-2 Inv-loop μ-loop
-write-all-requires-2 c κs = search needs
+report-number-requires : tie.Need-report-number-requires Inv-loop μ-loop
+report-number-requires c κs = search needs
 
 loop-holds : tie.Need-loop-holds Inv-loop μ-loop
 loop-holds c = search needs
@@ -48,11 +39,11 @@ loop-less c = search needs
 loop-again : tie.Need-loop-again Inv-loop μ-loop
 loop-again c = search needs
 
-slice-aggregate-write-all-3 : tie.Need-slice-aggregate-write-all-3 Inv-loop μ-loop
-slice-aggregate-write-all-3 c = search needs
+slice-aggregate-write-all : tie.Need-slice-aggregate-write-all Inv-loop μ-loop
+slice-aggregate-write-all c = search needs
 
-write-all-requires-3 : tie.Need-write-all-requires-3 Inv-loop μ-loop
-write-all-requires-3 c κs = search needs
+write-all-requires : tie.Need-write-all-requires Inv-loop μ-loop
+write-all-requires c κs = search needs
 
 returns : tie.Need-returns Inv-loop μ-loop
 returns c = search needs
@@ -63,11 +54,8 @@ report-spec =
     (tie.spec
     Inv-loop
     μ-loop
-    slice-aggregate-write-all
-    write-all-requires
-    print-decimal-requires
-    slice-aggregate-write-all-2
-    write-all-requires-2
+    slice-aggregate-report-number
+    report-number-requires
     loop-holds
     mul-report-refused
     shared-slice-read-report-refused
@@ -75,6 +63,6 @@ report-spec =
     add-number
     loop-less
     loop-again
-    slice-aggregate-write-all-3
-    write-all-requires-3
+    slice-aggregate-write-all
+    write-all-requires
     returns)

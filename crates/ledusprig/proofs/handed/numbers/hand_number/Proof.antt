@@ -1,4 +1,4 @@
--- `hand_number` meets its contract: each answer in its own case, a refusal by its number. Assumes nothing.
+-- `hand_number` meets its contract: each answer in its own case, a refusal by its number; 0 divided by 0 is the NaN. Assumes nothing.
 use lib.Ieee.{ofBits, div}
 use borrow.Author.Needs.{needs}
 use Rattle.ledusprig.proofs.handed.numbers.hand_number.Statement.{statement}

@@ -4,10 +4,10 @@
  *     takum_word_answer tag = takum_write_whole(16, TAKUM_STRICT, 515);
  *     if (tag.refusal == TAKUM_INEXACT) puts("515 has no word of 16 bits");
  *
- * The archive is for x86-64 or for Arm (aarch64), under Linux. It is linked like any other: cc program.c libledusprig.a, or, where it is installed,
- * cc program.c $(pkg-config --cflags --libs ledusprig). It stands on nothing else, not even the C library, holds no state and may be called from
- * any thread. No answer depends on the floating-point rounding mode; no call changes it, and none raises an exception of IEEE 754 unless it says so
- * below. (The processors' own flag for a subnormal operand is none of these; a subnormal double may set it.)
+ * It needs C99 or later, or C++11 or later. The archive is for x86-64 or for Arm (aarch64), under Linux. It is linked like any other, cc program.c
+ * libledusprig.a, or, where it is installed, cc program.c $(pkg-config --cflags --libs ledusprig). It stands on nothing else, not even the C library,
+ * holds no state and may be called from any thread. No answer depends on the floating-point rounding mode; no call changes it, and none raises an
+ * exception of IEEE 754 unless it says so below. (The processors' own flag for a subnormal operand is none of these; a subnormal double may set it.)
  *
  * A word of width n (in bits, 2 to 64) is carried in the low n bits of a uint64_t; the bits above must be zero. Zero is all bits zero, NaR
  * ("not a real") is the highest of the n bits alone. As n-bit two's complement numbers, words are in the order of their values.
@@ -25,7 +25,7 @@
  * - A lent slice is a pointer and a length, counted in elements. The pointer is not null and is aligned for its elements; as many of them
  *   as the length says lie there, initialized, and may be read, and results written, until the call returns. For an empty slice the length
  *   is 0; its pointer, too, is not null and is aligned, as the address of any uint64_t (for a block's bytes any address) is, and nothing is
- *   read or written there. Don't pass NULL.
+ *   read or written there. Don't pass NULL, which malloc(0) or the data() of an empty std::vector may be.
  * - The two slices of a call do not overlap, and nothing else changes them during the call.
  * - A bool is 0 or 1, as every bool is that C makes itself. */
 #ifndef LEDUSPRIG_H
@@ -39,7 +39,12 @@
 #define TAKUM_VERSION "0.2.0"
 #define TAKUM_VERSION_NUMBER 200
 
-/* No call throws, and a compiler that can tells where an answer is dropped: what was not looked at may have been refused. */
+#if defined(__cplusplus) && __cplusplus < 201103L
+#error "ledusprig.h needs C++11 or later, or C99 or later"
+#endif
+
+/* No call throws. A compiler that can tells where an answer is dropped, since what was not looked at may have been refused, and where a slice is
+ * NULL. */
 #ifdef __cplusplus
 #define TAKUM_NOEXCEPT noexcept
 #else
@@ -47,8 +52,17 @@
 #endif
 #ifdef __GNUC__
 #define TAKUM_MUST_USE __attribute__((warn_unused_result))
+#define TAKUM_NOT_NULL __attribute__((nonnull))
 #else
 #define TAKUM_MUST_USE
+#define TAKUM_NOT_NULL
+#endif
+
+/* A rule has 32 bits and may be any number of them. Where the language can't say so, it is tested below. */
+#if defined(__cplusplus) || (defined(__STDC_VERSION__) && __STDC_VERSION__ >= 202311L)
+#define TAKUM_32_BITS : uint32_t
+#else
+#define TAKUM_32_BITS
 #endif
 
 #ifdef __cplusplus
@@ -99,18 +113,18 @@ enum { TAKUM_LEAST_WIDTH = 2, TAKUM_GREATEST_WIDTH = 64, TAKUM_BLOCK_SIZE = 512,
  * - ROUNDED: of the nonzero words with the value's sign the one nearest to it by value; of two that are equally near the one whose lowest
  *   bit is 0; past the ends the end word, never zero and never NaR. Zero gives zero.
  * - STRICT: the word with exactly the value, or INEXACT. */
-typedef enum takum_rule { TAKUM_ROUNDED = 0, TAKUM_STRICT = 1 } takum_rule;
+typedef enum takum_rule TAKUM_32_BITS { TAKUM_ROUNDED = 0, TAKUM_STRICT = 1 } takum_rule;
 
 /* The rule of taking a whole number. Any number but 0 is strict.
  *
  * - CUT: the whole part, the fraction dropped toward zero.
  * - STRICT: exactly the value, or INEXACT. */
-typedef enum takum_taking { TAKUM_TAKE_CUT = 0, TAKUM_TAKE_STRICT = 1 } takum_taking;
+typedef enum takum_taking TAKUM_32_BITS { TAKUM_TAKE_CUT = 0, TAKUM_TAKE_STRICT = 1 } takum_taking;
 
-/* Both are handed over as 32 bits (gcc's -fshort-enums would make them shorter): else this is no type. */
-typedef char takum_rules_have_32_bits[sizeof(takum_rule) == 4 && sizeof(takum_taking) == 4 ? 1 : -1];
+/* Both are handed over as 32 bits. A C compiler that is told -fshort-enums makes them shorter, and then this is no type. */
+typedef char takum_needs_no_short_enums[sizeof(takum_rule) == 4 && sizeof(takum_taking) == 4 ? 1 : -1];
 
-/* The field `kind` of a reading. */
+/* The field `kind` of a reading. TAKUM_KIND_NAR is not TAKUM_NAR, which is a refusal. */
 enum takum_kind { TAKUM_KIND_ZERO = 0, TAKUM_KIND_NAR = 1, TAKUM_KIND_NUMBER = 2 };
 
 typedef struct takum_word_answer {
@@ -209,13 +223,18 @@ TAKUM_MUST_USE takum_number_answer takum_take_binary64(uint32_t n, uint64_t word
 /* Moves a column, each of the words as takum_move does: the first results are the moved words, in order, and the others stay as they were.
  * ROOM where there are fewer results than words, even if a word would be refused too. A word's refusal, STRAY or INEXACT, comes with its
  * position: the lowest at which there is one. An empty column moves 0 words. */
-TAKUM_MUST_USE takum_column_answer takum_move_column(uint32_t from, uint32_t to, takum_rule rule, const uint64_t *words, size_t words_length,
-                                                     uint64_t *results, size_t results_length) TAKUM_NOEXCEPT;
+TAKUM_MUST_USE TAKUM_NOT_NULL takum_column_answer takum_move_column(uint32_t from, uint32_t to, takum_rule rule, const uint64_t *words,
+                                                                    size_t words_length, uint64_t *results,
+                                                                    size_t results_length) TAKUM_NOEXCEPT;
 
-/* Reads a sheet block of 512 bytes: the first results are its words, in order, and the others stay as they were. TAKUM_BLOCK_WORDS results
+/* A sheet block, its numbers little-endian: byte 0 is 0x54; byte 1 the width of its words, 8, 16, 32 or 64; bytes 2 and 3 their count; bytes 4 to 7
+ * the block's number; bytes 8 to 503 the words, and zeros behind them; bytes 504 to 507 the sum A, and 508 to 511 the sum B, both modulo 2^32. A is
+ * the sum of the 126 numbers of 32 bits before it, B that of the 126 values that A has after each of them.
+ *
+ * Reads a block of 512 bytes: the first results are its words, in order, and the others stay as they were. TAKUM_BLOCK_WORDS results
  * are enough for every block. SIZE, MARK, CHECK, WIDTH, COUNT, FILL or ROOM, in this order; any word that a block holds is a good one. */
-TAKUM_MUST_USE takum_block_answer takum_read_block(const uint8_t *block, size_t block_length, uint64_t *results,
-                                                   size_t results_length) TAKUM_NOEXCEPT;
+TAKUM_MUST_USE TAKUM_NOT_NULL takum_block_answer takum_read_block(const uint8_t *block, size_t block_length, uint64_t *results,
+                                                                  size_t results_length) TAKUM_NOEXCEPT;
 
 #ifdef __cplusplus
 }

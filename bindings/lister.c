@@ -2,6 +2,10 @@
 #include <errno.h>
 #include <stddef.h>
 
+#ifndef __GLIBC__
+#error "the count of arguments is the GNU C library's"
+#endif
+
 int rattle_errno(void);
 size_t rattle_arg_count(void);
 

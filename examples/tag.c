@@ -1,7 +1,7 @@
 /* A tally goes onto a 16-bit tag strictly: its word, or a clear message and no word.
  *
- *     bindings/archive
- *     cc examples/tag.c -Iinclude target/$(uname -m)/libledusprig.a -o tag
+ *     cc examples/tag.c -Iinclude lib/libledusprig.a -o tag                       in an unpacked release
+ *     cc examples/tag.c -Iinclude target/$(uname -m)/libledusprig.a -o tag       in the repository, after bindings/archive
  *     ./tag 514
  *     ./tag 515
  */

@@ -17,7 +17,7 @@ const TOP: f64 = 130.0;
 const SCALE: f64 = TOP + 4.0 * ROW - 26.0;
 const CELL: f64 = 33.0; // from one number's square to the next, below
 const SIDE: f64 = 25.0; // the side of a square
-const BELOW: f64 = 516.0;
+const BELOW: f64 = 540.0;
 const END: f64 = BELOW + 4.0 * CELL;
 
 fn main() -> Result<(), Refusal> {
@@ -101,13 +101,14 @@ fn share(found: usize, all: usize) -> String {
     format!("1 in {}", all / found)
 }
 
-// The numbers at the ends of the doublings.
+// The numbers at the ends of the doublings, and what they are.
 fn draw_scale() {
     for doubling in 0..=DOUBLINGS {
         let x = LEFT + doubling as f64 * STEP - 1.0;
         println!("<line x1=\"{x}\" y1=\"{SCALE}\" x2=\"{x}\" y2=\"{}\" stroke=\"black\"/>", SCALE + 8.0);
         text(x, SCALE + 22.0, "middle", 13, &(1_i64 << doubling).to_string());
     }
+    text(LEFT + DOUBLINGS as f64 * STEP / 2.0, SCALE + 42.0, "middle", 13, "whole numbers, doubling from mark to mark");
 }
 
 // The tally's place: a line through all widths, white at its sides so that it is seen before a black bar too. It is so close to a number of the

@@ -2,6 +2,7 @@
 use ledusprig::{Reading, Refusal, Rule, Taking, Takum, Value, Width};
 use std::cmp::Ordering;
 use std::fmt::Display;
+use std::io::{self, ErrorKind, Write};
 use std::process::ExitCode;
 
 const HELP: &str = "Usage: takum QUESTION
@@ -20,43 +21,54 @@ const HELP: &str = "Usage: takum QUESTION
     nar WIDTH, zero WIDTH             the words that have no sign
     help                              this text
 
-A WIDTH is a number of bits, 2 to 64. A RULE is rounded (the nearest word) or strict (exactly the value, or a refusal). A WORD is a number, in hex
-after 0x, in binary after 0b. A value with ~ before it is shown by some of its digits only; `read` tells it exactly.
-The status is 0 where the question was answered, 1 where it was refused, 2 where it can't be understood.";
+A WIDTH is a number of bits, 2 to 64. A RULE is rounded (the nearest word) or strict (exactly the value, or a refusal). A WORD is digits without a
+sign, in hex after 0x, in binary after 0b; the lister's words are in hex and need 0x before them. A value with ~ before it is shown by some of its
+digits only; `read` tells it exactly.
+The status is 0 where the question was answered, 1 where it was refused, 2 where it can't be understood, 3 where the answer can't be put out.";
 
 /// Why there is no answer.
 enum Failure {
-    /// The library refuses; a hint may follow.
-    Refused(Refusal, String),
+    /// The library refuses: all that is said about it.
+    Refused(String),
     /// The question can't be understood.
     Usage(String),
 }
 
 impl From<Refusal> for Failure {
     fn from(refusal: Refusal) -> Failure {
-        Failure::Refused(refusal, String::new())
+        Failure::Refused(refusal.to_string())
     }
 }
 
 type Answer<T = String> = Result<T, Failure>;
 
 fn main() -> ExitCode {
-    let given: Vec<String> = std::env::args().skip(1).collect();
+    let given: Vec<String> = std::env::args_os().skip(1).map(|word| word.to_string_lossy().into_owned()).collect();
     let given: Vec<&str> = given.iter().map(String::as_str).collect();
     match answer(&given) {
-        Ok(answer) => {
-            println!("{answer}");
-            ExitCode::SUCCESS
-        }
-        Err(Failure::Refused(refusal, hint)) => {
-            println!("{refusal}{hint}");
-            ExitCode::from(1)
-        }
+        Ok(answer) => put(&answer, 0),
+        Err(Failure::Refused(why)) => put(&why, 1),
         Err(Failure::Usage(why)) => {
-            eprintln!("takum: {why}; `takum help` says what can be asked");
+            complain(&format!("{why}; `takum help` says what can be asked"));
             ExitCode::from(2)
         }
     }
+}
+
+/// Ends with the status if the text can be put out. Whoever closed the pipe wants to read no more, so that this is no reason to complain.
+fn put(text: &str, status: u8) -> ExitCode {
+    let mut out = io::stdout();
+    match writeln!(out, "{text}").and_then(|()| out.flush()) {
+        Ok(()) => return ExitCode::from(status),
+        Err(why) if why.kind() == ErrorKind::BrokenPipe => (),
+        Err(why) => complain(&format!("the answer can't be put out: {why}")),
+    }
+    ExitCode::from(3)
+}
+
+fn complain(sentence: &str) {
+    // where this can't be put out either, the status alone says it
+    _ = writeln!(io::stderr(), "takum: {sentence}");
 }
 
 fn answer(given: &[&str]) -> Answer {
@@ -64,26 +76,28 @@ fn answer(given: &[&str]) -> Answer {
         ["help" | "--help" | "-h"] => Ok(HELP.to_string()),
         ["write-whole", n, r, x] => {
             let (width, x) = (width(n)?, number::<i64>(x, "whole number of 64 bits")?);
-            written(width, rule(r)?, x, |width, rule| width.write_whole(rule, x))
+            let value = Value { negative: x < 0, m: x.unsigned_abs(), k: 0 };
+            written(width, rule(r)?, x, value, |rule| width.write_whole(rule, x))
         }
         ["write", n, r, x] => {
             let (width, value) = (width(n)?, value(x)?);
-            written(width, rule(r)?, x, |width, rule| width.write(rule, value))
+            written(width, rule(r)?, x, value, |rule| width.write(rule, value))
         }
         ["write-double", n, r, x] => {
             let (width, x) = (width(n)?, number::<f64>(x, "number")?);
-            written(width, rule(r)?, format_args!("the double {x:?}"), |width, rule| width.write_binary64(rule, x))
+            let answer = written(width, rule(r)?, format_args!("the double {x:?}"), value_of_double(x), |rule| width.write_binary64(rule, x));
+            told_first(&format!("double {x:?}"), answer)
         }
         ["read", n, word] => Ok(shown(takum(n, word)?)),
         ["take-whole", n, taking, word] => {
             let taking = choice(taking, [("cut", Taking::Cut), ("strict", Taking::Strict)])?;
             Ok(takum(n, word)?.take_whole(taking)?.to_string())
         }
-        ["take-double", n, word] => Ok(f64::from(takum(n, word)?).to_string()),
+        ["take-double", n, word] => Ok(format!("{:?}", f64::from(takum(n, word)?))),
         ["move", from, to, r, word] => {
             let (from, to) = (width(from)?, width(to)?);
             let takum = Takum::new(from, bits(word)?)?;
-            written(to, rule(r)?, takum, |width, rule| takum.move_to(width, rule))
+            written(to, rule(r)?, takum, value_of(takum), |rule| takum.move_to(to, rule))
         }
         ["compare", n, x, y] => compared(takum(n, x)?, takum(n, y)?),
         ["negate", n, word] => Ok(shown(-takum(n, word)?)),
@@ -104,12 +118,15 @@ fn width(text: &str) -> Answer<Width> {
 }
 
 fn bits(text: &str) -> Answer<u64> {
-    let parsed = match text.split_at_checked(2) {
-        Some(("0x", digits)) => u64::from_str_radix(digits, 16),
-        Some(("0b", digits)) => u64::from_str_radix(digits, 2),
-        _ => text.parse(),
+    let (digits, base) = match text.split_at_checked(2) {
+        Some(("0x" | "0X", digits)) => (digits, 16),
+        Some(("0b" | "0B", digits)) => (digits, 2),
+        _ => (text, 10),
     };
-    parsed.map_err(|_| Failure::Usage(format!("'{text}' is no word of at most 64 bits")))
+    // a sign would be taken too
+    let parsed = u64::from_str_radix(digits, base).ok().filter(|_| digits.starts_with(|first: char| first.is_digit(base)));
+    let no_word = || format!("'{text}' is no word of at most 64 bits: it is digits, hex digits after 0x or binary digits after 0b, without a sign");
+    parsed.ok_or_else(|| Failure::Usage(no_word()))
 }
 
 fn takum(n: &str, word: &str) -> Answer<Takum> {
@@ -131,15 +148,42 @@ fn number<T: std::str::FromStr>(text: &str, what: &str) -> Answer<T> {
 
 /// Exactly the value that the text says: M*2^K, or a decimal, whose digits / 10^decimals are (digits / 5^decimals) * 2^-decimals.
 fn value(text: &str) -> Answer<Value> {
-    let no_value = || Failure::Usage(format!("'{text}' is no whole number of 64 bits times a power of two; write-double takes the double next to it"));
-    let (negative, size) = text.strip_prefix('-').map_or((false, text), |size| (true, size));
-    if let Some((m, k)) = size.split_once("*2^") {
-        return Ok(Value { negative, m: number(m, "whole number")?, k: number(k, "power")? });
+    let no_value = |why: &str| Failure::Usage(format!("'{text}' {why}"));
+    let negative = text.starts_with('-');
+    let size = text.strip_prefix(['-', '+']).unwrap_or(text);
+    if let Some((m, k)) = size.split_once("*2^").filter(|(m, _)| !m.starts_with('+')) {
+        return Ok(Value { negative, m: number(m, "whole number of 64 bits")?, k: number(k, "exponent of 32 bits")? });
     }
     let (whole, decimals) = size.split_once('.').unwrap_or((size, ""));
-    let digits: u64 = format!("{whole}{decimals}").parse().map_err(|_| no_value())?;
-    let fives = 5_u64.checked_pow(decimals.len() as u32).filter(|fives| digits % fives == 0).ok_or_else(no_value)?;
-    Ok(Value { negative, m: digits / fives, k: -(decimals.len() as i32) })
+    if ["", "."].contains(&size) || !whole.bytes().chain(decimals.bytes()).all(|digit| digit.is_ascii_digit()) {
+        return Err(no_value("is no number as -1.5 or 3*2^-1"));
+    }
+    let decimals = decimals.trim_end_matches('0');
+    let Ok(digits) = format!("0{whole}{decimals}").parse::<u128>() else {
+        return Err(no_value("has more digits than are read here; say it as M*2^K, or ask write-double"));
+    };
+    let without_fives = decimals.bytes().try_fold(digits, |m, _| (m % 5 == 0).then_some(m / 5));
+    let twos = without_fives.filter(|&m| m > u64::MAX.into()).map_or(0, u128::trailing_zeros);
+    let Some(m) = without_fives.and_then(|m| u64::try_from(m >> twos).ok()) else {
+        return Err(no_value("is no whole number of 64 bits times a power of two; write-double takes the double next to it"));
+    };
+    Ok(Value { negative, m, k: twos as i32 - decimals.len() as i32 })
+}
+
+/// The value of a word that is a number. (Zero and NaR have a word at every width, so that nobody asks where they lie.)
+fn value_of(takum: Takum) -> Value {
+    match takum.read() {
+        Reading::Number { negative, h, m, p } => Value { negative, m, k: h - p as i32 },
+        _ => Value { negative: false, m: 0, k: 0 },
+    }
+}
+
+/// The value of a double that is a number: the 52 bits of its fraction with a 1 before them, or, where its exponent is the lowest, without.
+fn value_of_double(x: f64) -> Value {
+    let bits = x.abs().to_bits();
+    let (exponent, fraction) = ((bits >> 52) as i32, bits & ((1 << 52) - 1));
+    let m = if exponent == 0 { fraction } else { fraction | 1 << 52 };
+    Value { negative: x < 0.0, m, k: exponent.max(1) - 1075 }
 }
 
 // What is answered.
@@ -162,40 +206,48 @@ fn short(takum: Takum) -> String {
     format!("{takum:#x} ({takum})")
 }
 
-/// What a writing call answers; where the word has another value than what was given, the words that this lies between.
-fn written(width: Width, rule: Rule, given: impl Display, write: impl Fn(Width, Rule) -> Result<Takum, Refusal>) -> Answer {
-    let exact = write(width, Rule::Strict);
-    let answer = write(width, rule);
-    if exact != Err(Refusal::Inexact) {
+/// What a writing call answers; where no word has the value that was given, also where that lies.
+fn written(width: Width, rule: Rule, given: impl Display, value: Value, write: impl Fn(Rule) -> Result<Takum, Refusal>) -> Answer {
+    let answer = write(rule);
+    if write(Rule::Strict) != Err(Refusal::Inexact) {
         return Ok(shown(answer?));
     }
-    let rounded = write(width, Rule::Rounded)?;
-    let between = match beside(rounded, write(Width::GREATEST, Rule::Rounded)?) {
-        Some((below, above)) => format!("it lies between {} and {}", short(below), short(above)),
-        None => format!("it lies past the words of {width} bits, or too close to one to tell"),
-    };
+    let rounded = write(Rule::Rounded)?;
+    let place = format!("{given} has no word of {width} bits: it lies {}", place(value, rounded)?);
     match answer {
-        Ok(takum) => Ok(format!("{}\n       {given} has no word of {width} bits: {between}", shown(takum))),
-        Err(refusal) => {
-            let hint = format!("\n{given} has no word of {width} bits: {between}; rounded, it is {}", short(rounded));
-            Err(Failure::Refused(refusal, hint))
-        }
+        Ok(takum) => Ok(format!("{}\n       {place}", shown(takum))),
+        Err(refusal) => Err(Failure::Refused(format!("{refusal}\n{place}; rounded, it is {}", short(rounded)))),
     }
 }
 
-/// The two words that a value lies between: the one that it is rounded to and the next one on the value's side, which is told at the greatest width.
-/// Words are in the order of their values, as two's complement numbers.
-fn beside(rounded: Takum, value: Takum) -> Option<(Takum, Takum)> {
-    let width = rounded.width();
-    let step = |by: u64| {
-        let word = rounded.word().wrapping_add(by) << (64 - width.bits()) >> (64 - width.bits());
-        Takum::new(width, word).ok().filter(|takum| !takum.is_nar())
-    };
-    match value.partial_cmp(&rounded.move_to(value.width(), Rule::Strict).ok()?)? {
-        Ordering::Less => Some((step(u64::MAX)?, rounded)),
-        Ordering::Greater => Some((rounded, step(1)?)),
-        Ordering::Equal => None,
+fn told_first(line: &str, answer: Answer) -> Answer {
+    match answer {
+        Ok(answer) => Ok(format!("{line}\n{answer}")),
+        Err(Failure::Refused(why)) => Err(Failure::Refused(format!("{line}\n{why}"))),
+        Err(usage) => Err(usage),
     }
+}
+
+/// Where a value lies that no word has: between the word that it is rounded to and the next one on the value's side, or past the last one.
+/// Words are in the order of their values, as two's complement numbers.
+fn place(value: Value, rounded: Takum) -> Result<String, Refusal> {
+    let unused = 64 - rounded.width().bits();
+    let next = |by: u64| Takum::new(rounded.width(), rounded.word().wrapping_add(by) << unused >> unused);
+    let (below, above) = if is_below(value, value_of(rounded)) { (next(u64::MAX)?, rounded) } else { (rounded, next(1)?) };
+    Ok(if above.is_nar() {
+        format!("above the largest word, {}", short(below))
+    } else if below.is_nar() {
+        format!("below the lowest word, {}", short(above))
+    } else {
+        format!("between {} and {}", short(below), short(above))
+    })
+}
+
+/// Whether x is below y; they have the same sign, and neither is zero.
+fn is_below(x: Value, y: Value) -> bool {
+    // sizes are in the order of the powers of their highest bits, and then of the bits from there on
+    let size = |value: Value| (i64::from(value.k) - i64::from(value.m.leading_zeros()), value.m.rotate_left(value.m.leading_zeros()));
+    if x.negative { size(x) > size(y) } else { size(x) < size(y) }
 }
 
 fn compared(x: Takum, y: Takum) -> Answer {

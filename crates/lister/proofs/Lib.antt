@@ -5,6 +5,8 @@ pub mod Gathered
 pub mod Counted
 -- a text that is put into the rest of a buffer
 pub mod Rest
+-- what the answer of a read tells
+pub mod Told
 -- the run that a read makes whole
 pub mod Turns
 -- a run at its edges: no bytes, a short last piece, pieces one after another

@@ -1,4 +1,5 @@
--- What the lister prints for a run of blocks, how it counts them, and which run follows a read.
+-- What the lister prints for a run of blocks, how it counts them, what a read tells, and which run follows it.
 pub mod Runs
 pub mod Counts
+pub mod Told
 pub mod Arrived

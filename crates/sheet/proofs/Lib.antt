@@ -15,6 +15,14 @@ pub mod Tests
 pub mod Passing
 -- the bytes that a block's words have: 1, 2, 4 or 8, all of them within the block
 pub mod Sizes
+-- COUNT is given exactly where there are more than 496, 248, 124 or 62 words
+pub mod Rooms
+-- the tests of a content in the paper's order, and its words, tried one by one
+pub mod Contents
+-- what puts into a buffer leave there, one after the other
+pub mod Puts
+-- a header, packed words, zeros and then A and B make the block that has this content
+pub mod Making
 -- two outcomes that the contract allows are equal, the results too
 pub mod OneOutcome
 -- two totals differ as the one number does that changed
@@ -25,7 +33,5 @@ pub mod Changes
 pub mod OneNumber
 -- what stands in the results after a block was read, place by place
 pub mod Results
--- COUNT is given exactly where there are more than 496, 248, 124 or 62 words
-pub mod Rooms
 -- the block that paper 01 gives as a case
 pub mod Case

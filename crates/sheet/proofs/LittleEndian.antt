@@ -26,7 +26,7 @@ module _ (j k i : ℕ) (bytes : List ℕ) (fits : i + j ≤ length bytes) where
   first-length : length (take j (drop i bytes)) ≡ j
   first-length = length-take-le j (drop i bytes) (omega (arith, length-drop i bytes))
 
-  numberAt-split : numberAt (j + k) i bytes ≡ numberAt j i bytes + numberAt k (i + j) bytes * 2 ^ (8 * j)
+  pub numberAt-split : numberAt (j + k) i bytes ≡ numberAt j i bytes + numberAt k (i + j) bytes * 2 ^ (8 * j)
   unfolding numberAt
   numberAt-split =
       ap number (take-add j k (drop i bytes) ∙ ap (λ (l : List ℕ). take j (drop i bytes) ++ take k l) (drop-drop j i bytes))

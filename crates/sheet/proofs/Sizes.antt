@@ -9,7 +9,7 @@ use Rattle.sheet.specs.Layout.{IsWordBytes, one, two, four, eight, packe
 use Rattle.sheet.proofs.Passing.{Passes}
 use Rattle.sheet.proofs.Tests.{OneOfFour, each-width}
 
-sized : (n : ℕ) → OneOfFour n → IsWordBytes (n / 8)
+pub sized : (n : ℕ) → OneOfFour n → IsWordBytes (n / 8)
 sized = each-width (λ n. IsWordBytes (n / 8)) one two four eight
 
 pub whole-bytes : (n : ℕ) → OneOfFour n → 8 * (n / 8) ≡ n

@@ -1,10 +1,20 @@
-// The fields of a block of 512 bytes.
+// The fields of a block of 512 bytes, and the widths that it can have.
 use crate::numbers::one_byte;
 use crate::numbers::two_bytes;
 ghost use mathlib.Core.Path.{_≡_};
 ghost use Prim.Native.Nat.{_<_, _^_};
 ghost use lib.ListN.{length};
 ghost use Rattle.sheet.specs.Layout.{width, count, wordBytes, end};
+ghost use Rattle.sheet.specs.Reads.{isBlockWidth};
+
+pub(crate) fn is_block_width(n: u32) -> bool
+    ensures { λ r. ⌜ r ≡ isBlockWidth n ⌝ }
+{
+    match n {
+        8 | 16 | 32 | 64 => true,
+        _ => false,
+    }
+}
 
 pub(crate) fn width_of(block: &[u8]) -> u32
     requires { ⌜ length (now block) ≡ 512 ⌝ }

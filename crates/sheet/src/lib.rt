@@ -1,7 +1,9 @@
-// Reading a sheet block: 512 bytes whose words go into a lent slice.
+// Sheet blocks of 512 bytes: read into a lent slice of words, and written into a lent buffer.
 pub mod block;
 mod fields;
 mod numbers;
+mod puts;
 mod sums;
 mod testing;
 mod words;
+pub mod writing;

@@ -1,6 +1,7 @@
 // The tests of a block, in the paper's order: the first that it fails refuses it.
 use crate::fields::count_of;
 use crate::fields::end_of;
+use crate::fields::is_block_width;
 use crate::fields::width_of;
 use crate::numbers::four_bytes;
 use crate::numbers::one_byte;
@@ -14,7 +15,7 @@ ghost use Rattle.bounds.specs.declared.refusal.Refusal.{Refusal};
 ghost use Rattle.bounds.specs.Refusals.{unless};
 ghost use Rattle.sheet.specs.Layout.{unused};
 ghost use Rattle.sheet.specs.Sums.{total};
-ghost use Rattle.sheet.specs.Reads.{checkTest, blockWidthTest, blockTest};
+ghost use Rattle.sheet.specs.Reads.{checkTest, blockTest};
 
 pub(crate) fn test(block: &[u8], places: usize) -> Verdict
     ensures { λ v. ⌜ v ≡ blockTest (now (block .entry)) places ⌝ }
@@ -28,7 +29,7 @@ pub(crate) fn test(block: &[u8], places: usize) -> Verdict
     if !sums_agree(block) {
         return Verdict::Refused(Refusal::Check);
     }
-    if !has_width(block) {
+    if !is_block_width(width_of(block)) {
         return Verdict::Refused(Refusal::Width);
     }
     if end_of(block) > 504 {
@@ -49,16 +50,6 @@ fn sums_agree(block: &[u8]) -> bool
         return false;
     }
     sums.b == four_bytes(block, 508)
-}
-
-fn has_width(block: &[u8]) -> bool
-    requires { ⌜ length (now block) ≡ 512 ⌝ }
-    ensures { λ r. ⌜ blockWidthTest (now (block .entry)) ≡ unless Refusal.Width r ⌝ }
-{
-    match width_of(block) {
-        8 | 16 | 32 | 64 => true,
-        _ => false,
-    }
 }
 
 // The unused bytes are all zero exactly if their sum is.

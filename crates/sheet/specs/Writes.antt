@@ -1,0 +1,59 @@
+-- What writing a block answers, and what it leaves in the lent buffer (paper 02, Wish 1).
+use mathlib.Core.Path.{_≡_}
+use mathlib.Core.Bool.{Bool}
+use mathlib.Core.List.{List}
+use Prim.Native.Nat.{ℕ, _+_, _*_, _/_, _<_}
+use lib.Dec.{leb}
+use lib.ListN.{length, getD}
+use Rattle.bounds.specs.declared.refusal.Refusal.{Refusal}
+use Rattle.bounds.specs.declared.refusal.Refusal.the-variants.{Width, Stray, Count}
+use Rattle.bounds.specs.declared.refusal.Verdict.{Verdict}
+use Rattle.bounds.specs.declared.refusal.Verdict.the-variants.{Through, Refused}
+use Rattle.bounds.specs.Refusals.{unless, strayTest, _then_, Decided}
+use Rattle.sheet.specs.declared.writing.Writing.{Writing}
+use Rattle.sheet.specs.Layout.{AreBytes}
+use Rattle.sheet.specs.Layout as layout
+use Rattle.sheet.specs.Reads.{isBlockWidth, sizeTest, markTest, checkTest, fillTest}
+
+-- The block that has a content: a width, a number and words. Its fields are Layout's, and what is fixed in it is what reading tests.
+pub record IsBlockOf (n number : ℕ) (words block : List ℕ) : Type 0 where
+  pub bytes : AreBytes block
+  pub sized : sizeTest block ≡ Through
+  -- the header
+  pub marked : markTest block ≡ Through
+  pub wide : layout.width block ≡ n
+  pub counted : layout.count block ≡ length words
+  pub numbered : layout.blockNumber block ≡ number
+  -- the words, packed, and the rest zero
+  pub packed : layout.words block ≡ words
+  pub filled : fillTest block ≡ Through
+  -- A and B
+  pub checked : checkTest block ≡ Through
+
+-- ---- the refusals
+-- 10 COUNT: more words than the width has room for, up to byte 503
+unfoldable pub roomTest : ℕ → ℕ → Verdict
+roomTest n count = unless Count (leb (8 + n / 8 * count) 504)
+
+-- 1 WIDTH: a block's width isn't one of its four; 10 COUNT; 7 SIZE: the buffer isn't 512 bytes
+unfoldable pub contentTest : ℕ → ℕ → List ℕ → Verdict
+contentTest n count buffer = unless Width (isBlockWidth n) then roomTest n count then sizeTest buffer
+
+-- 2 STRAY: the words before the position have no stray bit
+unfoldable pub FitUpTo : ℕ → List ℕ → ℕ → Type 0
+FitUpTo n words position = (i : ℕ) → i < position → strayTest n (getD words i 0) ≡ Through
+
+-- and what the words in order decide: the lowest position that has one is refused
+unfoldable pub IsTried : ℕ → List ℕ → Writing → Type 0
+IsTried n words Writing.Written = FitUpTo n words (length words)
+IsTried n words (Writing.RefusedAt position q) = (position < length words) × FitUpTo n words position × (strayTest n (getD words position 0) ≡ Refused q)
+IsTried n words (Writing.Refused q) = ⊥
+
+-- ---- what the call answers, and what it leaves in the buffer: after a refusal, what it held before
+unfoldable pub WritesBlock : ℕ → List ℕ → List ℕ → Writing → Type 0
+WritesBlock n words buffer a = Decided (contentTest n (length words) buffer) (λ q. a ≡ Writing.Refused q) (IsTried n words a)
+
+unfoldable pub FillsBuffer : ℕ → ℕ → List ℕ → List ℕ → Writing → List ℕ → Type 0
+FillsBuffer n number words before Writing.Written after = IsBlockOf n number words after
+FillsBuffer n number words before (Writing.Refused q) after = after ≡ before
+FillsBuffer n number words before (Writing.RefusedAt position q) after = after ≡ before

@@ -1,6 +1,6 @@
 -- The tests of a content in the paper's order, what is known of one that they let through, and its words, tried one by one. Assumes nothing.
 use mathlib.Core.Path.{_≡_, refl, sym, ap, _∙_, subst}
-use mathlib.Core.Bool.{true, false}
+use mathlib.Core.Bool.{Bool, true, false, not, false≢true}
 use mathlib.Core.List.{List}
 use Prim.Native.Nat.{ℕ, _+_, _*_, _/_, _^_, _≤_, _<_}
 use native.Mathlib.Nat.{le-antisymm}
@@ -13,6 +13,7 @@ use Rattle.bounds.specs.declared.refusal.Verdict.{Verdict}
 use Rattle.bounds.specs.Refusals.{unless, widthTest, strayTest, wordTest, _then_}
 use Rattle.bounds.proofs.Verdicts.{open-when, then-through, stray-through, width-fits}
 use Rattle.sheet.specs.declared.writing.Writing.{Writing}
+use Rattle.sheet.specs.Puts.{AreOfBytes}
 use Rattle.sheet.specs.Reads.{isBlockWidth, sizeTest}
 use Rattle.sheet.specs.Writes.{roomTest, contentTest, FitUpTo, IsTried}
 use Rattle.sheet.proofs.Rooms.{whole-room, inside-room, past-room}
@@ -20,6 +21,15 @@ use Rattle.sheet.proofs.Sizes.{whole-bytes, width-of-words}
 use Rattle.sheet.proofs.Tests.{OneOfFour, each-width, is-width}
 
 -- ---- the tests
+-- a call has told whether the width is one of the four
+pub is-wide : (n : ℕ) (b : Bool) → b ≡ isBlockWidth n → not b ≡ false → isBlockWidth n ≡ true
+is-wide n true e h = sym e
+is-wide n false e h = absurd (false≢true (sym h))
+
+pub isn't-wide : (n : ℕ) (b : Bool) → b ≡ isBlockWidth n → not b ≡ true → isBlockWidth n ≡ false
+isn't-wide n true e h = absurd (false≢true h)
+isn't-wide n false e h = sym e
+
 module _ (n count : ℕ) (buffer : List ℕ) where
   pub other-width : isBlockWidth n ≡ false → contentTest n count buffer ≡ Verdict.Refused Refusal.Width
   unfolding contentTest
@@ -93,6 +103,6 @@ module _ (n : ℕ) (words : List ℕ) where
   all-tried i lo hi = subst (FitUpTo n words) (le-antisymm lo hi)
 
   -- words without a stray bit have the bytes of the width
-  pub fit-bytes : OneOfFour n → FitUpTo n words (length words) → (j : ℕ) → j < length words → getD words j 0 < 2 ^ (8 * (n / 8))
-  unfolding FitUpTo
+  pub fit-bytes : OneOfFour n → FitUpTo n words (length words) → AreOfBytes (n / 8) words
+  unfolding FitUpTo AreOfBytes
   fit-bytes four fit j h = subst (λ (k : ℕ). getD words j 0 < 2 ^ k) (sym (whole-bytes n four)) (stray-through n (getD words j 0) (fit j h))

@@ -79,5 +79,8 @@ module _ (n number : ℕ) (content before headed packed-up cleared after : List 
     numbered = kept 4 4 past-header (inl (omega arith)) ∙ header .numbered;
     packed = are-words;
     filled = sym (holds Refusal.Fill (ap (λ (i : ℕ). allZero (slice i 504 after)) ends ∙ zero-part top 504 after (λ j l u. seals .within .outside j (inl u) ∙ clears .zero j l u)));
-    checked = sym (holds Refusal.Check (rw (eq-eqb (sumA (numbers after)) (A after) (sym (seals .a)), eq-eqb (sumB (numbers after)) (B after) (sym (seals .b)))));
+    checked = sym (holds Refusal.Check sums);
   }
+    where
+      sums : eqb (sumA (numbers after)) (A after) && eqb (sumB (numbers after)) (B after) ≡ true
+      sums = rw (eq-eqb (sumA (numbers after)) (A after) (sym (seals .a)), eq-eqb (sumB (numbers after)) (B after) (sym (seals .b)))

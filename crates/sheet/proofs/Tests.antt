@@ -1,5 +1,5 @@
 -- What each test of a block finds. Assumes nothing.
-use mathlib.Core.Path.{_≡_, refl, sym, subst}
+use mathlib.Core.Path.{_≡_, refl, sym, ap, _∙_, subst}
 use mathlib.Core.Bool.{Bool, true, false, not, _||_, false≢true}
 use mathlib.Core.List.{List}
 use mathlib.Core.Logic.{_⊎_, inl, inr, ⊎-elim}
@@ -18,6 +18,15 @@ holds q h = rw h
 
 pub fails : (q : Refusal) {b : Bool} → b ≡ false → Verdict.Refused q ≡ unless q b
 fails q h = rw h
+
+-- no verdict lets through and refuses
+refused : Verdict → Bool
+refused Verdict.Through = false
+refused (Verdict.Refused q) = true
+
+pub not-both : {v : Verdict} {q : Refusal} → v ≡ Verdict.Through → v ≡ Verdict.Refused q → ⊥
+unfolding refused
+not-both h k = false≢true (ap refused (sym h ∙ k))
 
 -- a call has told whether a test holds
 pub lets-through : {v : Verdict} (q : Refusal) (b : Bool) → v ≡ unless q b → not b ≡ false → v ≡ Verdict.Through

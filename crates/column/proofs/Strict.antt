@@ -31,7 +31,7 @@ module _ (n n' : ℕ) (words before : List ℕ) (count : ℕ) (after : List ℕ)
     ready : Passed n n' Rule.Strict words (length before) (Column.Moved count)
     ready = moved-passed n n' Rule.Strict words before count after answer held
 
-    results-counted : length (take count after) ≡ count
+    pub results-counted : length (take count after) ≡ count
     unfolding Holds
     results-counted = length-take-le count after (omega (arith, every-word, ready .fits, held .room))
 

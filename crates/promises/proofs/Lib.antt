@@ -7,6 +7,8 @@ pub mod Lines
 pub mod WordRefusals
 -- the refusals of a column and of a block
 pub mod SliceRefusals
+-- and of a block that is to be written
+pub mod WrittenRefusals
 -- so every call's refusals follow the table
 pub mod Refusals
 -- ---- every contract allows one outcome
@@ -33,6 +35,8 @@ pub mod Numbers
 pub mod Nearest
 -- every place of a column and of a block, and lent memory after a refusal
 pub mod Slices
+-- a written block reads back, and a block that is read is what writing makes of its content
+pub mod Sheets
 -- the P figures, by one test that is computed over the whole table
 pub mod Figures
 -- ---- the letter

@@ -35,7 +35,7 @@ pub use Rattle.write.proofs.OneOutcome.{writes-one, moves-one}
 pub use Rattle.whole.proofs.OneOutcome.{writes-whole-one, takes-whole-one}
 pub use Rattle.binary64.proofs.OneOutcome.{writes-binary64-one, takes-binary64-one}
 pub use Rattle.column.proofs.OneOutcome.{moves-column-one, holds-one}
-pub use Rattle.sheet.proofs.OneOutcome.{reads-block-one, fills-results-one}
+pub use Rattle.sheet.proofs.OneOutcome.{reads-block-one, fills-results-one, writes-block-one, fills-buffer-one}
 use Rattle.promises.specs.Demands.{ComesBack}
 use Rattle.promises.specs.Writing.{Goes, ComesHome}
 

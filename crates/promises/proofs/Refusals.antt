@@ -12,10 +12,12 @@ use Rattle.whole.specs.Wholes.{IsTakenWhole}
 use Rattle.binary64.specs.Takes as taken
 use Rattle.column.specs.Columns.{MovesColumn}
 use Rattle.column.proofs.Positions.{first}
+use Rattle.sheet.specs.Writes.{WritesBlock}
 use Rattle.promises.specs.Demands.{ComesBack}
 use Rattle.promises.specs.Refusals.{RefusalsFollowTheTable}
 use Rattle.promises.proofs.WordRefusals.{of-width, of-word, word-none, reading-none, size-none, number-none, compare-follows, test-follows, test-word-follows, write-short-follows, write-size-follows, write-long-follows, write-follows, write-whole-follows, write-binary64-follows, move-follows, goes-follows, take-whole-follows}
 use Rattle.promises.proofs.SliceRefusals.{test-room-follows, column-follows, position-follows, block-follows}
+use Rattle.promises.proofs.WrittenRefusals.{written-follows, written-position-follows, position-inside}
 
 pub refusals-follow-the-table : RefusalsFollowTheTable
 unfolding Makes GivesWord GivesLimit Reads ReadsSize Compares Negates FindsNearest ComesBack taken.TakesBinary64 taken.IsTakenBinary64
@@ -46,4 +48,7 @@ refusals-follow-the-table = record {
   position = λ n n' rule words places a x f i inside before. position-follows n n' rule words places i inside a x f before;
   inside = λ n n' rule words places a x i q h. first n n' rule words places i q (subst (MovesColumn n n' rule words places) h x) .inside;
   read-block = block-follows;
+  write-block = written-follows;
+  write-position = λ n words buffer a x f i inside before. written-position-follows n words buffer i inside a x f before;
+  write-inside = λ n words buffer a x i q h. position-inside n words buffer i q (subst (WritesBlock n words buffer) h x);
 }

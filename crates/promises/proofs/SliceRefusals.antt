@@ -6,8 +6,8 @@ use mathlib.Core.Logic.{_⊎_, inl, inr, ⊎-elim}
 use Prim.Native.Nat.{ℕ, zero, suc, _+_, _-_, _*_, _/_, _≤_, _<_}
 use native.Mathlib.Decide.{decLt}
 use native.Mathlib.Omega.{arith}
-use borrow.Author.Tests.{eqb-true, eqb-false, leb-true, leb-false}
-use lib.Dec.{eqb, leb}
+use borrow.Author.Tests.{eqb-true, eqb-false}
+use lib.Dec.{eqb}
 use lib.ListN.{length, getD, take, length-take, List·getD-eq-default}
 use lib.Seq.{slice, getD-take, getD-drop}
 use Rattle.bounds.specs.declared.answer.Answer.{Answer}
@@ -26,8 +26,10 @@ use Rattle.sheet.specs.Layout as block
 use Rattle.sheet.specs.Sums.{sumA, sumB}
 use Rattle.sheet.specs.Reads as sheet
 use Rattle.sheet.specs.Reads.{isBlockWidth, allZero, sizeTest, markTest, checkTest, countTest, fillTest, blockTest, ReadsBlock}
-use Rattle.sheet.proofs.Tests.{OneOfFour, each-width, width-is, is-width}
-use Rattle.sheet.proofs.Rooms.{room-for, no-room-for}
+use Rattle.sheet.specs.Writes.{hasRoomFor}
+use Rattle.sheet.proofs.Tests.{OneOfFour, width-is, is-width}
+use Rattle.sheet.proofs.Rooms.{has-room, has-no-room}
+use Rattle.sheet.proofs.Unused.{part-zero}
 use Rattle.promises.specs.Refusals.{FollowsUpTo, Follows, width, room, size, mark, check, blockWidth, count, fill, moveLines}
 use Rattle.promises.proofs.Lines.{Tells, holds, fails, width-tells, parts, follow, verdict-decided, carry, past, good-width}
 use Rattle.promises.proofs.WordRefusals.{verdict-none, move-follows}
@@ -86,13 +88,7 @@ unless-tells : (q : Refusal) (b : Bool) {When : Type 0} → (b ≡ true → When
 unless-tells q true f g = fails refl (f refl)
 unless-tells q false f g = holds refl (g refl)
 
--- a list of zeros, and a list with another number
-zeros : (xs : List ℕ) → allZero xs ≡ true → (j : ℕ) → getD xs j 0 ≡ 0
-unfolding allZero
-zeros [] h j = refl
-zeros (x ∷ xs) h zero = eqb-true x 0 (both (eqb x 0) (allZero xs) h .0)
-zeros (x ∷ xs) h (suc j) = zeros xs (both (eqb x 0) (allZero xs) h .1) j
-
+-- a list with a number that isn't zero
 not-zeros : (xs : List ℕ) → allZero xs ≡ false → (j : ℕ) × (getD xs j 0 ≡ 0 → ⊥)
 unfolding allZero
 not-zeros [] h = absurd (false≢true (sym h))
@@ -102,8 +98,31 @@ not-zeros (x ∷ xs) h = by (eqb x 0) refl h (not-zeros xs)
     by true e h f = let t = f h in (suc (t .0), t .1)
     by false e h f = (0, eqb-false x 0 e)
 
+-- a width that isn't one of the four, and more words than it has room for
+pub four-tells : (n : ℕ) → Tells (unless Refusal.Width (isBlockWidth n)) Refusal.Width ((n ≡ 8 → ⊥) × (n ≡ 16 → ⊥) × (n ≡ 32 → ⊥) × (n ≡ 64 → ⊥))
+four-tells n = unless-tells Refusal.Width (isBlockWidth n) (λ e f. none f (is-width n e)) (λ e. (λ h. no e (inl h), λ h. no e (inr (inl h)), λ h. no e (inr (inr (inl h))), λ h. no e (inr (inr (inr h)))))
+  where
+    none : (n ≡ 8 → ⊥) × (n ≡ 16 → ⊥) × (n ≡ 32 → ⊥) × (n ≡ 64 → ⊥) → OneOfFour n → ⊥
+    none f (inl h) = f .0 h
+    none f (inr (inl h)) = f .1 h
+    none f (inr (inr (inl h))) = f .2 h
+    none f (inr (inr (inr h))) = f .3 h
+
+    no : isBlockWidth n ≡ false → OneOfFour n → ⊥
+    no e h = false≢true (sym e ∙ width-is n h)
+
+pub many-tells : (n count : ℕ) → unless Refusal.Width (isBlockWidth n) ≡ Verdict.Through → Tells (unless Refusal.Count (hasRoomFor n count)) Refusal.Count (496 / (n / 8) < count)
+many-tells n count e = by (decLt (496 / (n / 8)) count)
+  where
+    four : OneOfFour n
+    four = is-width n (open-when _ Refusal.Width e)
+
+    by : Dec (496 / (n / 8) < count) → Tells (unless Refusal.Count (hasRoomFor n count)) Refusal.Count (496 / (n / 8) < count)
+    by (yes l) = holds (ap (unless Refusal.Count) (has-no-room n count four l)) l
+    by (no f) = fails (ap (unless Refusal.Count) (has-room n count four (not-more f))) f
+
 module _ (b : List ℕ) where
-  size-tells : Tells (sizeTest b) Refusal.Size (length b ≡ 512 → ⊥)
+  pub size-tells : Tells (sizeTest b) Refusal.Size (length b ≡ 512 → ⊥)
   unfolding sizeTest
   size-tells = unless-tells Refusal.Size (eqb (length b) 512) (λ e f. f (eqb-true _ _ e)) (eqb-false _ _)
 
@@ -124,31 +143,15 @@ module _ (b : List ℕ) where
 
   width-of-block-tells : Tells (sheet.blockWidthTest b) Refusal.Width ((block.width b ≡ 8 → ⊥) × (block.width b ≡ 16 → ⊥) × (block.width b ≡ 32 → ⊥) × (block.width b ≡ 64 → ⊥))
   unfolding sheet.blockWidthTest
-  width-of-block-tells = unless-tells Refusal.Width (isBlockWidth (block.width b)) (λ e f. none f (is-width (block.width b) e)) (λ e. (λ h. no e (inl h), λ h. no e (inr (inl h)), λ h. no e (inr (inr (inl h))), λ h. no e (inr (inr (inr h)))))
-    where
-      none : (block.width b ≡ 8 → ⊥) × (block.width b ≡ 16 → ⊥) × (block.width b ≡ 32 → ⊥) × (block.width b ≡ 64 → ⊥) → OneOfFour (block.width b) → ⊥
-      none f (inl h) = f .0 h
-      none f (inr (inl h)) = f .1 h
-      none f (inr (inr (inl h))) = f .2 h
-      none f (inr (inr (inr h))) = f .3 h
-
-      no : isBlockWidth (block.width b) ≡ false → OneOfFour (block.width b) → ⊥
-      no e h = false≢true (sym e ∙ width-is (block.width b) h)
+  width-of-block-tells = four-tells (block.width b)
 
   count-tells : sheet.blockWidthTest b ≡ Verdict.Through → Tells (countTest b) Refusal.Count (496 / (block.width b / 8) < block.count b)
-  unfolding sheet.blockWidthTest block.wordBytes
-  count-tells e = by (decLt (496 / (block.width b / 8)) (block.count b))
-    where
-      whole : block.width b / 8 * (496 / (block.width b / 8)) ≡ 496
-      whole = each-width (λ n. n / 8 * (496 / (n / 8)) ≡ 496) refl refl refl refl (block.width b) (is-width (block.width b) (open-when _ Refusal.Width e))
-
-      by : Dec (496 / (block.width b / 8) < block.count b) → Tells (countTest b) Refusal.Count (496 / (block.width b / 8) < block.count b)
-      by (yes l) = holds (no-room-for b (496 / (block.width b / 8)) whole l) l
-      by (no f) = fails (room-for b (496 / (block.width b / 8)) whole (not-more f)) f
+  unfolding sheet.blockWidthTest countTest block.end block.wordBytes hasRoomFor
+  count-tells e = many-tells (block.width b) (block.count b) e
 
   fill-tells : Tells (fillTest b) Refusal.Fill ((i : ℕ) × (8 + block.width b / 8 * block.count b ≤ i) × (i < 504) × (getD b i 0 ≡ 0 → ⊥))
   unfolding fillTest block.unused block.end block.wordBytes
-  fill-tells = unless-tells Refusal.Fill (allZero (slice end 504 b)) (λ e (i, low, high, f). f (inside i high ∙ ap (λ (k : ℕ). getD (take 504 b) k 0) (omega (arith, low)) ∙ sym (getD-drop end (take 504 b) (i - end) 0) ∙ zeros (slice end 504 b) e (i - end))) found
+  fill-tells = unless-tells Refusal.Fill (allZero (slice end 504 b)) (λ e (i, low, high, f). f (part-zero end 504 b e i low high)) found
     where
       end : ℕ
       end = 8 + block.width b / 8 * block.count b

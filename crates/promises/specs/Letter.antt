@@ -2,6 +2,7 @@
 use Rattle.promises.specs.Demands.{ReadingIsTheDefinition}
 use Rattle.promises.specs.Numbers.{AWholeNumberIsRefusedExactlyWhereItHasNoWord, EveryWholeNumberUpToTheLimitIsWritten, TheLimitPlusOneIsRefused}
 use Rattle.promises.specs.Refusals.{RefusalsFollowTheTable}
+use Rattle.promises.specs.Sheets.{ARefusedWriteLeavesTheBuffer}
 use Rattle.promises.specs.Slices.{ARefusedColumnWritesNothing, ARefusedBlockWritesNothing, EachWordOfAColumnIsMoved, AStrictColumnKeepsEveryValue, EachWordOfABlockIsRead}
 use Rattle.promises.specs.Writing.{RoundedIsTheNearest, RoundedIsNeverZeroNorNaR, PastTheLargest, BeforeTheSmallest, StrictMovesKeepTheValue, StrictMovesAreRefusedExactlyWhereThereIsNoWord, NaRMovesToNaR, ChainsComeHome}
 
@@ -12,6 +13,7 @@ pub record DemandOne : Type 0 where
   -- and a refused call writes into no memory that we lent it."
   pub column : ARefusedColumnWritesNothing
   pub block : ARefusedBlockWritesNothing
+  pub buffer : ARefusedWriteLeavesTheBuffer
 
 pub record DemandTwo : Type 0 where
   -- "For widths 2 to 64, the reading of each word, alone

@@ -18,6 +18,8 @@ pub mod Numbers
 pub mod Nearest
 -- columns and blocks
 pub mod Slices
+-- written blocks
+pub mod Sheets
 -- the P figures
 pub mod Figures
 -- the exported calls, by the fields of their structs

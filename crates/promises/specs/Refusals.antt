@@ -38,9 +38,11 @@ use Rattle.binary64.specs.Writes.{WritesBinary64}
 use Rattle.column.specs.declared.moving.Column.{Column}
 use Rattle.column.specs.Columns.{MovesColumn}
 use Rattle.sheet.specs.declared.block.Block.{Block}
+use Rattle.sheet.specs.declared.writing.Writing.{Writing}
 use Rattle.sheet.specs.Layout as block
 use Rattle.sheet.specs.Sums.{sumA, sumB}
 use Rattle.sheet.specs.Reads.{ReadsBlock}
+use Rattle.sheet.specs.Writes.{WritesBlock}
 use Rattle.promises.specs.Demands.{RefusedAs, ComesBack}
 use Rattle.promises.specs.Writing.{numerator, denominator, ComesHome}
 use Rattle.promises.specs.Hub.{longNumerator, longDenominator}
@@ -107,6 +109,14 @@ count b = line 10 (496 / (block.width b / 8) < block.count b)
 abbrev pub fill : List ℕ → Line
 fill b = line 11 ((i : ℕ) × (8 + block.width b / 8 * block.count b ≤ i) × (i < 504) × (getD b i 0 ≡ 0 → ⊥))
 
+-- 1 WIDTH, of a block that is to be written: its width isn't one of the four
+abbrev pub writtenWidth : ℕ → Line
+writtenWidth n = line 1 ((n ≡ 8 → ⊥) × (n ≡ 16 → ⊥) × (n ≡ 32 → ⊥) × (n ≡ 64 → ⊥))
+
+-- 10 COUNT, of a block that is to be written: more words than its width has room for
+abbrev pub writtenCount : ℕ → ℕ → Line
+writtenCount n count = line 10 (496 / (n / 8) < count)
+
 -- ---- how an answer follows them
 -- The first line that holds gives its number; where none holds, Then is so.
 unfoldable pub FollowsUpTo : {A : Type 0} → (Refusal → A) → A → List Line → Type 0 → Type 0
@@ -171,3 +181,9 @@ pub record RefusalsFollowTheTable : Type 0 where
   -- and no refusal has a position behind the column's end
   pub inside : (n n' : ℕ) (rule : Rule) (words : List ℕ) (places : ℕ) (a : Column) → MovesColumn n n' rule words places a → (i : ℕ) (q : Refusal) → a ≡ Column.RefusedAt i q → i < length words
   pub read-block : (b : List ℕ) (places : ℕ) (a : Block) → ReadsBlock b places a → Follows Block.Refused a (size b ∷ mark b ∷ check b ∷ blockWidth b ∷ count b ∷ fill b ∷ room (block.count b) places ∷ [])
+  -- the buffer is a block of 512 bytes
+  pub write-block : (n : ℕ) (words buffer : List ℕ) (a : Writing) → WritesBlock n words buffer a → Follows Writing.Refused a (writtenWidth n ∷ writtenCount n (length words) ∷ size buffer ∷ [])
+  -- and then each position that is reached, as in a column
+  pub write-position : (n : ℕ) (words buffer : List ℕ) (a : Writing) → WritesBlock n words buffer a → ((q : Refusal) → a ≡ Writing.Refused q → ⊥)
+      → (i : ℕ) → i < length words → ((j : ℕ) (q : Refusal) → j < i → a ≡ Writing.RefusedAt j q → ⊥) → Follows (Writing.RefusedAt i) a (stray n (getD words i 0) ∷ [])
+  pub write-inside : (n : ℕ) (words buffer : List ℕ) (a : Writing) → WritesBlock n words buffer a → (i : ℕ) (q : Refusal) → a ≡ Writing.RefusedAt i q → i < length words

@@ -7,7 +7,7 @@ use Prim.Native.Nat.{ℕ, _+_, _*_, _/_, _^_, _≤_, _<_}
 use native.Mathlib.Nat.{le-antisymm}
 use native.Mathlib.Omega.{arith}
 use borrow.Author.Count.{below-none, below-more}
-use borrow.Author.Tests.{eq-eqb, ne-eqb, eqb-true, le-leb, lt-leb, leb-true}
+use borrow.Author.Tests.{eq-eqb, ne-eqb, eqb-true, leb-true}
 use lib.ListN.{length, getD}
 use denote.Enum.Declared.{tagOf}
 use types.Run.{OneOf}
@@ -20,7 +20,7 @@ use Rattle.sheet.specs.Puts.{AreOfBytes}
 use Rattle.sheet.specs.Reads.{isBlockWidth, sizeTest}
 use Rattle.sheet.specs.Writes.{hasRoomFor, contentTest, FitUpTo, IsTried, FillsBuffer}
 use Rattle.sheet.proofs.writing.Writing.{the-type}
-use Rattle.sheet.proofs.Rooms.{whole-room, inside-room, past-room}
+use Rattle.sheet.proofs.Rooms.{has-room, has-no-room}
 use Rattle.sheet.proofs.Sizes.{whole-bytes, width-of-words}
 use Rattle.sheet.proofs.Tests.{OneOfFour, each-width, is-width}
 
@@ -41,20 +41,17 @@ module _ (n count : ℕ) (buffer : List ℕ) where
 
   module _ (wide : isBlockWidth n ≡ true) where
     pub too-many : 496 / (n / 8) < count → contentTest n count buffer ≡ Verdict.Refused Refusal.Count
-    unfolding contentTest hasRoomFor
-    too-many h = rw (wide, lt-leb (8 + n / 8 * count) 504 (past-room (n / 8) count (496 / (n / 8)) (whole-room n (is-width n wide)) h))
+    unfolding contentTest
+    too-many h = rw (wide, has-no-room n count (is-width n wide) h)
 
     module _ (room : count ≤ 496 / (n / 8)) where
-      fits : 8 + n / 8 * count ≤ 504
-      fits = inside-room (n / 8) count (496 / (n / 8)) (whole-room n (is-width n wide)) room
-
       pub other-buffer : (length buffer ≡ 512 → ⊥) → contentTest n count buffer ≡ Verdict.Refused Refusal.Size
-      unfolding contentTest hasRoomFor sizeTest
-      other-buffer h = rw (wide, le-leb (8 + n / 8 * count) 504 fits, ne-eqb (length buffer) 512 h)
+      unfolding contentTest sizeTest
+      other-buffer h = rw (wide, has-room n count (is-width n wide) room, ne-eqb (length buffer) 512 h)
 
       pub content-passes : length buffer ≡ 512 → contentTest n count buffer ≡ Verdict.Through
-      unfolding contentTest hasRoomFor sizeTest
-      content-passes h = rw (wide, le-leb (8 + n / 8 * count) 504 fits, eq-eqb (length buffer) 512 h)
+      unfolding contentTest sizeTest
+      content-passes h = rw (wide, has-room n count (is-width n wide) room, eq-eqb (length buffer) 512 h)
 
 -- ---- a content that is let through
 pub record Fitting (n count : ℕ) (buffer : List ℕ) : Type 0 where

@@ -1,6 +1,6 @@
 -- Two blocks that have the same content are the same bytes, all 512. Assumes nothing.
 use mathlib.Core.Path.{_≡_, sym, ap, ap₂, _∙_, subst}
-use mathlib.Core.Bool.{true, _&&_}
+use mathlib.Core.Bool.{true}
 use mathlib.Core.List.{List}
 use Prim.Native.Nat.{ℕ, _+_, _-_, _*_, _/_, _≤_, _<_}
 use native.Mathlib.Decide.{decLt}
@@ -15,7 +15,7 @@ use Rattle.bounds.proofs.Powers.{not-more}
 use Rattle.bounds.proofs.Verdicts.{open-when, both}
 use Rattle.sheet.specs.Layout.{AreBytes, packed, mark, width, count, blockNumber, wordBytes, words, end, unused, numbers, A, B}
 use Rattle.sheet.specs.Sums.{sumA, sumB}
-use Rattle.sheet.specs.Reads.{allZero, sizeTest, markTest, checkTest, fillTest}
+use Rattle.sheet.specs.Reads.{sizeTest, markTest, checkTest, fillTest}
 use Rattle.sheet.specs.Writes.{IsBlockOf}
 use Rattle.sheet.proofs.LittleEndian.{number-same, bytes-same}
 use Rattle.sheet.proofs.Packing.{numbers-length, numbers-at, packed-same}

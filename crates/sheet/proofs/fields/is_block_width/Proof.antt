@@ -1,6 +1,5 @@
 -- `is_block_width` meets its contract. Assumes nothing.
 use mathlib.Core.Path.{sym}
-use borrow.Author.Needs.{needs}
 use Rattle.sheet.proofs.Tests.{width-is, width-isn't}
 use Rattle.sheet.proofs.fields.is_block_width.Statement.{statement}
 use Rattle.sheet.proofs.fields.is_block_width.Tie as tie

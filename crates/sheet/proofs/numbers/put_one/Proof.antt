@@ -1,5 +1,4 @@
 -- `put_one` meets its contract. Assumes nothing.
-use native.Mathlib.Omega.{arith}
 use borrow.Author.Needs.{needs}
 use Rattle.sheet.proofs.Puts.{puts-one}
 use Rattle.sheet.proofs.numbers.put_one.Statement.{statement}

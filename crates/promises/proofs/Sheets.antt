@@ -4,25 +4,24 @@ use mathlib.Core.List.{List, _++_}
 use Prim.Native.Nat.{ℕ, _≤_}
 use native.Mathlib.Omega.{arith}
 use lib.ListN.{length, take, drop}
-use lib.Seq.{take-append-seam, length-take-le}
+use lib.Seq.{take-append-seam}
 use Rattle.bounds.specs.declared.refusal.Verdict.{Verdict}
 use Rattle.bounds.specs.Refusals.{through, refused}
 use Rattle.round.specs.declared.value.Rule.{Rule}
-use Rattle.column.specs.declared.moving.Column.{Column}
 use Rattle.column.specs.Columns.{MovesColumn, Holds}
 use Rattle.column.proofs.Strict.{column-comes-home, results-counted}
 use Rattle.sheet.specs.declared.block.Block.{Block}
 use Rattle.sheet.specs.declared.writing.Writing.{Writing}
-use Rattle.sheet.specs.Layout.{AreBytes, width, count, blockNumber, words}
-use Rattle.sheet.specs.Reads.{blockTest, ReadsBlock, FillsResults}
-use Rattle.sheet.specs.Writes.{IsBlockOf, contentTest, IsTried, WritesBlock, FillsBuffer}
+use Rattle.sheet.specs.Layout.{AreBytes, width, blockNumber, words}
+use Rattle.sheet.specs.Reads.{blockTest}
+use Rattle.sheet.specs.Writes.{IsBlockOf, WritesBlock, FillsBuffer}
 use Rattle.sheet.proofs.Contents.{Fitting, fitting}
 use Rattle.sheet.proofs.Passing.{was-read}
 use Rattle.sheet.proofs.Results.{words-length, holds}
 use Rattle.sheet.proofs.RoundTrip.{reads-back, fills-back, has-content, is-written}
 use Rattle.sheet.proofs.SameContent.{same-bytes}
 use Rattle.promises.specs.Sheets as promise
-use Rattle.promises.specs.Sheets.{IsWritten, IsRead}
+use Rattle.promises.specs.Sheets.{IsRead}
 
 pub a-refused-write-leaves-the-buffer : promise.ARefusedWriteLeavesTheBuffer
 unfolding promise.ARefusedWriteLeavesTheBuffer FillsBuffer

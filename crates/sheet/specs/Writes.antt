@@ -5,8 +5,7 @@ use mathlib.Core.List.{List}
 use Prim.Native.Nat.{ℕ, _+_, _*_, _/_, _<_}
 use lib.Dec.{leb}
 use lib.ListN.{length, getD}
-use Rattle.bounds.specs.declared.refusal.Refusal.{Refusal}
-use Rattle.bounds.specs.declared.refusal.Refusal.the-variants.{Width, Stray, Count}
+use Rattle.bounds.specs.declared.refusal.Refusal.the-variants.{Width, Count}
 use Rattle.bounds.specs.declared.refusal.Verdict.{Verdict}
 use Rattle.bounds.specs.declared.refusal.Verdict.the-variants.{Through, Refused}
 use Rattle.bounds.specs.Refusals.{unless, strayTest, _then_, Decided}

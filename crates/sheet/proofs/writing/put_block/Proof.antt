@@ -1,6 +1,6 @@
 -- `put_block` meets its contract: what its four parts leave is the block that has the content. Assumes nothing.
-use mathlib.Core.Path.{_≡_, sym, _∙_}
-use Prim.Native.Nat.{_+_, _*_, _/_, _≤_}
+use mathlib.Core.Path.{_∙_}
+use Prim.Native.Nat.{_≤_}
 use native.Mathlib.Omega.{arith}
 use borrow.Author.Needs.{needs}
 use lib.ListN.{length}

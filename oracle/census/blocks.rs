@@ -9,6 +9,7 @@ use crate::sheets::blocks::{
     make_block, number_of_place, room_of, seal, store_number_of_place, Block, BLOCK_SIZE, BLOCK_WIDTHS,
     COUNT_OF_NUMBERS, TWO_TO_32,
 };
+use crate::sheets::written::Content;
 use crate::words::sequence::{low_bits, Sequence};
 
 pub fn push(lines: &mut Vec<String>) {
@@ -17,11 +18,17 @@ pub fn push(lines: &mut Vec<String>) {
     sum_lines(lines);
 }
 
-/// "The block of width w and count c": its number and its words are taken from the sequence.
-pub fn next_block(sequence: &mut Sequence, width: u32, count: usize) -> Block {
+/// "The content of w and c": its number and its words are taken from the sequence.
+pub fn next_content(sequence: &mut Sequence, width: u32, count: usize) -> Content {
     let number = low_bits(sequence.next_number(), 32) as u32;
-    let words: Vec<u64> = (0..count.min(room_of(width))).map(|_position| sequence.next_word(width)).collect();
-    make_block(width as u8, count as u16, number, width, &words)
+    let words = (0..count).map(|_position| sequence.next_word(width)).collect();
+    Content { width, number, words }
+}
+
+/// "The block of w and c": it has the count c, but no more words than there is room for.
+pub fn next_block(sequence: &mut Sequence, width: u32, count: usize) -> Block {
+    let content = next_content(sequence, width, count.min(room_of(width)));
+    make_block(width as u8, count as u16, content.number, width, &content.words)
 }
 
 /// The line of one block width and one more number.

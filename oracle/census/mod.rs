@@ -2,6 +2,7 @@
 
 pub mod binary64;
 pub mod blocks;
+mod buffers;
 pub mod columns;
 mod digest;
 mod faults;
@@ -13,6 +14,7 @@ mod runs;
 mod ways;
 pub mod whole;
 pub mod writing;
+pub mod written;
 
 /// The text of words: parts 1 to 12, then 41 to 44.
 pub fn words() -> Vec<String> {
@@ -33,11 +35,12 @@ pub fn numbers() -> Vec<String> {
     lines
 }
 
-/// The text of sheets: parts 28 to 40.
+/// The text of sheets: parts 28 to 40, then 45 to 50.
 pub fn sheets() -> Vec<String> {
     let mut lines = Vec::new();
     columns::push(&mut lines);
     blocks::push(&mut lines);
     faults::push(&mut lines);
+    written::push(&mut lines);
     lines
 }

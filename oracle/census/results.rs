@@ -6,8 +6,8 @@ use crate::sheets::blocks::{read_block, Heading};
 use crate::sheets::columns::{move_column, ColumnRefusal, Rule};
 use crate::words::refusals::Refusal;
 
-/// How many sentinels lie before the result slice, and how many after it.
-const AROUND: usize = 8;
+/// How many sentinels lie before what is lent, and how many after it.
+pub const AROUND: usize = 8;
 
 /// Fills a row with sentinels, lends its middle of `room` words, and takes in the answer and then the whole row.
 fn take_call<T>(digest: &mut Digest, room: usize, call: impl Fn(&mut [u64]) -> T, take: impl Fn(&mut Digest, T)) {
@@ -20,7 +20,7 @@ fn take_call<T>(digest: &mut Digest, room: usize, call: impl Fn(&mut [u64]) -> T
 }
 
 /// The sentinel of a place of the row.
-fn sentinel(place: usize) -> u64 {
+pub fn sentinel(place: usize) -> u64 {
     u64::MAX - place as u64
 }
 
@@ -41,8 +41,14 @@ fn take_column_answer(digest: &mut Digest, answer: Result<usize, ColumnRefusal>)
             digest.take(0);
             digest.take(count as u64);
         }
-        Err(ColumnRefusal::OfAll(refusal)) => digest.take_refusal(refusal),
-        Err(ColumnRefusal::At(refusal, position)) => {
+        Err(refusal) => take_column_refusal(digest, refusal),
+    }
+}
+
+pub fn take_column_refusal(digest: &mut Digest, refusal: ColumnRefusal) {
+    match refusal {
+        ColumnRefusal::OfAll(refusal) => digest.take_refusal(refusal),
+        ColumnRefusal::At(refusal, position) => {
             digest.take(4);
             digest.take(refusal as u64);
             digest.take(position as u64);

@@ -20,7 +20,7 @@ pub fn check() {
 }
 
 /// The case of paper 01, byte by byte as it stands there.
-fn case() -> Block {
+pub fn case() -> Block {
     let mut block = [0; 512];
     block[..12].copy_from_slice(&[0x54, 0x10, 0x02, 0x00, 0x01, 0x00, 0x00, 0x00, 0x00, 0x5A, 0x00, 0x80]);
     block[504..508].copy_from_slice(&0x80026A55_u32.to_le_bytes());

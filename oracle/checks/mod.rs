@@ -17,6 +17,7 @@ mod patterns;
 mod reading;
 mod whole;
 mod writing;
+mod written;
 
 /// What the words of the census stand on.
 pub fn check_words() {
@@ -41,6 +42,7 @@ pub fn check_numbers() {
 pub fn check_sheets() {
     columns::check();
     blocks::check();
+    written::check();
 }
 
 /// The lines of the figures.

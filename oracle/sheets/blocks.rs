@@ -1,5 +1,5 @@
-//! The sheet block: reading one, and making one for the tests (paper 01, "The sheet block"); written from the papers
-//! alone.
+//! The sheet block: reading one, and making one, with faults for the tests too (paper 01, "The sheet block"); written
+//! from the papers alone.
 
 use crate::words::refusals::Refusal;
 

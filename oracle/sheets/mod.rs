@@ -7,3 +7,4 @@ pub mod lister;
 pub mod long;
 pub mod rack;
 pub mod stack;
+pub mod written;

@@ -23,6 +23,8 @@ pub mod Contents
 pub mod Puts
 -- a header, packed words, zeros and then A and B make the block that has this content
 pub mod Making
+-- two blocks that have the same content are the same bytes, all 512
+pub mod SameContent
 -- two outcomes that the contract allows are equal, the results too
 pub mod OneOutcome
 -- two totals differ as the one number does that changed
@@ -33,5 +35,7 @@ pub mod Changes
 pub mod OneNumber
 -- what stands in the results after a block was read, place by place
 pub mod Results
+-- a block that has a content is read as that content, and a block that is read has the content that was read
+pub mod RoundTrip
 -- the block that paper 01 gives as a case
 pub mod Case

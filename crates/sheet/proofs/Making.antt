@@ -1,19 +1,16 @@
 -- A header, packed words, zeros and then A and B make the block that has this content. Assumes nothing.
-use mathlib.Core.Path.{_≡_, refl, sym, ap, ap₂, _∙_, subst, subst₂}
+use mathlib.Core.Path.{_≡_, sym, ap, ap₂, _∙_, subst}
 use mathlib.Core.Bool.{true, _&&_}
-use mathlib.Core.List.{List, [], _∷_}
-use mathlib.Core.Logic.{inl, inr}
-use Prim.Native.Nat.{ℕ, zero, suc, _+_, _*_, _/_, _≤_, _<_}
-use native.Mathlib.Decide.{decLt}
+use mathlib.Core.List.{List}
+use mathlib.Core.Logic.{inl}
+use Prim.Native.Nat.{ℕ, _+_, _*_, _/_, _≤_, _<_}
 use native.Mathlib.Omega.{arith}
 use borrow.Author.Tests.{eq-eqb}
 use lib.Dec.{eqb}
-use lib.ListN.{length, getD, take, drop, length-take, List·getD-eq-default}
-use lib.Seq.{slice, ext-getD, getD-take, getD-drop}
+use lib.ListN.{length, getD, drop}
+use lib.Seq.{slice, ext-getD}
 use Rattle.bounds.specs.declared.refusal.Refusal.{Refusal}
-use Rattle.bounds.specs.declared.refusal.Verdict.{Verdict}
-use Rattle.bounds.proofs.Powers.{not-more}
-use Rattle.sheet.specs.Layout.{AreBytes, numberAt, packed, mark, width, count, blockNumber, wordBytes, words, end, unused, numbers, A, B}
+use Rattle.sheet.specs.Layout.{AreBytes, packed, mark, width, count, blockNumber, wordBytes, words, end, unused, numbers, A, B}
 use Rattle.sheet.specs.Sums.{sumA, sumB}
 use Rattle.sheet.specs.Puts.{Within, PutsHeader, Packs, Clears, Seals}
 use Rattle.sheet.specs.Reads.{allZero, sizeTest, markTest, checkTest, fillTest}
@@ -21,19 +18,7 @@ use Rattle.sheet.specs.Writes.{IsBlockOf}
 use Rattle.sheet.proofs.Packing.{packed-length, words-at, word-inside}
 use Rattle.sheet.proofs.Puts.{wider, both, kept}
 use Rattle.sheet.proofs.Tests.{holds}
-
--- ---- a block of which each byte of a part is zero
-pub all-zero : (bytes : List ℕ) → ((j : ℕ) → getD bytes j 0 ≡ 0) → allZero bytes ≡ true
-unfolding allZero
-all-zero [] h = refl
-all-zero (b ∷ bytes) h = rw (eq-eqb b 0 (h 0), all-zero bytes (λ j. h (suc j)))
-
-pub zero-part : (from to : ℕ) (bytes : List ℕ) → ((j : ℕ) → from ≤ j → j < to → getD bytes j 0 ≡ 0) → allZero (slice from to bytes) ≡ true
-zero-part from to bytes h = all-zero (slice from to bytes) (λ j. getD-drop from (take to bytes) j 0 ∙ by j (decLt (from + j) to))
-  where
-    by : (j : ℕ) → Dec (from + j < to) → getD (take to bytes) (from + j) 0 ≡ 0
-    by j (yes l) = getD-take to bytes (from + j) 0 l ∙ h (from + j) (omega arith) l
-    by j (no f) = List·getD-eq-default (take to bytes) 0 (omega (arith, not-more f, length-take to bytes))
+use Rattle.sheet.proofs.Unused.{zero-part}
 
 -- ---- the parts, put one after the other
 module _ (n number : ℕ) (content before headed packed-up cleared after : List ℕ) (header : PutsHeader n (length content) number before headed) (packs : Packs (n / 8) content (length content) headed packed-up) (clears : Clears (8 + n / 8 * length content) 504 packed-up cleared) (seals : Seals cleared after) (sized : length before ≡ 512) (room : 8 + n / 8 * length content ≤ 504) where
@@ -79,5 +64,8 @@ module _ (n number : ℕ) (content before headed packed-up cleared after : List 
     numbered = kept 4 4 past-header (inl (omega arith)) ∙ header .numbered;
     packed = are-words;
     filled = sym (holds Refusal.Fill (ap (λ (i : ℕ). allZero (slice i 504 after)) ends ∙ zero-part top 504 after (λ j l u. seals .within .outside j (inl u) ∙ clears .zero j l u)));
-    checked = sym (holds Refusal.Check (rw (eq-eqb (sumA (numbers after)) (A after) (sym (seals .a)), eq-eqb (sumB (numbers after)) (B after) (sym (seals .b)))));
+    checked = sym (holds Refusal.Check sums);
   }
+    where
+      sums : eqb (sumA (numbers after)) (A after) && eqb (sumB (numbers after)) (B after) ≡ true
+      sums = rw (eq-eqb (sumA (numbers after)) (A after) (sym (seals .a)), eq-eqb (sumB (numbers after)) (B after) (sym (seals .b)))

@@ -1,13 +1,16 @@
 -- Packed numbers: how many there are, which one stands where, and what a turn that stores one of them leaves. Assumes nothing.
-use mathlib.Core.Path.{_≡_, refl, sym, ap, ap₂, _∙_}
+use mathlib.Core.Path.{_≡_, refl, sym, ap, ap₂, _∙_, subst}
 use mathlib.Core.List.{List, [], _∷_, _++_}
-use Prim.Native.Nat.{ℕ, zero, suc, _+_, _*_, _≤_, _<_}
-use native.Mathlib.Nat.{le-of-suc-le-suc, not-suc-le-zero, le-antisymm, mul-le-mul-left}
+use Prim.Native.Nat.{ℕ, zero, suc, _+_, _-_, _*_, _≤_, _<_}
+use native.Mathlib.Decide.{decLt}
+use native.Mathlib.Nat.{le-of-suc-le-suc, not-suc-le-zero, le-antisymm, mul-le-mul-left, add-sub-of-le}
 use native.Mathlib.Numerals.{add-one}
 use native.Mathlib.Omega.{arith}
 use lib.ListN.{length, take, drop, getD, set}
-use lib.Seq.{drop-drop, take-all}
-use Rattle.sheet.specs.Layout.{number, numberAt, packed, numbers}
+use lib.Seq.{drop-drop, take-all, getD-drop}
+use Rattle.bounds.proofs.Powers.{not-more}
+use Rattle.sheet.specs.Layout.{AreBytes, number, numberAt, packed, numbers}
+use Rattle.sheet.proofs.LittleEndian.{bytes-same}
 
 pub packed-length : (k n : ℕ) (bytes : List ℕ) → length (packed k n bytes) ≡ n
 unfolding packed
@@ -27,6 +30,29 @@ packed-at k (suc n) bytes zero h =
 packed-at k (suc n) bytes (suc j) h =
     let next : k + k * j ≡ k * suc j = omega arith in
     packed-at k n (drop k bytes) j (le-of-suc-le-suc h) ∙ numberAt-drop k (k * j) k bytes ∙ ap (λ (i : ℕ). numberAt k i bytes) next
+
+-- the same numbers are packed of the same bytes
+pub packed-same : (k n : ℕ) (xs ys : List ℕ) → AreBytes xs → AreBytes ys → packed k n xs ≡ packed k n ys → (j : ℕ) → j < k * n → getD xs j 0 ≡ getD ys j 0
+unfolding packed numberAt AreBytes
+packed-same k zero xs ys bx by e j h = absurd (omega (arith, h))
+packed-same k (suc n) xs ys bx by e j h = at (decLt j k) (packed-same k n (drop k xs) (drop k ys) (past xs bx) (past ys by) rest)
+  where
+    first : numberAt k 0 xs ≡ numberAt k 0 ys
+    first = cc
+
+    rest : packed k n (drop k xs) ≡ packed k n (drop k ys)
+    rest = cc
+
+    past : (zs : List ℕ) → AreBytes zs → AreBytes (drop k zs)
+    past zs b i = subst (λ (x : ℕ). x < 256) (sym (getD-drop k zs i 0)) (b (k + i))
+
+    at : Dec (j < k) → ((i : ℕ) → i < k * n → getD (drop k xs) i 0 ≡ getD (drop k ys) i 0) → getD xs j 0 ≡ getD ys j 0
+    at (yes l) on = bytes-same k 0 xs ys bx by first j (omega arith) (omega (arith, l))
+    at (no f) on =
+        let beyond : k + (j - k) ≡ j = add-sub-of-le (not-more f) in
+        ap (λ (i : ℕ). getD xs i 0) (sym beyond) ∙ sym (getD-drop k xs (j - k) 0)
+        ∙ on (j - k) (omega (arith, h, not-more f))
+        ∙ getD-drop k ys (j - k) 0 ∙ ap (λ (i : ℕ). getD ys i 0) beyond
 
 -- a turn that stores the next of the numbers xs into a list that had `before` at first
 store : (xs before : List ℕ) (i : ℕ) → i < length xs → i < length before → set (take i xs ++ drop i before) i (getD xs i 0) ≡ take (suc i) xs ++ drop (suc i) before

@@ -9,8 +9,8 @@ use native.Mathlib.Omega.{arith}
 use lib.ListN.{length, getD, set, length-set}
 use lib.Seq.{ext-getD, getD-set-same, getD-set-other}
 use Rattle.bounds.proofs.Powers.{not-more}
-use Rattle.sheet.specs.Layout.{numberAt, numbers, A, B}
-use Rattle.sheet.specs.Puts.{Within, Puts, Packs, Clears, Seals}
+use Rattle.sheet.specs.Layout.{numberAt, mark, width, count, blockNumber, numbers, A, B}
+use Rattle.sheet.specs.Puts.{Within, Puts, Packs, Clears, PutsHeader, Seals}
 use Rattle.sheet.specs.Sums.{sumA, sumB}
 use Rattle.sheet.proofs.LittleEndian.{numberAt-one, numberAt-split, number-same}
 use Rattle.sheet.proofs.Packing.{numbers-length, numbers-at, word-inside}
@@ -44,6 +44,33 @@ puts-two j k i lo hi x {before} {mid} {after} fits p q e = record {
   is = numberAt-split j k i after (omega (arith, fits, p .within .size, q .within .size)) ∙ ap₂ (λ (a b : ℕ). a + b * 2 ^ (8 * j)) (kept j i (q .within) (inl (omega arith)) ∙ p .is) (q .is) ∙ e;
 }
 
+-- a number of n bytes, where n is known to be k
+pub puts-of-size : (k n i x : ℕ) {before after : List ℕ} → n ≡ k → Puts k i x before after → Puts n i x before after
+puts-of-size k n i x {before} {after} q = subst (λ (s : ℕ). Puts s i x before after) (sym q)
+
+pub below-of-size : (k n x : ℕ) → n ≡ k → x < 2 ^ (8 * n) → x < 2 ^ (8 * k)
+below-of-size k n x = subst (λ (s : ℕ). x < 2 ^ (8 * s))
+
+-- ---- the header
+pub headed : {n words number : ℕ} {before first second third after : List ℕ} → 8 ≤ length before → Puts 1 0 0x54 before first → Puts 1 1 n first second → Puts 2 2 words second third → Puts 4 4 number third after → PutsHeader n words number before after
+unfolding mark width count blockNumber
+headed {before = before} {first} {second} {third} {after} fits m w c b = record {
+  within = both (wider 0 8 (omega arith) (omega arith) (m .within)) (both (wider 0 8 (omega arith) (omega arith) (w .within)) past-width);
+  marked = sym (numberAt-one 0 after (omega (arith, fits, size))) ∙ kept 1 0 past-count (inl (omega arith)) ∙ kept 1 0 (w .within) (inl (omega arith)) ∙ m .is;
+  wide = sym (numberAt-one 1 after (omega (arith, fits, size))) ∙ kept 1 1 past-count (inl (omega arith)) ∙ w .is;
+  counted = kept 2 2 (b .within) (inl (omega arith)) ∙ c .is;
+  numbered = b .is;
+}
+  where
+    past-count : Within 2 8 second after
+    past-count = both (wider 2 8 (omega arith) (omega arith) (c .within)) (wider 2 8 (omega arith) (omega arith) (b .within))
+
+    past-width : Within 0 8 second after
+    past-width = wider 0 8 (omega arith) (omega arith) past-count
+
+    size : length after ≡ length before
+    size = past-count .size ∙ w .within .size ∙ m .within .size
+
 -- ---- the words, one after the other
 module _ (k : ℕ) (words before : List ℕ) where
   pub packs-none : Packs k words 0 before before
@@ -61,6 +88,9 @@ module _ (k : ℕ) (words before : List ℕ) where
           let last : i ≡ j = omega (arith, h, not-more f) in
           subst (λ (n : ℕ). numberAt k (8 + k * n) after ≡ getD words n 0) last (q .is)
 
+  pub packs-all : (i n : ℕ) (after : List ℕ) → i ≤ n → n ≤ i → Packs k words i before after → Packs k words n before after
+  packs-all i n after lo hi = subst (λ (m : ℕ). Packs k words m before after) (le-antisymm lo hi)
+
 -- ---- zeros, one after the other
 pub clears-none : (from : ℕ) (before : List ℕ) → Clears from from before before
 clears-none from before = record { within = nothing from from before; zero = λ j l u. absurd (omega (arith, l, u)) }
@@ -76,6 +106,9 @@ clears-more from at before mid l h c = record {
     by j lo up (no f) =
         let last : at ≡ j = omega (arith, up, not-more f) in
         subst (λ (n : ℕ). getD (set mid at 0) n 0 ≡ 0) last (getD-set-same mid at 0 0 h)
+
+pub clears-all : (from at to : ℕ) (before after : List ℕ) → at ≤ to → to ≤ at → Clears from at before after → Clears from to before after
+clears-all from at to before after lo hi = subst (λ (k : ℕ). Clears from k before after) (le-antisymm lo hi)
 
 -- ---- A and B
 numbers-kept : {before after : List ℕ} → Within 504 512 before after → numbers after ≡ numbers before

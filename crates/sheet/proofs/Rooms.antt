@@ -5,6 +5,7 @@ use Prim.Native.Nat.{ℕ, zero, suc, _+_, _*_, _/_, _≤_, _<_}
 use native.Mathlib.Nat.{mul-le-mul-left}
 use native.Mathlib.Omega.{arith}
 use borrow.Author.Tests.{le-leb, lt-leb}
+use lib.Dec.{lit≤, lit<}
 use Rattle.bounds.specs.declared.refusal.Refusal.{Refusal}
 use Rattle.bounds.specs.declared.refusal.Verdict.{Verdict}
 use Rattle.sheet.specs.Layout.{count, wordBytes, end}
@@ -15,6 +16,12 @@ use Rattle.sheet.proofs.Tests.{OneOfFour, each-width, holds, fails}
 -- ---- room for words of s bytes
 pub whole-room : (n : ℕ) → OneOfFour n → n / 8 * (496 / (n / 8)) ≡ 496
 whole-room = each-width (λ n. n / 8 * (496 / (n / 8)) ≡ 496) refl refl refl refl
+
+pub some-bytes : (n : ℕ) → OneOfFour n → 0 < n / 8
+some-bytes = each-width (λ n. 0 < n / 8) (lit< tt) (lit< tt) (lit< tt) (lit< tt)
+
+pub small-room : (n : ℕ) → OneOfFour n → 496 / (n / 8) ≤ 496
+small-room = each-width (λ n. 496 / (n / 8) ≤ 496) (lit≤ tt) (lit≤ tt) (lit≤ tt) (lit≤ tt)
 
 some-size : (s most : ℕ) → s * most ≡ 496 → 0 < s
 some-size zero most h = absurd (omega arith)

@@ -1,14 +1,18 @@
--- Bytes are all zero exactly if their sum is. Assumes nothing.
+-- Bytes are all zero exactly if their sum is, and exactly if each of them is. Assumes nothing.
 use mathlib.Core.Path.{_≡_, refl, sym, ap, _∙_}
+use mathlib.Core.Bool.{true}
 use mathlib.Core.List.{List, [], _∷_}
-use Prim.Native.Nat.{ℕ, zero, suc, _+_, _≤_, _<_}
-use native.Mathlib.Nat.{zero-add}
+use Prim.Native.Nat.{ℕ, zero, suc, _+_, _-_, _≤_, _<_}
+use native.Mathlib.Decide.{decLt}
+use native.Mathlib.Nat.{zero-add, add-sub-of-le}
 use native.Mathlib.Numerals.{add-one}
 use native.Mathlib.Omega.{arith}
-use borrow.Author.Tests.{ne-eqb}
+use borrow.Author.Tests.{eq-eqb, ne-eqb, eqb-true}
 use lib.Dec.{eqb}
-use lib.ListN.{length, getD, take, drop-of-length-le, length-take}
-use lib.Seq.{slice, slice-cons}
+use lib.ListN.{length, getD, take, drop-of-length-le, length-take, List·getD-eq-default}
+use lib.Seq.{slice, slice-cons, getD-take, getD-drop}
+use Rattle.bounds.proofs.Powers.{not-more}
+use Rattle.bounds.proofs.Verdicts.{both}
 use Rattle.sheet.specs.Layout.{end, unused}
 use Rattle.sheet.specs.Sums.{total}
 use Rattle.sheet.specs.Reads.{allZero}
@@ -43,3 +47,31 @@ unused-all block at to sum all h s = omega (arith, s, none)
 
     none : total (slice at to block) ≡ 0
     none = ap total (drop-of-length-le (take to block) past)
+
+-- ---- byte by byte
+pub zeros : (bytes : List ℕ) → allZero bytes ≡ true → (j : ℕ) → getD bytes j 0 ≡ 0
+unfolding allZero
+zeros [] h j = refl
+zeros (b ∷ bytes) h zero = eqb-true b 0 (both (eqb b 0) (allZero bytes) h .0)
+zeros (b ∷ bytes) h (suc j) = zeros bytes (both (eqb b 0) (allZero bytes) h .1) j
+
+all-zero : (bytes : List ℕ) → ((j : ℕ) → getD bytes j 0 ≡ 0) → allZero bytes ≡ true
+unfolding allZero
+all-zero [] h = refl
+all-zero (b ∷ bytes) h = rw (eq-eqb b 0 (h 0), all-zero bytes (λ j. h (suc j)))
+
+-- the bytes from byte `from` up to byte `to`
+module _ (from to : ℕ) (bytes : List ℕ) where
+  pub part-zero : allZero (slice from to bytes) ≡ true → (j : ℕ) → from ≤ j → j < to → getD bytes j 0 ≡ 0
+  part-zero h j lo hi =
+      sym (getD-take to bytes j 0 hi)
+      ∙ ap (λ (k : ℕ). getD (take to bytes) k 0) (sym (add-sub-of-le lo))
+      ∙ sym (getD-drop from (take to bytes) (j - from) 0)
+      ∙ zeros (slice from to bytes) h (j - from)
+
+  pub zero-part : ((j : ℕ) → from ≤ j → j < to → getD bytes j 0 ≡ 0) → allZero (slice from to bytes) ≡ true
+  zero-part h = all-zero (slice from to bytes) (λ j. getD-drop from (take to bytes) j 0 ∙ by j (decLt (from + j) to))
+    where
+      by : (j : ℕ) → Dec (from + j < to) → getD (take to bytes) (from + j) 0 ≡ 0
+      by j (yes l) = getD-take to bytes (from + j) 0 l ∙ h (from + j) (omega arith) l
+      by j (no f) = List·getD-eq-default (take to bytes) 0 (omega (arith, not-more f, length-take to bytes))

@@ -2,7 +2,7 @@
 use mathlib.Core.Path.{_≡_}
 use mathlib.Core.List.{List}
 use mathlib.Core.Logic.{_⊎_}
-use Prim.Native.Nat.{ℕ, _+_, _*_, _≤_, _<_}
+use Prim.Native.Nat.{ℕ, _+_, _*_, _^_, _≤_, _<_}
 use lib.ListN.{length, getD}
 use Rattle.sheet.specs.Layout.{numberAt, mark, width, count, blockNumber, A, B, numbers}
 use Rattle.sheet.specs.Sums.{sumA, sumB}
@@ -16,6 +16,10 @@ pub record Within (from to : ℕ) (before after : List ℕ) : Type 0 where
 pub record Puts (k i x : ℕ) (before after : List ℕ) : Type 0 where
   pub within : Within i (i + k) before after
   pub is : numberAt k i after ≡ x
+
+-- words of at most k bytes
+unfoldable pub AreOfBytes : ℕ → List ℕ → Type 0
+AreOfBytes k words = (j : ℕ) → j < length words → getD words j 0 < 2 ^ (8 * k)
 
 -- the first n of the words are packed from byte 8 on, in k bytes each
 pub record Packs (k : ℕ) (words : List ℕ) (n : ℕ) (before after : List ℕ) : Type 0 where

@@ -31,19 +31,19 @@ pub record IsBlockOf (n number : ℕ) (words block : List ℕ) : Type 0 where
   pub checked : checkTest block ≡ Through
 
 -- ---- the refusals
--- 10 COUNT: more words than the width has room for, up to byte 503
-unfoldable pub roomTest : ℕ → ℕ → Verdict
-roomTest n count = unless Count (leb (8 + n / 8 * count) 504)
+-- so many words of the width end at byte 503 or before it
+unfoldable pub hasRoomFor : ℕ → ℕ → Bool
+hasRoomFor n count = leb (8 + n / 8 * count) 504
 
--- 1 WIDTH: a block's width isn't one of its four; 10 COUNT; 7 SIZE: the buffer isn't 512 bytes
+-- 1 WIDTH: a block's width isn't one of its four; 10 COUNT: more words than the width has room for; 7 SIZE: the buffer isn't 512 bytes
 unfoldable pub contentTest : ℕ → ℕ → List ℕ → Verdict
-contentTest n count buffer = unless Width (isBlockWidth n) then roomTest n count then sizeTest buffer
+contentTest n count buffer = unless Width (isBlockWidth n) then unless Count (hasRoomFor n count) then sizeTest buffer
 
 -- 2 STRAY: the words before the position have no stray bit
 unfoldable pub FitUpTo : ℕ → List ℕ → ℕ → Type 0
 FitUpTo n words position = (i : ℕ) → i < position → strayTest n (getD words i 0) ≡ Through
 
--- and what the words in order decide: the lowest position that has one is refused
+-- and what the words decide, in order: where one has, the lowest position that has one is refused
 unfoldable pub IsTried : ℕ → List ℕ → Writing → Type 0
 IsTried n words Writing.Written = FitUpTo n words (length words)
 IsTried n words (Writing.RefusedAt position q) = (position < length words) × FitUpTo n words position × (strayTest n (getD words position 0) ≡ Refused q)

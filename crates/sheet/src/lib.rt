@@ -2,7 +2,7 @@
 pub mod block;
 mod fields;
 mod numbers;
-mod puts;
+mod parts;
 mod sums;
 mod testing;
 mod words;

@@ -1,9 +1,9 @@
 // Writing a sheet block into a lent buffer: everything is tried before a byte is written, so that a refusal leaves the buffer as it came.
 use crate::fields::is_block_width;
-use crate::puts::clear;
-use crate::puts::pack;
-use crate::puts::put_header;
-use crate::puts::seal;
+use crate::parts::clear;
+use crate::parts::pack;
+use crate::parts::put_header;
+use crate::parts::seal;
 use bounds::refusal::Refusal;
 use bounds::refusal::Verdict;
 use bounds::width::Width;

@@ -1,11 +1,20 @@
 //! The text of what the independent program answers.
 use crate::numbers::binary64::Binary64;
+use crate::sheets::columns::ColumnRefusal;
 use crate::words::reading::Reading;
 use crate::words::refusals::Refusal;
 
 /// The text of a refusal: paper 01's number and name.
 pub fn refused(refusal: Refusal) -> String {
     format!("refused {} {}", refusal as u32, format!("{refusal:?}").to_uppercase())
+}
+
+/// The text of a column's refusal: with its position, where it has one.
+pub fn column_refused(refusal: ColumnRefusal) -> String {
+    match refusal {
+        ColumnRefusal::OfAll(refusal) => refused(refusal),
+        ColumnRefusal::At(refusal, position) => format!("{} at {position}", refused(refusal)),
+    }
 }
 
 /// The text of an answer, or of its refusal.

@@ -8,9 +8,10 @@ use crate::words::reading::{compare, negate, read};
 use crate::words::widths::{exact_count_limit, largest_word, nar_word, smallest_word};
 use crate::writing::answers::{write, Answers};
 use crate::writing::moving::move_word;
+use crate::written::block_to_write;
 
 pub fn case(choices: &mut Choices) -> String {
-    match choices.below(64) {
+    match choices.below(65) {
         0..=3 => of_width(choices),
         4..=8 => of_reading(choices),
         9..=12 => of_comparing(choices),
@@ -22,7 +23,8 @@ pub fn case(choices: &mut Choices) -> String {
         46..=51 => of_binary64_in(choices),
         52..=56 => of_binary64_out(choices),
         57..=62 => column(choices),
-        _ => sheet_block(choices),
+        63 => sheet_block(choices),
+        _ => block_to_write(choices),
     }
 }
 

@@ -1,8 +1,8 @@
 //! Pseudo-random columns and blocks, with faults that come alone and together.
-use crate::answers::{refused, row, text};
+use crate::answers::{column_refused, row, text};
 use crate::choices::Choices;
 use crate::sheets::blocks::{end_of_words, good_block, read_block, room_of, seal, store, BLOCK_SIZE, BLOCK_WIDTHS};
-use crate::sheets::columns::{move_column, ColumnRefusal, Rule};
+use crate::sheets::columns::{move_column, Rule};
 use crate::words::refusals::make_width;
 
 /// How much room the results have for `count` words: seldom too little.
@@ -23,8 +23,7 @@ pub fn column(choices: &mut Choices) -> String {
     let mut results = vec![0; room];
     let answer = match move_column(from, to, rule, &words, &mut results) {
         Ok(moved) => format!("moved {moved} {}", row(&results[..moved])),
-        Err(ColumnRefusal::OfAll(refusal)) => refused(refusal),
-        Err(ColumnRefusal::At(refusal, position)) => format!("{} at {position}", refused(refusal)),
+        Err(refusal) => column_refused(refusal),
     };
     format!("move_column {from} {to} {name} {} room {room} = {answer}", row(&words))
 }
@@ -38,15 +37,20 @@ fn word_to_move(choices: &mut Choices, from: u32, to: u32) -> u64 {
     (choices.number() >> (64 - narrow)) << (from - narrow)
 }
 
+/// How many words a block has: mostly a few, never more than there is room for.
+pub fn count_of_words(choices: &mut Choices, full: usize) -> usize {
+    match choices.below(8) {
+        0 => 0,
+        1 => full,
+        2 => choices.below(full as u64 + 1) as usize,
+        _ => choices.below(9) as usize,
+    }
+}
+
 pub fn sheet_block(choices: &mut Choices) -> String {
     let width = choices.one_of(&BLOCK_WIDTHS);
     let most = room_of(width) as u64;
-    let count = match choices.below(8) {
-        0 => 0,
-        1 => most,
-        2 => choices.below(most + 1),
-        _ => choices.below(9),
-    } as usize;
+    let count = count_of_words(choices, room_of(width));
     let words: Vec<u64> = (0..count).map(|_| choices.number() >> (64 - width)).collect();
     let number = choices.number() as u32;
     let mut block = good_block(width, number, &words);
@@ -86,7 +90,7 @@ pub fn sheet_block(choices: &mut Choices) -> String {
 }
 
 /// The bytes in hex, eight or more equal ones as a piece that is repeated.
-fn pieces(bytes: &[u8]) -> String {
+pub fn pieces(bytes: &[u8]) -> String {
     let (mut pieces, mut piece) = (Vec::new(), String::new());
     for equal in bytes.chunk_by(|a, b| a == b) {
         let digits = format!("{:02x}", equal[0]);

@@ -8,6 +8,7 @@ mod answers;
 mod choices;
 mod draws;
 mod lent;
+mod written;
 
 #[path = "../../../oracle/exact/mod.rs"]
 mod exact;

@@ -7,9 +7,9 @@ use borrow.Author.Tests.{eq-eqb, ne-eqb}
 use lib.ListN.{length}
 use Rattle.bounds.specs.declared.refusal.Refusal.{Refusal}
 use Rattle.bounds.specs.declared.refusal.Verdict.{Verdict}
-use Rattle.bounds.specs.Refusals.{roomTest}
+use Rattle.bounds.specs.Refusals.{unless, roomTest}
 use Rattle.sheet.specs.Layout.{mark}
-use Rattle.sheet.specs.Reads.{checkTest, blockWidthTest, countTest, fillTest}
+use Rattle.sheet.specs.Reads.{isBlockWidth, checkTest, blockWidthTest, countTest, fillTest}
 use Rattle.sheet.proofs.Passing.{other-size, other-mark, check-refuses, width-refuses, count-refuses, fill-refuses, room-decides}
 use Rattle.sheet.proofs.Tests.{holds, fails, lets-through, refuses, at-most, past}
 use Rattle.sheet.proofs.Unused.{zero-when}
@@ -33,14 +33,19 @@ marked c = c .if2 .left
 checked : (c : tie.Else3) → checkTest (block (c .before .before)) ≡ Verdict.Through
 checked c = lets-through Refusal.Check (c .before .sums-agree .result) (c .before .sums-agree .ensures) (c .if3 .left)
 
-wide : (c : tie.Else4) → blockWidthTest (block (c .before .before .before .before)) ≡ Verdict.Through
-wide c = lets-through Refusal.Width (c .before .has-width .result) (c .before .has-width .ensures) (c .if4 .left)
+-- the width that was read is tested
+tested : (c : tie.After-is-block-width) → blockWidthTest (block (c .before .before .before .before)) ≡ unless Refusal.Width (c .is-block-width .result)
+unfolding blockWidthTest
+tested c = ap (unless Refusal.Width) (sym (c .is-block-width .ensures ∙ ap isBlockWidth (c .before .width-of .ensures .0)))
 
-counted : (c : tie.Else5) → countTest (block (c .before .before .before .before .before .before)) ≡ Verdict.Through
+wide : (c : tie.Else4) → blockWidthTest (block (c .before .before .before .before .before)) ≡ Verdict.Through
+wide c = lets-through Refusal.Width (c .before .is-block-width .result) (tested (c .before)) (c .if4 .left)
+
+counted : (c : tie.Else5) → countTest (block (c .before .before .before .before .before .before .before)) ≡ Verdict.Through
 unfolding countTest
 counted c = sym (at-most Refusal.Count _ (c .before .end-of .ensures) (c .if5 .left))
 
-filled : (c : tie.Else6) → fillTest (block (c .before .before .before .before .before .before .before .before)) ≡ Verdict.Through
+filled : (c : tie.Else6) → fillTest (block (c .before .before .before .before .before .before .before .before .before)) ≡ Verdict.Through
 unfolding fillTest
 filled c = sym (holds Refusal.Fill (zero-when _ ∙ eq-eqb _ _ (sym (c .before .unused-sum .ensures) ∙ c .if6 .left)))
 
@@ -62,32 +67,35 @@ returns-3 : tie.Need-returns-3
 returns-3 c = let m = c .before .before in
     sym (check-refuses _ _ (sized m) (marked m) (refuses Refusal.Check (c .before .sums-agree .result) (c .before .sums-agree .ensures) (c .if3 .taken)))
 
-has-width-requires : tie.Need-has-width-requires
-has-width-requires c κs = sized (c .before .before)
+width-of-requires : tie.Need-width-of-requires
+width-of-requires c κs = sized (c .before .before)
+
+is-block-width-requires : tie.Need-is-block-width-requires
+is-block-width-requires c κs = search needs
 
 returns-4 : tie.Need-returns-4
-returns-4 c = let s = c .before .before in let m = s .before .before in
-    sym (width-refuses _ _ (sized m) (marked m) (checked s) (refuses Refusal.Width (c .before .has-width .result) (c .before .has-width .ensures) (c .if4 .taken)))
+returns-4 c = let s = c .before .before .before in let m = s .before .before in
+    sym (width-refuses _ _ (sized m) (marked m) (checked s) (refuses Refusal.Width (c .before .is-block-width .result) (tested (c .before)) (c .if4 .taken)))
 
 end-of-requires : tie.Need-end-of-requires
-end-of-requires c κs = sized (c .before .before .before .before)
+end-of-requires c κs = sized (c .before .before .before .before .before)
 
 returns-5 : tie.Need-returns-5
 unfolding countTest
-returns-5 c = let w = c .before .before in let s = w .before .before in let m = s .before .before in
+returns-5 c = let w = c .before .before in let s = w .before .before .before in let m = s .before .before in
     sym (count-refuses _ _ (sized m) (marked m) (checked s) (wide w) (sym (past Refusal.Count _ (c .before .end-of .ensures) (c .if5 .taken))))
 
 unused-sum-requires : tie.Need-unused-sum-requires
-unused-sum-requires c κs = sized (c .before .before .before .before .before .before)
+unused-sum-requires c κs = sized (c .before .before .before .before .before .before .before)
 
 returns-6 : tie.Need-returns-6
 unfolding fillTest
-returns-6 c = let n = c .before .before in let w = n .before .before in let s = w .before .before in let m = s .before .before in
+returns-6 c = let n = c .before .before in let w = n .before .before in let s = w .before .before .before in let m = s .before .before in
     let some = fails Refusal.Fill (zero-when _ ∙ ne-eqb _ _ (λ e. c .if6 .taken (c .before .unused-sum .ensures ∙ e))) in
     sym (fill-refuses _ _ (sized m) (marked m) (checked s) (wide w) (counted n) (sym some))
 
 count-of-requires : tie.Need-count-of-requires
-count-of-requires c κs = sized (c .before .before .before .before .before .before .before .before)
+count-of-requires c κs = sized (c .before .before .before .before .before .before .before .before .before)
 
 cast-test-room : tie.Need-cast-test-room
 cast-test-room c = search needs
@@ -96,7 +104,7 @@ test-room-requires : tie.Need-test-room-requires
 test-room-requires c κs = search needs
 
 returns-7 : tie.Need-returns-7
-returns-7 c = let f = c .before .before in let n = f .before .before in let w = n .before .before in let s = w .before .before in let m = s .before .before in
+returns-7 c = let f = c .before .before in let n = f .before .before in let w = n .before .before in let s = w .before .before .before in let m = s .before .before in
     c .test-room .ensures ∙ ap (λ (k : ℕ). roomTest k (start m .args .places)) (c .before .count-of .ensures .0) ∙ sym (room-decides _ _ (sized m) (marked m) (checked s) (wide w) (counted n) (filled f))
 
 pub test-spec : {M : Type 1} → statement M
@@ -108,7 +116,8 @@ test-spec =
     returns-2
     sums-agree-requires
     returns-3
-    has-width-requires
+    width-of-requires
+    is-block-width-requires
     returns-4
     end-of-requires
     returns-5

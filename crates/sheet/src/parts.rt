@@ -5,10 +5,10 @@ use crate::numbers::put_one;
 use crate::numbers::put_two;
 use crate::sums::sums_of;
 ghost use mathlib.Core.Path.{_≡_};
-ghost use Prim.Native.Nat.{ℕ, _+_, _*_, _^_, _≤_, _<_};
-ghost use lib.ListN.{length, getD};
+ghost use Prim.Native.Nat.{_+_, _*_, _^_, _≤_, _<_};
+ghost use lib.ListN.{length};
 ghost use Rattle.sheet.specs.Layout.{IsWordBytes};
-ghost use Rattle.sheet.specs.Puts.{Puts, Packs, Clears, PutsHeader, Seals};
+ghost use Rattle.sheet.specs.Puts.{Puts, AreOfBytes, Packs, Clears, PutsHeader, Seals};
 
 pub(crate) fn put_header(width: u32, count: u32, number: u32, buffer: &mut [u8])
     requires { ⌜ (8 ≤ length (now buffer)) × (width < 2 ^ 8) × (count < 2 ^ 16) ⌝ }
@@ -22,8 +22,7 @@ pub(crate) fn put_header(width: u32, count: u32, number: u32, buffer: &mut [u8])
 
 // The words from byte 8 on.
 pub(crate) fn pack(size: usize, words: &[u64], buffer: &mut [u8])
-    requires { ⌜ IsWordBytes size × (8 + size * length (now words) ≤ length (now buffer)) ⌝ }
-    requires { ⌜ (j : ℕ) → j < length (now words) → getD (now words) j 0 < 2 ^ (8 * size) ⌝ }
+    requires { ⌜ IsWordBytes size × (8 + size * length (now words) ≤ length (now buffer)) × AreOfBytes size (now words) ⌝ }
     ensures { λ _. ⌜ Packs size (now (words .entry)) (length (now (words .entry))) (now (buffer .entry)) (now (buffer .exit)) ⌝ }
 {
     let mut i = 0;
@@ -48,7 +47,7 @@ fn put_word(buffer: &mut [u8], size: usize, at: usize, word: u64)
 
 // The word bytes that are left are zero.
 pub(crate) fn clear(from: usize, buffer: &mut [u8])
-    requires { ⌜ 504 ≤ length (now buffer) ⌝ }
+    requires { ⌜ (from ≤ 504) × (504 ≤ length (now buffer)) ⌝ }
     ensures { λ _. ⌜ Clears from 504 (now (buffer .entry)) (now (buffer .exit)) ⌝ }
 {
     let mut at = from;

@@ -15,17 +15,17 @@
  * Every call takes every value of its arguments and returns. Each answer is a struct with the field `refusal`:
  *
  * - It is 0 (TAKUM_OK) where the call was answered, and the other fields are the answer.
- * - It is a number from 1 to 11 where the call was refused. Then all other fields are zero (but for the position of a column), and a lent
- *   slice is as it was before the call. takum_refusal_name gives its name. Where several refusals apply, the first is given, in this order:
- *   words: WIDTH, STRAY, NAR, OVER, INEXACT; columns: WIDTH, ROOM, then position by position, at each STRAY and INEXACT; blocks: SIZE,
- *   MARK, CHECK, WIDTH, COUNT, FILL, ROOM.
+ * - It is a number from 1 to 11 where the call was refused. Then all other fields are zero (but for the position of a column, or of a block to be
+ *   written), and a lent slice is as it was before the call. takum_refusal_name gives its name. Where several refusals apply, the first is given, in
+ *   this order: words: WIDTH, STRAY, NAR, OVER, INEXACT; columns: WIDTH, ROOM, then position by position, at each STRAY and INEXACT; blocks: SIZE,
+ *   MARK, CHECK, WIDTH, COUNT, FILL, ROOM; written blocks: WIDTH, COUNT, SIZE, then STRAY at the lowest position.
  *
  * What a proof can't see is how the calls are used from C. It rests on this:
  *
  * - A lent slice is a pointer and a length, counted in elements. The pointer is not null and is aligned for its elements; as many of them
- *   as the length says lie there, initialized, and may be read, and results written, until the call returns. For an empty slice the length
- *   is 0; its pointer, too, is not null and is aligned, as the address of any uint64_t (for a block's bytes any address) is, and nothing is
- *   read or written there. Don't pass NULL, which malloc(0) or the data() of an empty std::vector may be.
+ *   as the length says lie there, initialized, and may be read, and results and the buffer for a block written, until the call returns. For an
+ *   empty slice the length is 0; its pointer, too, is not null and is aligned, as the address of any uint64_t (for bytes any address) is, and
+ *   nothing is read or written there. Don't pass NULL, which malloc(0) or the data() of an empty std::vector may be.
  * - The two slices of a call do not overlap, and nothing else changes them during the call.
  * - A bool is 0 or 1, as every bool is that C makes itself. */
 #ifndef LEDUSPRIG_H
@@ -79,7 +79,7 @@ enum takum_refusal {
     TAKUM_INEXACT = 4, /* strict, and no word, or no whole number, has the value */
     TAKUM_OVER = 5,    /* the whole number falls outside signed 64 bits */
     TAKUM_ROOM = 6,    /* the result slice is too short */
-    TAKUM_SIZE = 7,    /* a block isn't 512 bytes */
+    TAKUM_SIZE = 7,    /* a block, or the buffer for one, isn't 512 bytes */
     TAKUM_MARK = 8,    /* a block's byte 0 isn't 0x54 */
     TAKUM_CHECK = 9,   /* a block's check sum A or B differs */
     TAKUM_COUNT = 10,  /* a block has more words than its width has room for */
@@ -181,6 +181,13 @@ typedef struct takum_block_answer {
     uint32_t count;
 } takum_block_answer;
 
+/* Where the refusal is STRAY, `position` is that of the first word with a stray bit, counted from 0; otherwise it is 0, and so it is where the block
+ * was written. */
+typedef struct takum_written_answer {
+    uint32_t refusal;
+    size_t position;
+} takum_written_answer;
+
 /* What belongs to width n: its largest positive word 2^(n - 1) - 1, its smallest positive word 1, and its NaR word 2^(n - 1). */
 TAKUM_MUST_USE takum_word_answer takum_largest(uint32_t n) TAKUM_NOEXCEPT;
 TAKUM_MUST_USE takum_word_answer takum_smallest(uint32_t n) TAKUM_NOEXCEPT;
@@ -235,6 +242,15 @@ TAKUM_MUST_USE TAKUM_NOT_NULL takum_column_answer takum_move_column(uint32_t fro
  * are enough for every block. SIZE, MARK, CHECK, WIDTH, COUNT, FILL or ROOM, in this order; any word that a block holds is a good one. */
 TAKUM_MUST_USE TAKUM_NOT_NULL takum_block_answer takum_read_block(const uint8_t *block, size_t block_length, uint64_t *results,
                                                                   size_t results_length) TAKUM_NOEXCEPT;
+
+/* Writes the block that has this width, number and words: all 512 bytes of the buffer, whatever was in it. It reads back as the same width, number
+ * and words, and any block that can be read is what this makes of its width, number and words. The width is 8, 16, 32 or 64, with room for 496, 248,
+ * 124 or 62 words (TAKUM_BLOCK_WORDS * 8 / width); the number is any; without words the block has the count 0.
+ *
+ * WIDTH; COUNT where there are more words than the width has room for; SIZE where the buffer isn't 512 bytes; or STRAY with the lowest position that
+ * has one, in this order. */
+TAKUM_MUST_USE TAKUM_NOT_NULL takum_written_answer takum_write_block(uint32_t width, uint32_t number, const uint64_t *words, size_t words_length,
+                                                                     uint8_t *buffer, size_t buffer_length) TAKUM_NOEXCEPT;
 
 #ifdef __cplusplus
 }

@@ -1,6 +1,6 @@
 //! What calls are given and what they answer.
 
-/// The size of a sheet block in bytes.
+/// The size of a sheet block in bytes: `[0; BLOCK_SIZE]` is a buffer for one.
 pub const BLOCK_SIZE: usize = 512;
 
 /// The most words that a block has: a result slice of this length has room for every block.

@@ -3,7 +3,7 @@
 //!
 //! Where several refusals apply, the first of this order is given. Words: `Width`, `Stray`, `Nar`, `Over`, `Inexact`. Columns:
 //! `Width`, `Room`, then position by position, at each `Stray` and `Inexact`. Blocks: `Size`, `Mark`, `Check`, `Width`, `Count`, `Fill`, `Room`.
-//! A refused call leaves its results as they were.
+//! Written blocks: `Width`, `Count`, `Size`, then `Stray` at the lowest position. A refused call leaves its results, or its buffer, as they were.
 //!
 //! ```
 //! use ledusprig::{calls, Refusal, Rule};
@@ -12,8 +12,8 @@
 //! assert_eq!(calls::move_word(16, 8, Rule::Strict, 0x10000), Err(Refusal::Stray));
 //! ```
 //
-// Safety, for all calls below: the archive's functions take every number and write to no memory but the lent results. A slice is handed over
-// as what it is, its pointer and its length, and the borrow lasts until the call returns; a `&mut` slice overlaps no other.
+// Safety, for all calls below: the archive's functions take every number and write to no memory but the lent results and the lent buffer. A slice is
+// handed over as what it is, its pointer and its length, and the borrow lasts until the call returns; a `&mut` slice overlaps no other.
 use crate::answers::{Block, Reading, Rule, Taking, Value};
 use crate::face::{self, WordAnswer};
 use crate::refusals::{ColumnRefusal, Refusal};
@@ -113,14 +113,7 @@ pub fn take_binary64(n: u32, word: u64) -> Result<Option<f64>, Refusal> {
 pub fn move_column(from: u32, to: u32, rule: Rule, words: &[u64], results: &mut [u64]) -> Result<usize, ColumnRefusal> {
     let (given, room) = (words.len(), results.len());
     let answer = unsafe { face::takum_move_column(from, to, rule as u32, words.as_ptr(), given, results.as_mut_ptr(), room) };
-    Refusal::unless(answer.refusal, answer.moved).map_err(|refusal| {
-        // with every other refusal the position says nothing
-        let position = match refusal {
-            Refusal::Stray | Refusal::Inexact => Some(answer.position),
-            _ => None,
-        };
-        ColumnRefusal { refusal, position }
-    })
+    Refusal::unless(answer.refusal, answer.moved).map_err(|refusal| ColumnRefusal::at(refusal, answer.position))
 }
 
 /// Reads a sheet block of 512 bytes: the first results are its words, in order, and the others stay as they were.
@@ -140,4 +133,33 @@ pub fn read_block(block: &[u8], results: &mut [u64]) -> Result<Block, Refusal> {
     let (size, room) = (block.len(), results.len());
     let answer = unsafe { face::takum_read_block(block.as_ptr(), size, results.as_mut_ptr(), room) };
     Refusal::unless(answer.refusal, Block { width: answer.width, number: answer.number, count: answer.count })
+}
+
+/// Writes the sheet block that has this width, number and words: all 512 bytes of the buffer, whatever was in it. It reads back as the same width,
+/// number and words, and any block that can be read is what this makes of its width, number and words. Without words the block has the count 0.
+///
+/// `Width` where the width isn't 8, 16, 32 or 64; `Count` where there are more words than it has room for, 496, 248, 124 or 62; `Size` where the
+/// buffer isn't 512 bytes; `Stray` with the lowest position that has one.
+///
+/// ```
+/// use ledusprig::{calls, Block, ColumnRefusal, Refusal, BLOCK_SIZE, BLOCK_WORDS};
+///
+/// let mut block = [0; BLOCK_SIZE];
+/// calls::write_block(16, 1, &[0x5A00, 0x8000], &mut block)?;
+/// assert_eq!(block[..12], [0x54, 16, 2, 0, 1, 0, 0, 0, 0x00, 0x5A, 0x00, 0x80]);
+///
+/// let mut words = [0; BLOCK_WORDS];
+/// assert_eq!(calls::read_block(&block, &mut words), Ok(Block { width: 16, number: 1, count: 2 }));
+/// assert_eq!(words[..2], [0x5A00, 0x8000]);
+///
+/// let before = block;
+/// let refused = calls::write_block(16, 2, &[0x5A00, 0x10000], &mut block).unwrap_err();
+/// assert_eq!((refused.refusal, refused.position), (Refusal::Stray, Some(1)));
+/// assert_eq!(block, before);
+/// # Ok::<(), ColumnRefusal>(())
+/// ```
+pub fn write_block(width: u32, number: u32, words: &[u64], buffer: &mut [u8]) -> Result<(), ColumnRefusal> {
+    let (given, size) = (words.len(), buffer.len());
+    let answer = unsafe { face::takum_write_block(width, number, words.as_ptr(), given, buffer.as_mut_ptr(), size) };
+    Refusal::unless(answer.refusal, ()).map_err(|refusal| ColumnRefusal::at(refusal, answer.position))
 }

@@ -60,6 +60,12 @@ pub struct BlockAnswer {
     pub count: u32,
 }
 
+#[repr(C)]
+pub struct WrittenAnswer {
+    pub refusal: u32,
+    pub position: usize,
+}
+
 extern "C" {
     pub fn takum_largest(n: u32) -> WordAnswer;
     pub fn takum_smallest(n: u32) -> WordAnswer;
@@ -84,4 +90,12 @@ extern "C" {
         results_length: usize,
     ) -> ColumnAnswer;
     pub fn takum_read_block(block: *const u8, block_length: usize, results: *mut u64, results_length: usize) -> BlockAnswer;
+    pub fn takum_write_block(
+        width: u32,
+        number: u32,
+        words: *const u64,
+        words_length: usize,
+        buffer: *mut u8,
+        buffer_length: usize,
+    ) -> WrittenAnswer;
 }

@@ -107,7 +107,7 @@ refusals! {
     Inexact = 4, "INEXACT", "strict, and no word, or no whole number, has the value";
     Over = 5, "OVER", "the whole number falls outside signed 64 bits";
     Room = 6, "ROOM", "the result slice is too short";
-    Size = 7, "SIZE", "a block isn't 512 bytes";
+    Size = 7, "SIZE", "a block, or the buffer for one, isn't 512 bytes";
     Mark = 8, "MARK", "a block's byte 0 isn't 0x54";
     Check = 9, "CHECK", "a block's check sum A or B differs";
     Count = 10, "COUNT", "a block has more words than its width has room for";
@@ -146,7 +146,7 @@ impl fmt::Display for NoRefusal {
 
 impl Error for NoRefusal {}
 
-/// Why a column was not moved, and which of its words is to blame.
+/// Why a column was not moved, or a block not written, and which of the words is to blame.
 ///
 /// ```
 /// use ledusprig::{calls, Refusal, Rule};
@@ -162,11 +162,22 @@ impl Error for NoRefusal {}
 pub struct ColumnRefusal {
     /// Why.
     pub refusal: Refusal,
-    /// The lowest position of a word that is refused, counted from 0; none where it is not one word that is refused, but the whole column.
+    /// The lowest position of a word that is refused, counted from 0; none where it is not one word that is refused, but the whole column or block.
     pub position: Option<usize>,
 }
 
-/// The refusal of a whole column.
+impl ColumnRefusal {
+    /// With the position that the library tells, which says nothing unless the refusal is one of a word.
+    pub(crate) fn at(refusal: Refusal, position: usize) -> ColumnRefusal {
+        let position = match refusal {
+            Refusal::Stray | Refusal::Inexact => Some(position),
+            _ => None,
+        };
+        ColumnRefusal { refusal, position }
+    }
+}
+
+/// The refusal of a whole column or block.
 impl From<Refusal> for ColumnRefusal {
     fn from(refusal: Refusal) -> ColumnRefusal {
         ColumnRefusal { refusal, position: None }

@@ -142,6 +142,28 @@ impl Width {
     pub fn move_column(self, to: Width, rule: Rule, words: &[u64], results: &mut [u64]) -> Result<usize, ColumnRefusal> {
         calls::move_column(self.bits, to.bits, rule, words, results)
     }
+
+    /// Writes words of this width as the sheet block of that number; see [`calls::write_block`].
+    ///
+    /// ```
+    /// use ledusprig::{calls, Block, ColumnRefusal, Refusal, Rule, Width, BLOCK_SIZE, BLOCK_WORDS};
+    ///
+    /// let rows = [42, 38, 516].map(|joints| Width::W16.write_whole(Rule::Strict, joints).unwrap().word());
+    /// let mut block = [0; BLOCK_SIZE];
+    /// Width::W16.write_block(7, &rows, &mut block)?;
+    ///
+    /// let mut words = [0; BLOCK_WORDS];
+    /// assert_eq!(calls::read_block(&block, &mut words), Ok(Block { width: 16, number: 7, count: 3 }));
+    /// assert_eq!(words[..3], rows);
+    ///
+    /// // a width that no block has, and a buffer that is no block
+    /// assert_eq!(Width::LEAST.write_block(7, &[], &mut block), Err(ColumnRefusal::from(Refusal::Width)));
+    /// assert_eq!(Width::W16.write_block(7, &rows, &mut block[..511]), Err(ColumnRefusal::from(Refusal::Size)));
+    /// # Ok::<(), ColumnRefusal>(())
+    /// ```
+    pub fn write_block(self, number: u32, words: &[u64], buffer: &mut [u8]) -> Result<(), ColumnRefusal> {
+        calls::write_block(self.bits, number, words, buffer)
+    }
 }
 
 impl Takum {

@@ -1,5 +1,5 @@
 //! Refusals are errors with number, name and sentence, and a number that the crate does not know is kept.
-use ledusprig::{calls, ColumnRefusal, NoRefusal, Refusal, Rule};
+use ledusprig::{calls, ColumnRefusal, NoRefusal, Refusal, Rule, BLOCK_SIZE};
 use std::collections::HashSet;
 use std::error::Error;
 
@@ -51,4 +51,16 @@ fn a_column_tells_the_word_that_is_refused() {
     let room = refused(&[0x4000, 0x5A01], 1);
     assert_eq!(room, ColumnRefusal::from(Refusal::Room));
     assert_eq!((room.position, room.to_string()), (None, Refusal::Room.to_string()));
+}
+
+#[test]
+fn a_block_tells_the_word_that_is_refused() {
+    let refused = |width: u32, words: &[u64], size: usize| calls::write_block(width, 1, words, &mut vec![0; size]).unwrap_err();
+    let stray = refused(16, &[0x4000, 0x5A00, 0x10000, 0x4000, 0x20000], BLOCK_SIZE);
+    assert_eq!((stray.refusal, stray.position), (Refusal::Stray, Some(2)));
+    assert_eq!(stray.to_string(), format!("{}, at position 2", Refusal::Stray));
+    // the whole block is refused before its words are looked at
+    assert_eq!(refused(12, &[0x10000; 500], 0), ColumnRefusal::from(Refusal::Width));
+    assert_eq!(refused(16, &[0x10000; 249], 0), ColumnRefusal::from(Refusal::Count));
+    assert_eq!(refused(16, &[0x10000; 248], 511), ColumnRefusal::from(Refusal::Size));
 }

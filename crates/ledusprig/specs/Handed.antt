@@ -1,5 +1,5 @@
 -- How an answer is handed over to C and Rust: the refusal's number, 0 where nothing was refused, with the answer beside it, which is all zeros
--- where it was refused, but for the position of a column's refused word. Nothing else is decided here.
+-- where it was refused, but for the position of a word that was refused in a column or a block. Nothing else is decided here.
 use mathlib.Core.Path.{_≡_}
 use mathlib.Core.Bool.{true, false}
 use mathlib.Core.List.{List}
@@ -19,6 +19,8 @@ use Rattle.binary64.specs.declared.taking.Binary64.{Binary64}
 use Rattle.column.specs.declared.moving.Column.{Column}
 use Rattle.column.specs.Columns.{MovesColumn, Holds}
 use Rattle.sheet.specs.declared.block.Block.{Block}
+use Rattle.sheet.specs.declared.writing.Writing.{Writing}
+use Rattle.sheet.specs.Writes.{WritesBlock, FillsBuffer}
 use Rattle.ledusprig.specs.declared.handed.words.HandedWord.{HandedWord}
 use Rattle.ledusprig.specs.declared.handed.words.HandedReading.{HandedReading}
 use Rattle.ledusprig.specs.declared.handed.words.HandedComparison.{HandedComparison}
@@ -27,6 +29,7 @@ use Rattle.ledusprig.specs.declared.handed.numbers.HandedWhole.{HandedWh
 use Rattle.ledusprig.specs.declared.handed.numbers.HandedNumber.{HandedNumber}
 use Rattle.ledusprig.specs.declared.handed.columns.HandedColumn.{HandedColumn}
 use Rattle.ledusprig.specs.declared.handed.columns.HandedBlock.{HandedBlock}
+use Rattle.ledusprig.specs.declared.handed.columns.HandedWriting.{HandedWriting}
 
 -- the rule that a number stands for: 0 rounds or cuts, and every other number is strict
 abbrev pub ruleOf : ℕ → Rule
@@ -74,6 +77,11 @@ abbrev pub blockHanded : Block → HandedBlock
 blockHanded (Block.Read width number count) = record { refusal = 0; width = width; number = number; count = count }
 blockHanded (Block.Refused q) = record { refusal = numberOf q; width = 0; number = 0; count = 0 }
 
+abbrev pub writingHanded : Writing → HandedWriting
+writingHanded Writing.Written = record { refusal = 0; position = 0 }
+writingHanded (Writing.Refused q) = record { refusal = numberOf q; position = 0 }
+writingHanded (Writing.RefusedAt position q) = record { refusal = numberOf q; position = position }
+
 -- ---- what every function of the face answers: the answer that the public call gives, handed over
 pub record HandsOver {Answers Handed : Type 0} (handed : Answers → Handed) (Gives : Answers → Type 0) (r : Handed) : Type 0 where
   pub answer : Answers
@@ -83,3 +91,7 @@ pub record HandsOver {Answers Handed : Type 0} (handed : Answers → Handed) (Gi
 -- the column's answer, and what its results hold after it
 unfoldable pub MovesTheColumn : ℕ → ℕ → Rule → List ℕ → List ℕ → List ℕ → Column → Type 0
 MovesTheColumn n n' rule words before after a = MovesColumn n n' rule words (length before) a × Holds n n' rule words before a after
+
+-- the writing's answer, and what its buffer holds after it
+unfoldable pub WritesTheBlock : ℕ → ℕ → List ℕ → List ℕ → List ℕ → Writing → Type 0
+WritesTheBlock n number words before after a = WritesBlock n words before a × FillsBuffer n number words before a after

@@ -13,7 +13,7 @@ call of_constant, of_largest, of_smallest, of_nar, of_limit, of_read, of_compare
     of_write_binary64, of_take_binary64;
 
 /* Those that are lent slices (lent.c). */
-call of_move_column, of_read_block;
+call of_move_column, of_read_block, of_write_block;
 
 /* The rule of writing and moving. */
 takum_rule take_rule(given *from);

@@ -1,12 +1,12 @@
 /* The calls that are lent slices. Each slice lies between guards, and what the call may not change is compared afterwards. */
 #include "calls.h"
 
-
 #include <string.h>
 
-enum { GUARDS = 8, MOST_WORDS = 600, MOST_BYTES = 1100 };
+/* An odd number of guards around a buffer leaves it at an odd address, where it may be. */
+enum { GUARDS = 8, BUFFER_GUARDS = 9, MOST_WORDS = 66000, MOST_BYTES = 1100 };
 
-/* What stands in each place of the results, and of the guards around them, before the call. */
+/* What stands in each place of the results or of the buffer, and of the guards around them, before the call. */
 static uint64_t sentinel(size_t place) {
     return 0xa5a5a5a5a5a5a5a5u ^ place;
 }
@@ -91,4 +91,57 @@ void of_read_block(given *from, answer *to) {
         put_changes(to, room, got.count);
     }
     put_difference(to, lent, copy, sizeof lent);
+}
+
+/* A buffer of `size` bytes, with its guards. */
+static uint8_t bytes[BUFFER_GUARDS + MOST_BYTES + BUFFER_GUARDS];
+
+static uint8_t *lend_buffer(size_t size) {
+    if (size > MOST_BYTES) {
+        stop("too large a buffer", "");
+    }
+    for (size_t i = 0; i < BUFFER_GUARDS + size + BUFFER_GUARDS; i++) {
+        bytes[i] = (uint8_t)sentinel(i);
+    }
+    return bytes + BUFFER_GUARDS;
+}
+
+/* Says so where a byte changed that is not one of the buffer's first `written`, of several the first. */
+static void put_changed_byte(answer *to, size_t size, size_t written) {
+    for (size_t i = 0; i < BUFFER_GUARDS + size + BUFFER_GUARDS; i++) {
+        bool may_change = i >= BUFFER_GUARDS && i < BUFFER_GUARDS + written;
+        if (!may_change && bytes[i] != (uint8_t)sentinel(i)) {
+            put_signed(to, ", with byte ", (int64_t)i - BUFFER_GUARDS);
+            put_hex(to, " of the buffer changed to ", bytes[i]);
+            return;
+        }
+    }
+}
+
+void of_write_block(given *from, answer *to) {
+    uint32_t width = take_width(from);
+    uint32_t number = (uint32_t)take_number(from);
+    static uint64_t lent[GUARDS + MOST_WORDS + GUARDS], copy[GUARDS + MOST_WORDS + GUARDS];
+    size_t count = take_words(from, lent + GUARDS, MOST_WORDS);
+    size_t lent_size = (GUARDS + count + GUARDS) * sizeof lent[0];
+    size_t size = take_size(from);
+    uint8_t *buffer = lend_buffer(size);
+    memcpy(copy, lent, lent_size);
+
+    takum_written_answer got = takum_write_block(width, number, lent + GUARDS, count, buffer, size);
+
+    bool has_position = got.refusal == TAKUM_STRAY;
+    if (put_refusal(to, got.refusal, has_position || got.position == 0)) {
+        if (has_position) {
+            put_number(to, " at ", got.position);
+        }
+        put_changed_byte(to, size, 0);
+    } else {
+        put_bytes(to, "written ", buffer, size);
+        if (got.position != 0) {
+            put(to, " beside a position that is not zero");
+        }
+        put_changed_byte(to, size, size);
+    }
+    put_difference(to, lent, copy, lent_size);
 }

@@ -26,6 +26,7 @@ static struct {
     {"take_binary64", of_take_binary64, 0},
     {"move_column", of_move_column, 0},
     {"read_block", of_read_block, 0},
+    {"write_block", of_write_block, 0},
 };
 
 /* How many failures are shown; the others are only counted. */
@@ -78,7 +79,7 @@ static void try(char *line) {
         stop("more than the call is given", from.rest);
     }
     calls[place].made++;
-    if (strcmp(got.text, expected) == 0) {
+    if (is_expected(got.text, expected)) {
         passed++;
     } else if (++failed <= MOST_SHOWN) {
         printf("from C, rounding %s: %s %s answers: %s; expected: %s\n", modes[mode], line, space + 1, got.text, expected);

@@ -92,16 +92,36 @@ size_t take_room(given *from) {
     return take_number(from);
 }
 
+size_t take_size(given *from) {
+    if (!take(from, "size")) {
+        stop("no size", from->rest);
+    }
+    return take_number(from);
+}
+
+/* How often the piece before stands there: N where `*N` follows it, or once. */
+static size_t times_at(given *from) {
+    if (*from->rest != '*') {
+        return 1;
+    }
+    from->rest++;
+    return number_at(from);
+}
+
 size_t take_words(given *from, uint64_t *words, size_t most) {
     if (take(from, "-")) {
         return 0;
     }
     size_t count = 0;
     for (;;) {
-        if (count == most) {
+        uint64_t word = number_at(from);
+        size_t times = times_at(from);
+        if (times == 0 || times > most - count) {
             stop("too many words", from->rest);
         }
-        words[count++] = number_at(from);
+        for (size_t end = count + times; count < end; count++) {
+            words[count] = word;
+        }
         if (*from->rest != ',') {
             pass_space(from);
             return count;
@@ -123,16 +143,13 @@ size_t take_bytes(given *from, uint8_t *bytes, size_t most) {
             }
             bytes[count++] = (uint8_t)(16 * digit_at(from->rest) + digit_at(from->rest + 1));
         }
-        if (*from->rest == '*') {
-            from->rest++;
-            size_t piece = count - start;
-            size_t times = number_at(from);
-            if (times == 0 || piece * times > most - start) {
-                stop("no such repeat", from->rest);
-            }
-            for (; count < start + piece * times; count++) {
-                bytes[count] = bytes[count - piece];
-            }
+        size_t piece = count - start;
+        size_t times = times_at(from);
+        if (times == 0 || piece * times > most - start) {
+            stop("no such repeat", from->rest);
+        }
+        for (; count < start + piece * times; count++) {
+            bytes[count] = bytes[count - piece];
         }
         if (*from->rest != ',') {
             pass_space(from);
@@ -188,4 +205,25 @@ void put_words(answer *to, const char *before, const uint64_t *words, size_t cou
     for (size_t i = 0; i < count; i++) {
         put_hex(to, i == 0 ? "" : ",", words[i]);
     }
+}
+
+void put_bytes(answer *to, const char *before, const uint8_t *bytes, size_t count) {
+    put(to, before);
+    for (size_t i = 0; i < count; i++) {
+        char digits[] = {"0123456789abcdef"[bytes[i] / 16], "0123456789abcdef"[bytes[i] % 16], '\0'};
+        put(to, digits);
+    }
+}
+
+bool is_expected(const char *text, const char *expected) {
+    static uint8_t bytes[2048];
+    static answer spelled;
+    given from = {expected};
+    if (!take(&from, "written")) {
+        return strcmp(text, expected) == 0;
+    }
+    size_t count = take_bytes(&from, bytes, sizeof bytes);
+    spelled.length = 0;
+    put_bytes(&spelled, "written ", bytes, count);
+    return *from.rest == '\0' && strcmp(text, spelled.text) == 0;
 }

@@ -20,8 +20,9 @@ uint64_t take_number(given *from);
 int64_t take_signed(given *from);
 uint32_t take_width(given *from);
 size_t take_room(given *from);
+size_t take_size(given *from);
 
-/* A row of words, `-` where it is empty. The answer is their number. */
+/* A row of words, each perhaps repeated, as 0x5a00,0x1*2 for 0x5a00,0x1,0x1; `-` where it is empty. The answer is their number. */
 size_t take_words(given *from, uint64_t *words, size_t most);
 
 /* The bytes of a block: pieces of hex digits, each piece perhaps repeated, as 5410,00*3 for 5410000000; `-` where there are none. */
@@ -38,6 +39,10 @@ void put_number(answer *to, const char *before, uint64_t number);
 void put_signed(answer *to, const char *before, int64_t number);
 void put_hex(answer *to, const char *before, uint64_t number);
 void put_words(answer *to, const char *before, const uint64_t *words, size_t count);
+void put_bytes(answer *to, const char *before, const uint8_t *bytes, size_t count);
+
+/* Whether the text is the one that a case expects. There the bytes after `written` may be pieces; here each byte is spelled out. */
+bool is_expected(const char *text, const char *expected);
 
 /* Ends the program: the case can't be understood. */
 void stop(const char *why, const char *text);

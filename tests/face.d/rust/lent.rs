@@ -1,12 +1,15 @@
 //! The calls that are lent slices. Each slice lies between guards, and what the call may not change is compared afterwards.
 use crate::calls::{rule, same};
-use crate::text::{put, put_words, Given};
+use crate::text::{put, put_bytes, put_words, Given};
 use std::fmt::Write;
 use ledusprig::{calls, Width};
 
 const GUARDS: usize = 8;
 
-/// What stands in each place of the results, and of the guards around them, before the call.
+/// An odd number of guards around a buffer leaves it at an odd address, where it may be.
+const BUFFER_GUARDS: usize = 9;
+
+/// What stands in each place of the results or of the buffer, and of the guards around them, before the call.
 fn sentinel(place: usize) -> u64 {
     0xA5A5_A5A5_A5A5_A5A5 ^ place as u64
 }
@@ -75,4 +78,40 @@ pub fn read_block(given: &mut Given, to: &mut String) {
     });
     put_changes(to, &row, count);
     put_difference(to, &block, &copy);
+}
+
+/// Makes a call with a buffer of `size` bytes between guards. The answer stands beside the whole row of bytes.
+fn lend_buffer<T>(size: usize, call: impl FnOnce(&mut [u8]) -> T) -> (T, Vec<u8>) {
+    let mut bytes: Vec<u8> = (0..size + 2 * BUFFER_GUARDS).map(|place| sentinel(place) as u8).collect();
+    let answer = call(&mut bytes[BUFFER_GUARDS..BUFFER_GUARDS + size]);
+    (answer, bytes)
+}
+
+/// Says so where a byte changed that is not one of the buffer's first `written`, of several the first.
+fn put_changed_byte(to: &mut String, bytes: &[u8], written: usize) {
+    let may_change = BUFFER_GUARDS..BUFFER_GUARDS + written;
+    let changed = bytes.iter().enumerate().find(|&(place, &byte)| !may_change.contains(&place) && byte != sentinel(place) as u8);
+    if let Some((place, byte)) = changed {
+        let place = place as i64 - BUFFER_GUARDS as i64;
+        write!(to, ", with byte {place} of the buffer changed to {byte:#x}").expect("a text takes all that is put");
+    }
+}
+
+pub fn write_block(given: &mut Given, to: &mut String) {
+    let (n, number) = (given.width(), given.number() as u32);
+    let (column, copy) = guarded(&given.words());
+    let (words, size) = (&column[GUARDS..column.len() - GUARDS], given.size());
+    let plain = lend_buffer(size, |buffer| calls::write_block(n, number, words, buffer));
+    let typed = lend_buffer(size, |buffer| Width::new(n)?.write_block(number, words, buffer));
+    let (answer, bytes) = same(to, plain, typed);
+    let position = answer.err().and_then(|refused| refused.position);
+    put(to, answer.map_err(|refused| refused.refusal), |to, ()| {
+        to.push_str("written ");
+        put_bytes(to, &bytes[BUFFER_GUARDS..BUFFER_GUARDS + size])
+    });
+    if let Some(position) = position {
+        write!(to, " at {position}").expect("a text takes all that is put");
+    }
+    put_changed_byte(to, &bytes, if answer.is_ok() { size } else { 0 });
+    put_difference(to, &column, &copy);
 }

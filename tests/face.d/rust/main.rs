@@ -4,10 +4,10 @@ mod lent;
 mod text;
 
 use std::io::BufRead;
-use text::{stop, Given};
+use text::{spelled_out, stop, Given};
 
 /// The calls by their names in a case.
-const CALLS: [(&str, fn(&mut Given, &mut String)); 16] = [
+const CALLS: [(&str, fn(&mut Given, &mut String)); 17] = [
     ("constant", calls::constant),
     ("largest", calls::largest),
     ("smallest", calls::smallest),
@@ -24,6 +24,7 @@ const CALLS: [(&str, fn(&mut Given, &mut String)); 16] = [
     ("take_binary64", calls::take_binary64),
     ("move_column", lent::move_column),
     ("read_block", lent::read_block),
+    ("write_block", lent::write_block),
 ];
 
 /// How many failures are shown; the others are only counted.
@@ -47,7 +48,7 @@ fn main() {
                 stop("more than the call is given", case);
             }
             made[place] += 1;
-            if answer == expected {
+            if answer == spelled_out(expected) {
                 passed += 1;
             } else {
                 failed += 1;

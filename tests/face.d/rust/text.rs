@@ -1,4 +1,5 @@
 //! The text of a case, taken apart and put together.
+use std::borrow::Cow;
 use std::fmt::Write;
 use ledusprig::Refusal;
 
@@ -11,6 +12,15 @@ pub fn stop(why: &str, text: &str) -> ! {
 /// What a call is given; its parts are taken from the front.
 pub struct Given<'a> {
     pub rest: &'a str,
+}
+
+/// A piece of a row, and how often it stands there: N where `*N` follows it, or once.
+fn repeated(piece: &str) -> (&str, usize) {
+    let (piece, times) = piece.split_once('*').unwrap_or((piece, "1"));
+    match number_of(times) as usize {
+        0 => stop("no such repeat", piece),
+        times => (piece, times),
+    }
 }
 
 fn number_of(part: &str) -> u64 {
@@ -59,6 +69,13 @@ impl<'a> Given<'a> {
         self.number() as usize
     }
 
+    pub fn size(&mut self) -> usize {
+        if self.part() != "size" {
+            stop("no size", self.rest);
+        }
+        self.number() as usize
+    }
+
     /// The pieces of a row, none where it is `-`.
     fn pieces(&mut self) -> impl Iterator<Item = &'a str> {
         let part = self.part();
@@ -66,22 +83,26 @@ impl<'a> Given<'a> {
         row.into_iter().flatten()
     }
 
+    /// A row of words, each perhaps repeated, as 0x5a00,0x1*2 for 0x5a00,0x1,0x1.
     pub fn words(&mut self) -> Vec<u64> {
-        self.pieces().map(number_of).collect()
+        let mut words = Vec::new();
+        for (word, times) in self.pieces().map(repeated) {
+            words.resize(words.len() + times, number_of(word));
+        }
+        words
     }
 
     /// The bytes of a block: pieces of hex digits, each piece perhaps repeated, as 5410,00*3 for 5410000000.
     pub fn bytes(&mut self) -> Vec<u8> {
         let mut bytes = Vec::new();
-        for piece in self.pieces() {
-            let (digits, times) = piece.split_once('*').unwrap_or((piece, "1"));
+        for (digits, times) in self.pieces().map(repeated) {
             if digits.len() % 2 != 0 {
-                stop("half a byte", piece);
+                stop("half a byte", digits);
             }
-            let byte = |at: usize| u8::from_str_radix(&digits[at..at + 2], 16).unwrap_or_else(|_| stop("no byte", piece));
+            let byte = |at: usize| u8::from_str_radix(&digits[at..at + 2], 16).unwrap_or_else(|_| stop("no byte", digits));
             let start = bytes.len();
             bytes.extend((0..digits.len()).step_by(2).map(byte));
-            for _ in 1..number_of(times) {
+            for _ in 1..times {
                 bytes.extend_from_within(start..start + digits.len() / 2);
             }
         }
@@ -134,4 +155,20 @@ pub fn put_words(to: &mut String, words: &[u64]) -> std::fmt::Result {
         write!(to, "{}{word:#x}", if place == 0 { "" } else { "," })?;
     }
     Ok(())
+}
+
+pub fn put_bytes(to: &mut String, bytes: &[u8]) -> std::fmt::Result {
+    bytes.iter().try_for_each(|byte| write!(to, "{byte:02x}"))
+}
+
+/// The answer that a case expects, as the calls put it: the bytes after `written`, which may be pieces, spelled out.
+pub fn spelled_out(expected: &str) -> Cow<'_, str> {
+    let Some(pieces) = expected.strip_prefix("written ") else {
+        return Cow::Borrowed(expected);
+    };
+    let mut given = Given { rest: pieces };
+    let mut spelled = String::from("written ");
+    put_bytes(&mut spelled, &given.bytes()).expect("a text takes all that is put");
+    spelled.push_str(given.rest);
+    Cow::Owned(spelled)
 }

@@ -1,8 +1,9 @@
-// What the calls over lent slices hand over: of a moved column, and of a block that was read.
+// What the calls over lent slices hand over: of a moved column, of a block that was written, and of one that was read.
 use column::moving::Column;
 use sheet::block::Block;
+use sheet::writing::Writing;
 ghost use mathlib.Core.Path.{_≡_};
-ghost use Rattle.ledusprig.specs.Handed.{columnHanded, blockHanded};
+ghost use Rattle.ledusprig.specs.Handed.{columnHanded, blockHanded, writingHanded};
 
 // The position of the word that was refused; 0 where no word was.
 #[repr(C)]
@@ -30,6 +31,32 @@ pub(crate) fn hand_column(answer: Column) -> HandedColumn
             refusal: refusal.number(),
             position,
             moved: 0,
+        },
+    }
+}
+
+// The position of the word that was refused; 0 where no word was.
+#[repr(C)]
+pub struct HandedWriting {
+    pub refusal: u32,
+    pub position: usize,
+}
+
+pub(crate) fn hand_writing(answer: Writing) -> HandedWriting
+    ensures { λ r. ⌜ r ≡ writingHanded answer ⌝ }
+{
+    match answer {
+        Writing::Written => HandedWriting {
+            refusal: 0,
+            position: 0,
+        },
+        Writing::Refused(q) => HandedWriting {
+            refusal: q.number(),
+            position: 0,
+        },
+        Writing::RefusedAt { position, refusal } => HandedWriting {
+            refusal: refusal.number(),
+            position,
         },
     }
 }

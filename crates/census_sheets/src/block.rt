@@ -34,7 +34,7 @@ pub(crate) fn full_of(w: u32) -> u32
 }
 
 // How many bytes a word of a block width has.
-fn bytes_of(w: u32) -> usize
+pub(crate) fn bytes_of(w: u32) -> usize
     ensures { λ r. ⌜ (1 ≤ r) × (r ≤ 8) ⌝ }
 {
     match w {

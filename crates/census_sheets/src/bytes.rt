@@ -42,7 +42,7 @@ fn byte_at(block: &[u8; 520], at: usize) -> u64
     wide(block[at])
 }
 
-fn wide(x: u8) -> u64 {
+pub(crate) fn wide(x: u8) -> u64 {
     x as u64
 }
 

@@ -11,6 +11,10 @@ use crate::faults::take_faults;
 use crate::numbered::change_numbers;
 use crate::reading::take_reading;
 use crate::reading::take_reading_of;
+use crate::written::take_again;
+use crate::written::take_numbered;
+use crate::written::take_unwritten;
+use crate::written::take_width;
 use census::bits::bounded;
 use census::digest::scramble;
 use census::run::Run;
@@ -36,6 +40,10 @@ fn take_change(change: Change, run: Run, block: [u8; 520], w: u32, place: u64) -
         Change::Mark => undrawn(run, take_mark(run.digest, block, place)),
         Change::Size => undrawn(run, take_size(run.digest, block, w, place)),
         Change::Number => undrawn(run, take_number(run.digest, block, place)),
+        Change::Unwritten => undrawn(run, take_unwritten(run.digest, w, place)),
+        Change::WrittenWidth => undrawn(run, take_width(run.digest, w, place)),
+        Change::WrittenNumber => undrawn(run, take_numbered(run.digest, w, place)),
+        Change::Again => take_again(run, w, place),
     }
 }
 
@@ -102,10 +110,10 @@ fn size_at(place: u64) -> usize
 
 // Part 40: the block has another number.
 fn take_number(digest: u64, block: [u8; 520], place: u64) -> u64 {
-    take_sealed(digest, put(block, 4, 4, block_number_at(place)), 3)
+    take_sealed(digest, put(block, 4, 4, block_number_at(place) as u64), 3)
 }
 
-fn block_number_at(place: u64) -> u64 {
+pub(crate) fn block_number_at(place: u64) -> u32 {
     match place {
         0 => 0,
         1 => 1,

@@ -1,11 +1,11 @@
-// What parts 33 to 37, 39 and 40 change in a block from place to place: its places, how they run, and the block that is changed.
+// What parts 33 to 37, 39, 40 and 47 to 50 change from place to place: its places, how they run, and the block that is changed.
 use crate::block::Drawn;
 use crate::block::draw_block;
 use crate::block::full_of;
 use census::digest::sequence;
 ghost use Prim.Native.Nat.{_≤_};
 
-// Sums has the KIND of part 34. At a WidthByte the number that goes with the change is no width, but the count of part 36.
+// Sums has the KIND of part 34. At a WidthByte and a WrittenWidth the number that goes with the change is no width, but the count of part 36 or 48.
 pub(crate) enum Change {
     Byte,
     Sums(u32),
@@ -14,9 +14,13 @@ pub(crate) enum Change {
     Mark,
     Size,
     Number,
+    Unwritten,
+    WrittenWidth,
+    WrittenNumber,
+    Again,
 }
 
-pub(crate) fn end_of(change: Change) -> u64 {
+pub(crate) fn end_of(change: Change, w: u32) -> u64 {
     match change {
         Change::Byte => 512,
         Change::Sums(kind) => end_of_kind(kind),
@@ -25,6 +29,10 @@ pub(crate) fn end_of(change: Change) -> u64 {
         Change::Mark => 256,
         Change::Size => 10,
         Change::Number => 9,
+        Change::Unwritten => 16,
+        Change::WrittenWidth => 263,
+        Change::WrittenNumber => 9,
+        Change::Again => full_of(w) as u64 + 1,
     }
 }
 
@@ -45,6 +53,7 @@ pub(crate) fn longest_run(change: Change) -> u64
     match change {
         Change::Byte => 64,
         Change::Fault => 16,
+        Change::Again => 64,
         _ => 256,
     }
 }
@@ -70,7 +79,7 @@ fn start_of(change: Change) -> u64
     }
 }
 
-// Where only a head is wanted, no word is drawn.
+// Where only a head is wanted, or no block, no word is drawn.
 fn count_of(change: Change, w: u32) -> u32 {
     match change {
         Change::Byte => full_of(w) / 2,

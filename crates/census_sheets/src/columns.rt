@@ -1,12 +1,12 @@
 // A column: its words, drawn from a sequence, and the moves of it with a result slice of some length.
 use crate::row::BESIDE;
 use crate::row::fill_row;
+use crate::row::take_refusal_at;
 use crate::row::take_row;
 use bounds::width::Width;
 use census::bits::low_bits;
 use census::bits::power_of_two;
 use census::digest::scramble;
-use census::digest::take;
 use census::digest::take_kind;
 use census::digest::take_refusal;
 use column::moving::Column;
@@ -127,9 +127,6 @@ fn take_column(digest: u64, column: Column) -> u64 {
     match column {
         Column::Moved(count) => take_kind(digest, 0, count as u64),
         Column::Refused(refusal) => take_refusal(digest, refusal),
-        Column::RefusedAt { position, refusal } => {
-            let numbered = take_kind(digest, 4, refusal.number() as u64);
-            take(numbered, position as u64)
-        }
+        Column::RefusedAt { position, refusal } => take_refusal_at(digest, position, refusal),
     }
 }

@@ -23,7 +23,7 @@ const OF_FILL: u64 = 32;
 const OF_ROOM: u64 = 64;
 
 // How often a set has a fault of the sum on the page: once or not at all.
-fn times_in(faults: u64, fault: u64) -> u64
+pub(crate) fn times_in(faults: u64, fault: u64) -> u64
     requires { ⌜ 1 ≤ fault ⌝ }
     ensures { λ r. ⌜ r ≤ 1 ⌝ }
 {
@@ -46,13 +46,16 @@ fn spoil(block: [u8; 520], w: u32, faults: u64) -> [u8; 520]
 {
     let marked = put(block, 0, 1, MARK + times_in(faults, OF_MARK));
     let wide = put(marked, 1, 1, w as u64 + 4 * times_in(faults, OF_WIDTH));
-    let counted = put(wide, 2, 2, count_of(w, faults) as u64);
+    let counted = put(wide, 2, 2, count_of(w, times_in(faults, OF_COUNT)) as u64);
     let filled = put(counted, 503, 1, times_in(faults, OF_FILL));
     flip(seal(filled), 508, times_in(faults, OF_CHECK) as u8)
 }
 
-fn count_of(w: u32, faults: u64) -> u32 {
-    if times_in(faults, OF_COUNT) == 1 {
+// Half as many words as there is room for, or one more than there is.
+pub(crate) fn count_of(w: u32, too_many: u64) -> u32
+    ensures { λ r. ⌜ r ≤ 1000 ⌝ }
+{
+    if too_many == 1 {
         return full_of(w) + 1;
     }
     full_of(w) / 2

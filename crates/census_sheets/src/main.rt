@@ -1,9 +1,11 @@
 // The census of sheets: the lines of columns and blocks that docs/CENSUS.md fixes and an independent program prints too.
 mod block;
+mod buffer;
 mod bytes;
 mod changed;
 mod changes;
 mod columns;
+mod contents;
 mod counts;
 mod faults;
 mod lengths;
@@ -14,7 +16,10 @@ mod planted;
 mod reading;
 mod row;
 mod runs;
+mod strayed;
 mod uncolumned;
+mod writing;
+mod written;
 
 use crate::changes::Change;
 use crate::lengths::print_drawn_columns;
@@ -28,6 +33,7 @@ use crate::uncolumned::print_bad_widths;
 fn main() {
     print_columns();
     print_blocks();
+    print_written_blocks();
 }
 
 // Parts 28 to 31.
@@ -50,4 +56,16 @@ fn print_blocks() {
     print_part(b"fill", Part::Fills);
     print_part(b"size", Part::Line(Change::Size));
     print_part(b"number", Part::Line(Change::Number));
+}
+
+// Parts 45 to 50.
+fn print_written_blocks() {
+    print_part(b"written", Part::Written);
+    print_part(b"strayed", Part::Strayed);
+    print_part(b"unwritten", Part::Line(Change::Unwritten));
+    print_one_line(b"writtenwidth", Change::WrittenWidth, 0);
+    print_one_line(b"writtenwidth", Change::WrittenWidth, 1);
+    print_one_line(b"writtenwidth", Change::WrittenWidth, 63);
+    print_part(b"writtennumber", Part::Line(Change::WrittenNumber));
+    print_part(b"again", Part::Runs(Change::Again));
 }

@@ -1,5 +1,7 @@
 // The parts that go from width to width: over every width, and over those of blocks.
 use crate::changes::Change;
+use crate::contents::print_strayed;
+use crate::contents::print_written;
 use crate::counts::print_blocks;
 use crate::counts::print_fills;
 use crate::pairs::print_pairs;
@@ -16,6 +18,8 @@ pub(crate) enum Part {
     Blocks,
     Sums,
     Fills,
+    Written,
+    Strayed,
 }
 
 // Part 31.
@@ -44,5 +48,7 @@ fn print_at(name: &[u8], part: Part, w: u32)
         Part::Blocks => print_blocks(name, w),
         Part::Sums => print_sums(name, w),
         Part::Fills => print_fills(name, w),
+        Part::Written => print_written(name, w),
+        Part::Strayed => print_strayed(name, w),
     }
 }

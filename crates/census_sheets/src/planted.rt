@@ -42,7 +42,7 @@ fn take_at_two(start: u64, column: &[u64; 1000], shape: Shape, p: usize, q: usiz
 }
 
 // The bit worth 2^a. At width 64 there is none.
-fn stray_bit(from: u32) -> u64 {
+pub(crate) fn stray_bit(from: u32) -> u64 {
     if from < 64 {
         return power_of_two(from);
     }
@@ -61,10 +61,24 @@ fn take_way(
 ) -> u64
     requires { ⌜ (1 ≤ shape .length) × (shape .length ≤ 1000) × (p < 1000) × (q < 1000) ⌝ }
 {
+    let planted = plant(column, p, bits_at_p, q, bits_at_q);
+    take_three_moves(digest, &planted, shape)
+}
+
+// The column with bits set at p and at q.
+pub(crate) fn plant(
+    column: &[u64; 1000],
+    p: usize,
+    bits_at_p: u64,
+    q: usize,
+    bits_at_q: u64,
+) -> [u64; 1000]
+    requires { ⌜ (p < 1000) × (q < 1000) ⌝ }
+{
     let mut planted = *column;
     planted[p] = planted[p] | bits_at_p;
     planted[q] = planted[q] | bits_at_q;
-    take_three_moves(digest, &planted, shape)
+    planted
 }
 
 fn take_three_moves(digest: u64, column: &[u64; 1000], shape: Shape) -> u64

@@ -10,6 +10,13 @@ use sheet::block::read_block;
 ghost use Prim.Native.Nat.{_≤_};
 ghost use lib.ListN.{length};
 
+// The digest after a call, the row as the call has left it, and the call's answer.
+pub(crate) struct Reading {
+    pub(crate) digest: u64,
+    pub(crate) row: [u64; 1024],
+    pub(crate) block: Block,
+}
+
 // With each of the rooms around a number of words.
 pub(crate) fn take_readings_around(start: u64, block: [u8; 520], words: usize) -> u64
     requires { ⌜ words ≤ 1000 ⌝ }
@@ -34,17 +41,29 @@ pub(crate) fn take_reading(digest: u64, block: [u8; 520], room: usize) -> u64
 pub(crate) fn take_reading_of(digest: u64, bytes: [u8; 520], lent: usize, room: usize) -> u64
     requires { ⌜ (lent ≤ 520) × (room ≤ 1008) ⌝ }
 {
-    take_lent(digest, &bytes, lent, room)
+    let reading = read_bytes(digest, bytes, lent, room);
+    reading.digest
 }
 
-fn take_lent(digest: u64, bytes: &[u8], lent: usize, room: usize) -> u64
+pub(crate) fn read_bytes(digest: u64, bytes: [u8; 520], lent: usize, room: usize) -> Reading
+    requires { ⌜ (lent ≤ 520) × (room ≤ 1008) ⌝ }
+{
+    read_lent(digest, &bytes, lent, room)
+}
+
+pub(crate) fn read_lent(digest: u64, bytes: &[u8], lent: usize, room: usize) -> Reading
     requires { ⌜ (lent ≤ length (now bytes)) × (room ≤ 1008) ⌝ }
 {
     let mut row = [0u64; 1024];
     fill_row(&mut row);
     let end = BESIDE + room;
     let block = read_block(&bytes[..lent], &mut row[BESIDE..end]);
-    take_row(take_block(digest, block), &row, end + BESIDE)
+    let after_answer = take_block(digest, block);
+    Reading {
+        digest: take_row(after_answer, &row, end + BESIDE),
+        row,
+        block,
+    }
 }
 
 fn take_block(digest: u64, block: Block) -> u64 {

@@ -1,6 +1,8 @@
 // The row of a call: sentinels before it, of which the inner ones are lent as results, and all taken in after it.
+use bounds::refusal::Refusal;
 use census::bits::ALL_BITS;
 use census::digest::take;
+use census::digest::take_kind;
 ghost use mathlib.Core.Path.{_≡_};
 ghost use Prim.Native.Nat.{_≤_};
 ghost use lib.ListN.{length};
@@ -32,4 +34,10 @@ pub(crate) fn take_row(start: u64, row: &[u64; 1024], count: usize) -> u64
         i += 1;
     }
     digest
+}
+
+// The answer of a call that refuses the word at a position.
+pub(crate) fn take_refusal_at(digest: u64, position: usize, refusal: Refusal) -> u64 {
+    let numbered = take_kind(digest, 4, refusal.number() as u64);
+    take(numbered, position as u64)
 }

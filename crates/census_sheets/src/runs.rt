@@ -5,6 +5,7 @@ use crate::changes::draw_for;
 use crate::changes::end_of;
 use crate::changes::longest_run;
 use census::digest::EMPTY;
+use census::digest::sequence;
 use census::line::print_of_one;
 use census::line::print_of_three;
 use census::line::print_of_two;
@@ -15,7 +16,7 @@ ghost use Prim.Native.Nat.{_≤_};
 pub(crate) fn print_runs(name: &[u8], change: Change, w: u32)
     requires { ⌜ w ≤ 64 ⌝ }
 {
-    let end = end_of(change);
+    let end = end_of(change, w);
     let mut state = first_state(change, w);
     let mut first = 0;
     while first < end {
@@ -25,10 +26,13 @@ pub(crate) fn print_runs(name: &[u8], change: Change, w: u32)
     }
 }
 
-// The sequence goes on after the block that it has drawn.
+// The sequence goes on after the block that it has drawn. Part 50 has none, and draws a block at each place.
 fn first_state(change: Change, w: u32) -> u64
     requires { ⌜ w ≤ 64 ⌝ }
 {
+    if let Change::Again = change {
+        return sequence(51_000 + w as u64);
+    }
     let drawn = draw_for(change, w);
     drawn.state
 }
@@ -46,7 +50,7 @@ fn print_run(name: &[u8], change: Change, w: u32, first: u64, stop: u64, state: 
 pub(crate) fn print_one_line(name: &[u8], change: Change, w: u32)
     requires { ⌜ w ≤ 64 ⌝ }
 {
-    let run = take_run(change, w, 0, end_of(change), first_state(change, w));
+    let run = take_run(change, w, 0, end_of(change, w), first_state(change, w));
     print_of_one(name, w, run.digest);
 }
 
@@ -65,7 +69,7 @@ fn print_kind(name: &[u8], w: u32, kind: u32, state: u64) -> u64
     requires { ⌜ w ≤ 64 ⌝ }
 {
     let change = Change::Sums(kind);
-    let run = take_run(change, w, 0, end_of(change), state);
+    let run = take_run(change, w, 0, end_of(change, w), state);
     print_of_two(name, w, kind, run.digest);
     run.state
 }

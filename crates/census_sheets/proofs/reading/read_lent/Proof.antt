@@ -1,10 +1,10 @@
--- `take_lent` is safe: the results are within the row. Assumes nothing.
+-- `read_lent` is safe: the results are within the row. Assumes nothing.
 use mathlib.Core.Path.{sym}
 use native.Mathlib.Omega.{arith}
 use lib.Seq.{length-take-le}
 use borrow.Author.Needs.{needs}
-use Rattle.census_sheets.proofs.reading.take_lent.Statement.{statement}
-use Rattle.census_sheets.proofs.reading.take_lent.Tie as tie
+use Rattle.census_sheets.proofs.reading.read_lent.Statement.{statement}
+use Rattle.census_sheets.proofs.reading.read_lent.Tie as tie
 
 fill-row-requires : tie.Need-fill-row-requires
 fill-row-requires c κs = search needs
@@ -39,8 +39,8 @@ take-row-requires c κs = search needs
 returns : tie.Need-returns
 returns c = search needs
 
-pub take-lent-spec : {M : Type 1} → statement M
-take-lent-spec =
+pub read-lent-spec : {M : Type 1} → statement M
+read-lent-spec =
     tie.close
     (tie.spec
     fill-row-requires

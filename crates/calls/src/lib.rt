@@ -2,8 +2,10 @@
 // exported function's contract to go by.
 use ledusprig::columns::takum_move_column;
 use ledusprig::columns::takum_read_block;
+use ledusprig::columns::takum_write_block;
 use ledusprig::handed::columns::HandedBlock;
 use ledusprig::handed::columns::HandedColumn;
+use ledusprig::handed::columns::HandedWriting;
 use ledusprig::handed::numbers::HandedNumber;
 use ledusprig::handed::numbers::HandedWhole;
 use ledusprig::handed::widths::HandedLimit;
@@ -23,7 +25,7 @@ use ledusprig::words::takum_move;
 use ledusprig::words::takum_negate;
 use ledusprig::words::takum_read;
 use ledusprig::words::takum_write;
-ghost use Rattle.promises.specs.Face.{isStrict, HandsLargest, HandsSmallest, HandsNaR, HandsLimit, HandsReading, HandsComparison, HandsNegated, HandsWritten, HandsMoved, HandsWholeWritten, HandsWhole, HandsBinary64Written, HandsNumber, HandsColumn, HandsBlock};
+ghost use Rattle.promises.specs.Face.{isStrict, HandsLargest, HandsSmallest, HandsNaR, HandsLimit, HandsReading, HandsComparison, HandsNegated, HandsWritten, HandsMoved, HandsWholeWritten, HandsWhole, HandsBinary64Written, HandsNumber, HandsColumn, HandsBlock, HandsBlockWritten};
 
 pub fn call_largest(n: u32) -> HandedWord
     ensures { λ r. ⌜ HandsLargest n r ⌝ }
@@ -119,4 +121,10 @@ pub fn call_read_block(block: &[u8], results: &mut [u64]) -> HandedBlock
     ensures { λ r. ⌜ HandsBlock (now (block .entry)) (now (results .entry)) (now (results .exit)) r ⌝ }
 {
     takum_read_block(block, results)
+}
+
+pub fn call_write_block(width: u32, number: u32, words: &[u64], buffer: &mut [u8]) -> HandedWriting
+    ensures { λ r. ⌜ HandsBlockWritten width number (now (words .entry)) (now (buffer .entry)) (now (buffer .exit)) r ⌝ }
+{
+    takum_write_block(width, number, words, buffer)
 }

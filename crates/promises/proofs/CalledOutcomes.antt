@@ -30,6 +30,7 @@ use Rattle.whole.specs.Wholes.{IsWholePart}
 use Rattle.whole.proofs.WholeParts.{one-whole-part}
 use Rattle.binary64.specs.Nearest.{NearestBinary64}
 use Rattle.sheet.specs.Layout as block
+use Rattle.sheet.proofs.SameContent.{same-bytes}
 use Rattle.ledusprig.specs.declared.handed.words.HandedWord.{HandedWord}
 use Rattle.ledusprig.specs.declared.handed.words.HandedReading.{HandedReading}
 use Rattle.ledusprig.specs.declared.handed.words.HandedComparison.{HandedComparison}
@@ -38,11 +39,12 @@ use Rattle.ledusprig.specs.declared.handed.numbers.HandedWhole.{HandedWhole}
 use Rattle.ledusprig.specs.declared.handed.numbers.HandedNumber.{HandedNumber}
 use Rattle.ledusprig.specs.declared.handed.columns.HandedColumn.{HandedColumn}
 use Rattle.ledusprig.specs.declared.handed.columns.HandedBlock.{HandedBlock}
+use Rattle.ledusprig.specs.declared.handed.columns.HandedWriting.{HandedWriting}
 use Rattle.ledusprig.specs.Handed.{readingHanded}
 use Rattle.promises.specs.Nearest.{OneNumberIsTheNearest}
 use Rattle.promises.specs.Numbers.{IsWhole}
-use Rattle.promises.specs.Refusals.{Line, line, width, stray, nar, over, room, size, mark, check, blockWidth, count, fill}
-use Rattle.promises.specs.Face.{FieldFollows, NoneHolds, HandsWord, inexact, IsGiven, IsNaR, IsLargest, IsSmallest, CountsUpTo, HandsLargest, HandsSmallest, HandsNaR, HandsLimit, NoNumber, IsToldBy, HandsReading, HandsComparison, HandsNegated, HandsValue, HandsWritten, HandsWholeWritten, HandsBinary64Written, HandsWhole, HandsNumber, wordLines, IsMovedTo, HandsMoved, MovedAll, RefusedAtPosition, HandsColumn, HandsBlock}
+use Rattle.promises.specs.Refusals.{Line, line, width, stray, nar, over, room, size, mark, check, blockWidth, count, fill, writtenWidth, writtenCount}
+use Rattle.promises.specs.Face.{FieldFollows, NoneHolds, HandsWord, inexact, IsGiven, IsNaR, IsLargest, IsSmallest, CountsUpTo, HandsLargest, HandsSmallest, HandsNaR, HandsLimit, NoNumber, IsToldBy, HandsReading, HandsComparison, HandsNegated, HandsValue, HandsWritten, HandsWholeWritten, HandsBinary64Written, HandsWhole, HandsNumber, wordLines, IsMovedTo, HandsMoved, MovedAll, RefusedAtPosition, HandsColumn, HandsBlock, WrittenAll, StrayAtPosition, HandsBlockWritten}
 use Rattle.promises.proofs.Nearest.{one-number-is-the-nearest}
 
 -- ---- for every struct
@@ -249,3 +251,26 @@ block-called-one b before after after' r s = follows-one (size b ∷ mark b ∷ 
   where
     by : {width number count : ℕ} {words : List ℕ} → r .refusal ≡ s .refusal → (r .width ≡ width) × (r .number ≡ number) × (r .count ≡ count) × (after ≡ words) → (s .width ≡ width) × (s .number ≡ number) × (s .count ≡ count) × (after' ≡ words) → (r ≡ s) × (after ≡ after')
     by e (f, g, h, a) (f', g', h', b) = (λ i. record { refusal = e i; width = both f f' i; number = both g g' i; count = both h h' i }, both a b)
+
+-- ---- a written block
+module _ (n number : ℕ) (words before : List ℕ) where
+  stray-later : (k : ℕ) (after : List ℕ) (r : HandedWriting) → ((i : ℕ) → i < k → NoneHolds (stray n (getD words i 0) ∷ [])) → StrayAtPosition n number words before after r → k ≤ r .position
+  stray-later k after r none x = not-more (λ h. refused-somewhere (stray n (getD words (r .position) 0) ∷ []) (r .refusal) _ (none (r .position) h) (x .is))
+
+  pub block-written-called-one : (after after' : List ℕ) (r s : HandedWriting) → HandsBlockWritten n number words before after r → HandsBlockWritten n number words before after' s → (r ≡ s) × (after ≡ after')
+  unfolding HandsBlockWritten
+  block-written-called-one after after' r s = follows-one (writtenWidth n ∷ writtenCount n (length words) ∷ size before ∷ []) (λ e (f, a) (f', b). (same e (both f f'), both a b)) (λ none. by)
+    where
+      same : r .refusal ≡ s .refusal → r .position ≡ s .position → r ≡ s
+      same e f = λ i. record { refusal = e i; position = f i }
+
+      both-stray : StrayAtPosition n number words before after r → StrayAtPosition n number words before after' s → (r ≡ s) × (after ≡ after')
+      both-stray x y =
+          let there : r .position ≡ s .position = le-antisymm (stray-later (r .position) after' s (x .lowest) y) (stray-later (s .position) after r (y .lowest) x) in
+          follows-one (stray n (getD words (r .position) 0) ∷ []) (λ e a b. (same e there, both a b)) (λ none z z'. absurd z) (x .is) (subst (λ (p : ℕ). FieldFollows (s .refusal) (stray n (getD words p 0) ∷ []) (after' ≡ before) ⊥) (sym there) (y .is))
+
+      by : WrittenAll n number words before after r ⊎ StrayAtPosition n number words before after r → WrittenAll n number words before after' s ⊎ StrayAtPosition n number words before after' s → (r ≡ s) × (after ≡ after')
+      by (inl x) (inl y) = (same (both (x .refusal) (y .refusal)) (both (x .position) (y .position)), same-bytes n number words after after' (x .block) (y .block))
+      by (inl x) (inr y) = absurd (omega (arith, y .inside, stray-later (length words) after' s (x .none) y))
+      by (inr x) (inl y) = absurd (omega (arith, x .inside, stray-later (length words) after r (y .none) x))
+      by (inr x) (inr y) = both-stray x y

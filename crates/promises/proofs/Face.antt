@@ -8,9 +8,10 @@ use native.Mathlib.Omega.{arith}
 use lib.ListN.{length, getD}
 use Rattle.bounds.specs.declared.refusal.Refusal.the-variants.{Width, Stray, Nar, Inexact, Over, Room, Size, Mark, Check, Count, Fill}
 use Rattle.ledusprig.specs.declared.handed.columns.HandedColumn.{HandedColumn}
-use Rattle.promises.specs.Refusals.{Line, line}
+use Rattle.ledusprig.specs.declared.handed.columns.HandedWriting.{HandedWriting}
+use Rattle.promises.specs.Refusals.{Line, line, stray}
 use Rattle.promises.specs.Face as promise
-use Rattle.promises.specs.Face.{FieldFollows, wordLines, MovedAll, RefusedAtPosition, HandsColumn, HandsBlock}
+use Rattle.promises.specs.Face.{FieldFollows, wordLines, MovedAll, RefusedAtPosition, HandsColumn, HandsBlock, WrittenAll, StrayAtPosition, HandsBlockWritten}
 
 pub refusal-numbers-are-1-to-11 : promise.RefusalNumbersAre1To11
 unfolding promise.RefusalNumbersAre1To11
@@ -67,13 +68,49 @@ module _ (n n' : ℕ) (strict : Bool) (words before after : List ℕ) (r : Hande
       by (inr (inl x)) = absurd (some (x .position))
       by (inr (inr x)) = (of-a-word x, x .inside)
 
+-- ---- a written block: refused as a whole, written, or refused at a position
+module _ (n number : ℕ) (words before after : List ℕ) (r : HandedWriting) (h : HandsBlockWritten n number words before after r) where
+  -- the line of a word is STRAY
+  at-stray : StrayAtPosition n number words before after r → (r .refusal ≡ 2) × (after ≡ before)
+  unfolding FieldFollows
+  at-stray x = by (x .is)
+    where
+      by : FieldFollows (r .refusal) (stray n (getD words (r .position) 0) ∷ []) (after ≡ before) ⊥ → (r .refusal ≡ 2) × (after ≡ before)
+      by (inl y) = (y .1, y .2)
+      by (inr y) = absurd (y .1)
+
+  Tried : Type 0
+  Tried = ((r .position ≡ 0) × (after ≡ before)) ⊎ (WrittenAll n number words before after r ⊎ StrayAtPosition n number words before after r)
+
+  buffer-kept : (r .refusal ≡ 0 → ⊥) → after ≡ before
+  unfolding HandsBlockWritten Tried
+  buffer-kept some = by (either _ _ _ _ h)
+    where
+      by : Tried → after ≡ before
+      by (inl x) = x .1
+      by (inr (inl x)) = absurd (some (x .refusal))
+      by (inr (inr x)) = at-stray x .1
+
+  with-stray : (r .position ≡ 0 → ⊥) → (r .refusal ≡ 2) × (r .position < length words)
+  unfolding HandsBlockWritten Tried
+  with-stray some = by (either _ _ _ _ h)
+    where
+      by : Tried → (r .refusal ≡ 2) × (r .position < length words)
+      by (inl x) = absurd (some (x .0))
+      by (inr (inl x)) = absurd (some (x .position))
+      by (inr (inr x)) = (at-stray x .0, x .inside)
+
+pub a-writes-position-comes-only-with-stray : promise.AWritesPositionComesOnlyWithStray
+unfolding promise.AWritesPositionComesOnlyWithStray
+a-writes-position-comes-only-with-stray = with-stray
+
 pub a-position-comes-only-with-a-words-refusal : promise.APositionComesOnlyWithAWordsRefusal
 unfolding promise.APositionComesOnlyWithAWordsRefusal
 a-position-comes-only-with-a-words-refusal = with-a-word
 
 pub refused-calls-write-nothing : promise.RefusedCallsWriteNothing
 unfolding promise.RefusedCallsWriteNothing HandsBlock
-refused-calls-write-nothing = (kept, λ b before after r h some. by (either _ _ _ _ h) some)
+refused-calls-write-nothing = (kept, λ b before after r h some. by (either _ _ _ _ h) some, buffer-kept)
   where
     by : {R A B C D K : Type 0} → (A × B × C × K) ⊎ (R × D) → (R → ⊥) → K
     by (inl x) some = x .3

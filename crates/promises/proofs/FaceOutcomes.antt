@@ -1,4 +1,4 @@
--- What the face hands over is one thing, for each of its functions: the public call's answer is one, and so are a column's results. Assumes nothing.
+-- What the face hands over is one thing, for each of its functions: the public call's answer is one, and so is what is left in a lent slice. Assumes nothing.
 use mathlib.Core.Path.{_≡_, sym, subst}
 use mathlib.Core.List.{List}
 use Prim.Native.Nat.{ℕ}
@@ -17,11 +17,14 @@ use Rattle.binary64.specs.Takes.{TakesBinary64}
 use Rattle.binary64.specs.Writes.{WritesBinary64}
 use Rattle.column.specs.declared.moving.Column.{Column}
 use Rattle.column.specs.Columns.{MovesColumn, Holds}
+use Rattle.sheet.specs.declared.writing.Writing.{Writing}
 use Rattle.sheet.specs.Reads.{ReadsBlock}
+use Rattle.sheet.specs.Writes.{WritesBlock, FillsBuffer}
 use Rattle.ledusprig.specs.declared.handed.columns.HandedColumn.{HandedColumn}
-use Rattle.ledusprig.specs.Handed.{HandsOver, MovesTheColumn, wordHanded, readingHanded, comparisonHanded, limitHanded, wholeHanded, numberHanded, columnHanded, blockHanded}
+use Rattle.ledusprig.specs.declared.handed.columns.HandedWriting.{HandedWriting}
+use Rattle.ledusprig.specs.Handed.{HandsOver, MovesTheColumn, WritesTheBlock, wordHanded, readingHanded, comparisonHanded, limitHanded, wholeHanded, numberHanded, columnHanded, blockHanded, writingHanded}
 use Rattle.ledusprig.proofs.OneOutcome.{hands-over-one}
-use Rattle.promises.proofs.OneOutcome.{gives-word-one, gives-limit-one, reads-one, compares-one, negates-one, writes-one, moves-one, writes-whole-one, takes-whole-one, writes-binary64-one, takes-binary64-one, moves-column-one, holds-one, reads-block-one}
+use Rattle.promises.proofs.OneOutcome.{gives-word-one, gives-limit-one, reads-one, compares-one, negates-one, writes-one, moves-one, writes-whole-one, takes-whole-one, writes-binary64-one, takes-binary64-one, moves-column-one, holds-one, reads-block-one, writes-block-one, fills-buffer-one}
 
 -- two outcomes of a function whose contract is HandsOver handed Gives are equal
 abbrev pub One : {Answers Handed : Type 0} → (Answers → Handed) → (Answers → Type 0) → Type 0
@@ -71,3 +74,11 @@ column-handed-one n n' rule words before after after' r s p q = (hands-over-one 
   where
     one : (a b : Column) → MovesColumn n n' rule words (length before) a → MovesColumn n n' rule words (length before) b → a ≡ b
     one = moves-column-one n n' rule words (length before)
+
+-- a written block, with what its buffer holds afterwards
+pub block-written-handed-one : (n number : ℕ) (words before after after' : List ℕ) (r s : HandedWriting) → HandsOver writingHanded (WritesTheBlock n number words before after) r → HandsOver writingHanded (WritesTheBlock n number words before after') s → (r ≡ s) × (after ≡ after')
+unfolding WritesTheBlock
+block-written-handed-one n number words before after after' r s p q = (hands-over-one p q (λ a b x y. one a b (x .0) (y .0)), fills-buffer-one n number words before (q .answer) after after' (subst (λ (a : Writing). FillsBuffer n number words before a after) (one (p .answer) (q .answer) (p .given .0) (q .given .0)) (p .given .1)) (q .given .1))
+  where
+    one : (a b : Writing) → WritesBlock n words before a → WritesBlock n words before b → a ≡ b
+    one = writes-block-one n words before

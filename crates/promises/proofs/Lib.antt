@@ -53,6 +53,8 @@ pub mod FaceWords
 pub mod FaceNumbers
 -- those on lent slices, and what they leave there
 pub mod FaceSlices
+-- the one that writes a block, and what it leaves in the buffer
+pub mod FaceSheets
 -- so refusal numbers, lent memory and positions are as promised
 pub mod Face
 -- two outcomes that the contract of an exported call allows are equal

@@ -1,5 +1,5 @@
 -- What every exported call hands over, by the fields of its struct. The field `refusal` follows the table of paper 01. Where it isn't 0 all other
--- fields are zero, but for a column's position, and lent memory is as it came; where it is 0 the fields are the answer, said by value.
+-- fields are zero, but for the position of a word, and lent memory is as it came; where it is 0 the fields are the answer, said by value.
 use mathlib.Core.Path.{_≡_}
 use mathlib.Core.Bool.{Bool, true, false}
 use mathlib.Core.List.{List, [], _∷_, _++_}
@@ -19,6 +19,7 @@ use Rattle.write.specs.Writes.{isNegative}
 use Rattle.whole.specs.Wholes.{IsWholePart}
 use Rattle.binary64.specs.Nearest.{NearestBinary64}
 use Rattle.sheet.specs.Layout as block
+use Rattle.sheet.specs.Writes.{IsBlockOf}
 use Rattle.ledusprig.specs.declared.handed.words.HandedWord.{HandedWord}
 use Rattle.ledusprig.specs.declared.handed.words.HandedReading.{HandedReading}
 use Rattle.ledusprig.specs.declared.handed.words.HandedComparison.{HandedComparison}
@@ -27,8 +28,9 @@ use Rattle.ledusprig.specs.declared.handed.numbers.HandedWhole.{HandedWhole}
 use Rattle.ledusprig.specs.declared.handed.numbers.HandedNumber.{HandedNumber}
 use Rattle.ledusprig.specs.declared.handed.columns.HandedColumn.{HandedColumn}
 use Rattle.ledusprig.specs.declared.handed.columns.HandedBlock.{HandedBlock}
+use Rattle.ledusprig.specs.declared.handed.columns.HandedWriting.{HandedWriting}
 use Rattle.promises.specs.Numbers.{IsWhole}
-use Rattle.promises.specs.Refusals.{Line, line, width, stray, nar, over, room, size, mark, check, blockWidth, count, fill}
+use Rattle.promises.specs.Refusals.{Line, line, width, stray, nar, over, room, size, mark, check, blockWidth, count, fill, writtenWidth, writtenCount}
 
 -- ---- how a struct follows the table
 -- The first line that holds gives the field `refusal` its number, and Refused is so; where none holds, Then is so.
@@ -192,12 +194,35 @@ HandsBlock b before after r = Hands (r .refusal) (size b ∷ mark b ∷ check b 
     ((r .width ≡ 0) × (r .number ≡ 0) × (r .count ≡ 0) × (after ≡ before))
     ((r .width ≡ block.width b) × (r .number ≡ block.blockNumber b) × (r .count ≡ block.count b) × (after ≡ block.words b ++ drop (block.count b) before))
 
+-- ---- takum_write_block
+module _ (n number : ℕ) (words before after : List ℕ) (r : HandedWriting) where
+  -- no word is stray, and the buffer is the block that has this content
+  pub record WrittenAll : Type 0 where
+    pub refusal : r .refusal ≡ 0
+    pub position : r .position ≡ 0
+    pub none : (i : ℕ) → i < length words → NoneHolds (stray n (getD words i 0) ∷ [])
+    pub block : IsBlockOf n number words after
+
+  -- the word at the position is stray, none before it is, and nothing was written
+  pub record StrayAtPosition : Type 0 where
+    pub inside : r .position < length words
+    pub lowest : (i : ℕ) → i < r .position → NoneHolds (stray n (getD words i 0) ∷ [])
+    pub is : FieldFollows (r .refusal) (stray n (getD words (r .position) 0) ∷ []) (after ≡ before) ⊥
+
+  unfoldable pub HandsBlockWritten : Type 0
+  HandsBlockWritten = FieldFollows (r .refusal) (writtenWidth n ∷ writtenCount n (length words) ∷ size before ∷ []) ((r .position ≡ 0) × (after ≡ before)) (WrittenAll ⊎ StrayAtPosition)
+
 -- ---- lent memory and positions
 -- where the refusal isn't 0, lent memory is as it came
 unfoldable pub RefusedCallsWriteNothing : Type 0
 RefusedCallsWriteNothing = ((n n' : ℕ) (strict : Bool) (words before after : List ℕ) (r : HandedColumn) → HandsColumn n n' strict words before after r → (r .refusal ≡ 0 → ⊥) → after ≡ before)
     × ((b before after : List ℕ) (r : HandedBlock) → HandsBlock b before after r → (r .refusal ≡ 0 → ⊥) → after ≡ before)
+    × ((n number : ℕ) (words before after : List ℕ) (r : HandedWriting) → HandsBlockWritten n number words before after r → (r .refusal ≡ 0 → ⊥) → after ≡ before)
 
 -- a position that isn't 0 comes only with a word's refusal, STRAY or INEXACT, and is inside the column
 unfoldable pub APositionComesOnlyWithAWordsRefusal : Type 0
 APositionComesOnlyWithAWordsRefusal = (n n' : ℕ) (strict : Bool) (words before after : List ℕ) (r : HandedColumn) → HandsColumn n n' strict words before after r → (r .position ≡ 0 → ⊥) → ((r .refusal ≡ 2) ⊎ (r .refusal ≡ 4)) × (r .position < length words)
+
+-- and that of a written block only with STRAY
+unfoldable pub AWritesPositionComesOnlyWithStray : Type 0
+AWritesPositionComesOnlyWithStray = (n number : ℕ) (words before after : List ℕ) (r : HandedWriting) → HandsBlockWritten n number words before after r → (r .position ≡ 0 → ⊥) → (r .refusal ≡ 2) × (r .position < length words)

@@ -1,5 +1,7 @@
 // Both sides hand over the same at every width, the narrow and the refused ones too, and refuse by the same number; asked before anything is timed.
-use crate::calls::{on_block, on_column, Move, One, Write, MOVE, MOVE_COLUMN, READ_BLOCK, TAKE_BINARY64, TAKE_WHOLE, WRITE, WRITE_BINARY64, WRITE_WHOLE};
+use crate::calls::{
+    on_block, on_column, on_content, Move, One, Write, MOVE, MOVE_COLUMN, READ_BLOCK, TAKE_BINARY64, TAKE_WHOLE, WRITE, WRITE_BINARY64, WRITE_BLOCK, WRITE_WHOLE,
+};
 use crate::handed::Parts;
 use crate::values::{self, Block, Offer, COUNT};
 
@@ -98,7 +100,31 @@ fn agree_on_block(block: &[u8], room: usize) {
     agree_on_slices(|| format!("block {:x?}", block), ours, theirs);
 }
 
-fn agree_on_slices(what: impl Fn() -> String, ours: ([u64; 4], Vec<u64>), theirs: ([u64; 4], Vec<u64>)) {
+// The blocks that are timed, and short ones at every width: some have stray words, some too many, some a buffer of another size.
+pub fn agree_on_written(wide: &[u64], narrow: &[u64]) {
+    for (width, words) in [(16, narrow), (64, wide)] {
+        for (content, number) in values::full_contents(width, words).zip(0..) {
+            agree_on_content(width, number, content, 512);
+        }
+    }
+    for width in (0..=66).chain([264, 65544]) {
+        for (i, words) in wide.chunks(600).take(32).enumerate() {
+            let count = [0, 1, 5, 62, 63, 124, 125, 248, 249, 496, 497][i % 11];
+            let words: Vec<u64> = words[..count].iter().map(|w| if i % 3 == 0 { perhaps_stray(width, *w) } else { perhaps_stray(width, *w) >> 1 }).collect();
+            agree_on_content(width, u32::MAX - i as u32, &words, [512, 512, 512, 511, 520][i % 5]);
+        }
+    }
+}
+
+fn agree_on_content(width: u32, number: u32, words: &[u64], size: usize) {
+    let [ours, theirs] = [0, 1].map(|i| {
+        let mut buffer = vec![9; size];
+        (on_content(WRITE_BLOCK[i], width, number, words, &mut buffer).parts(), buffer)
+    });
+    agree_on_slices(|| format!("{} words written at {} into {} bytes", words.len(), width, size), ours, theirs);
+}
+
+fn agree_on_slices<T: PartialEq>(what: impl Fn() -> String, ours: ([u64; 4], Vec<T>), theirs: ([u64; 4], Vec<T>)) {
     if ours.1 != theirs.1 {
         eprintln!("{}: the results differ", what());
         std::process::exit(1);

@@ -1,6 +1,6 @@
 // The calls of the three sides: the library, the plain version and an empty call, which tells what the loop and the call cost by themselves.
 // All are called through a pointer, so none is inlined into the loop.
-use crate::handed::{HandedBlock, HandedColumn, HandedNumber, HandedWhole, HandedWord};
+use crate::handed::{HandedBlock, HandedColumn, HandedNumber, HandedWhole, HandedWord, HandedWriting};
 use crate::plain;
 use std::slice::{from_raw_parts, from_raw_parts_mut};
 
@@ -12,6 +12,7 @@ pub type Outright<T, R> = unsafe extern "C" fn(u32, T) -> R;
 // A lent slice is a pointer and a length.
 pub type MoveColumn = unsafe extern "C" fn(u32, u32, u32, *const u64, usize, *mut u64, usize) -> HandedColumn;
 pub type ReadBlock = unsafe extern "C" fn(*const u8, usize, *mut u64, usize) -> HandedBlock;
+pub type WriteBlock = unsafe extern "C" fn(u32, u32, *const u64, usize, *mut u8, usize) -> HandedWriting;
 
 // crates/ledusprig
 extern "C" {
@@ -23,6 +24,7 @@ extern "C" {
     fn takum_take_binary64(n: u32, word: u64) -> HandedNumber;
     fn takum_move_column(from: u32, to: u32, rule: u32, words: *const u64, count: usize, results: *mut u64, room: usize) -> HandedColumn;
     fn takum_read_block(block: *const u8, size: usize, results: *mut u64, room: usize) -> HandedBlock;
+    fn takum_write_block(width: u32, number: u32, words: *const u64, count: usize, buffer: *mut u8, size: usize) -> HandedWriting;
 }
 
 pub const WRITE: [Write; 3] = [takum_write, plain_write, empty_write];
@@ -33,6 +35,7 @@ pub const WRITE_BINARY64: [ByRule<f64, HandedWord>; 3] = [takum_write_binary64, 
 pub const TAKE_BINARY64: [Outright<u64, HandedNumber>; 3] = [takum_take_binary64, plain_take_binary64, empty_take_binary64];
 pub const MOVE_COLUMN: [MoveColumn; 3] = [takum_move_column, plain_move_column, empty_move_column];
 pub const READ_BLOCK: [ReadBlock; 3] = [takum_read_block, plain_read_block, empty_read_block];
+pub const WRITE_BLOCK: [WriteBlock; 3] = [takum_write_block, plain_write_block, empty_write_block];
 
 extern "C" fn plain_write(n: u32, rule: u32, negative: bool, m: u64, k: i32) -> HandedWord {
     plain::write(n, rule != 0, negative, m, k).into()
@@ -64,6 +67,10 @@ unsafe extern "C" fn plain_move_column(from: u32, to: u32, rule: u32, words: *co
 
 unsafe extern "C" fn plain_read_block(block: *const u8, size: usize, results: *mut u64, room: usize) -> HandedBlock {
     plain::block::read_block(from_raw_parts(block, size), from_raw_parts_mut(results, room)).into()
+}
+
+unsafe extern "C" fn plain_write_block(width: u32, number: u32, words: *const u64, count: usize, buffer: *mut u8, size: usize) -> HandedWriting {
+    plain::block::write_block(width, number, from_raw_parts(words, count), from_raw_parts_mut(buffer, size)).into()
 }
 
 extern "C" fn empty_write(_n: u32, _rule: u32, _negative: bool, m: u64, _k: i32) -> HandedWord {
@@ -98,6 +105,10 @@ extern "C" fn empty_read_block(_block: *const u8, _size: usize, _results: *mut u
     HandedBlock { refusal: 0, width: 0, number: 0, count: 0 }
 }
 
+extern "C" fn empty_write_block(_width: u32, _number: u32, _words: *const u64, _count: usize, _buffer: *mut u8, _size: usize) -> HandedWriting {
+    HandedWriting { refusal: 0, position: 0 }
+}
+
 // Calls of one width, whether or not they have a rule.
 pub trait One<T, R>: Copy {
     fn on(self, n: u32, strict: bool, x: T) -> R;
@@ -117,7 +128,7 @@ impl<T, R> One<T, R> for Outright<T, R> {
     }
 }
 
-// The two that work on slices, called on slices.
+// Those that work on slices, called on slices.
 #[inline(always)]
 pub fn on_column(call: MoveColumn, from: u32, to: u32, strict: bool, words: &[u64], results: &mut [u64]) -> HandedColumn {
     unsafe { call(from, to, strict as u32, words.as_ptr(), words.len(), results.as_mut_ptr(), results.len()) }
@@ -126,4 +137,9 @@ pub fn on_column(call: MoveColumn, from: u32, to: u32, strict: bool, words: &[u6
 #[inline(always)]
 pub fn on_block(call: ReadBlock, block: &[u8], results: &mut [u64]) -> HandedBlock {
     unsafe { call(block.as_ptr(), block.len(), results.as_mut_ptr(), results.len()) }
+}
+
+#[inline(always)]
+pub fn on_content(call: WriteBlock, width: u32, number: u32, words: &[u64], buffer: &mut [u8]) -> HandedWriting {
+    unsafe { call(width, number, words.as_ptr(), words.len(), buffer.as_mut_ptr(), buffer.len()) }
 }

@@ -40,6 +40,13 @@ pub struct HandedBlock {
     pub count: u32,
 }
 
+#[repr(C)]
+#[derive(Clone, Copy)]
+pub struct HandedWriting {
+    pub refusal: u32,
+    pub position: usize,
+}
+
 impl From<Result<u64, u32>> for HandedWord {
     #[inline(always)]
     fn from(answer: Result<u64, u32>) -> Self {
@@ -87,6 +94,16 @@ impl From<Result<Header, u32>> for HandedBlock {
         match answer {
             Ok(header) => HandedBlock { refusal: 0, width: header.width, number: header.number, count: header.count as u32 },
             Err(refusal) => HandedBlock { refusal, width: 0, number: 0, count: 0 },
+        }
+    }
+}
+
+impl From<Result<(), (u32, Option<usize>)>> for HandedWriting {
+    #[inline(always)]
+    fn from(answer: Result<(), (u32, Option<usize>)>) -> Self {
+        match answer {
+            Ok(()) => HandedWriting { refusal: 0, position: 0 },
+            Err((refusal, position)) => HandedWriting { refusal, position: position.unwrap_or(0) },
         }
     }
 }
@@ -156,5 +173,12 @@ impl Parts for HandedBlock {
     #[inline(always)]
     fn parts(self) -> [u64; 4] {
         [self.refusal as u64, self.width as u64, self.number as u64, self.count as u64]
+    }
+}
+
+impl Parts for HandedWriting {
+    #[inline(always)]
+    fn parts(self) -> [u64; 4] {
+        [self.refusal as u64, self.position as u64, 0, 0]
     }
 }

@@ -6,7 +6,7 @@ mod plain;
 mod timing;
 mod values;
 
-use calls::{on_block, on_column, One, MOVE, MOVE_COLUMN, READ_BLOCK, TAKE_BINARY64, TAKE_WHOLE, WRITE, WRITE_BINARY64, WRITE_WHOLE};
+use calls::{on_block, on_column, on_content, One, MOVE, MOVE_COLUMN, READ_BLOCK, TAKE_BINARY64, TAKE_WHOLE, WRITE, WRITE_BINARY64, WRITE_BLOCK, WRITE_WHOLE};
 use handed::Parts;
 use timing::compare;
 use values::{Block, BLOCKS, COUNT};
@@ -45,6 +45,19 @@ fn compare_blocks(blocks: &[Block]) -> bool {
     compare("blocks", BLOCKS, [&mut side(0), &mut side(1), &mut side(2)])
 }
 
+// Full blocks, each of other words, written into one buffer; the block's sum B stands for all of it, and was compared before.
+fn compare_written(width: u32, words: &[u64]) -> bool {
+    let side = |i: usize| {
+        let (call, mut buffer) = (hidden(&WRITE_BLOCK[i]), [0; 512]);
+        move || {
+            sum(values::full_contents(width, words).zip(0..).map(|(content, number)| {
+                on_content(call, width, number, content, &mut buffer).bits() ^ u64::from_le_bytes(buffer[504..].try_into().unwrap())
+            }))
+        }
+    };
+    compare(&format!("written blocks {}", width), BLOCKS, [&mut side(0), &mut side(1), &mut side(2)])
+}
+
 fn main() {
     let offers = values::offers();
     let wide = values::wide_words();
@@ -55,6 +68,7 @@ fn main() {
     agreement::agree_everywhere(&offers, &wide, &wholes, &floats);
     agreement::agree_on_columns(&wide, &narrow);
     agreement::agree_on_blocks(&blocks);
+    agreement::agree_on_written(&wide, &narrow);
 
     let mut within = true;
     for n in [16, 64] {
@@ -80,5 +94,7 @@ fn main() {
     within &= compare_columns(16, 64, &narrow);
     within &= compare_columns(64, 16, &wide);
     within &= compare_blocks(&blocks);
+    within &= compare_written(16, &narrow);
+    within &= compare_written(64, &wide);
     timing::conclude(within);
 }

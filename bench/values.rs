@@ -104,6 +104,12 @@ pub fn seal(block: &mut Block) {
     block[508..].copy_from_slice(&b.to_le_bytes());
 }
 
+// The words of `BLOCKS` full blocks of a width: runs of the words, the next begins within the one before.
+pub fn full_contents(width: u32, words: &[u64]) -> impl Iterator<Item = &[u64]> {
+    let full = 3968 / width as usize;
+    (0..BLOCKS).map(move |i| &words[6 * i..][..full])
+}
+
 // ---- the edges, for the comparison of answers alone
 pub const EDGE_WHOLES: [i64; 9] = [0, 1, -1, i64::MAX, i64::MIN, i64::MIN + 1, 1 << 62, (1 << 55) + 1, -(1 << 55) - 1];
 

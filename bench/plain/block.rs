@@ -1,5 +1,5 @@
-// A sheet block read.
-use super::{CHECK, COUNT, FILL, MARK, ROOM, SIZE, WIDTH};
+// A sheet block, read and written.
+use super::{CHECK, COUNT, FILL, MARK, ROOM, SIZE, STRAY, WIDTH};
 
 pub struct Header {
     pub width: u32,
@@ -43,6 +43,39 @@ pub fn read_block(block: &[u8], results: &mut [u64]) -> Result<Header, u32> {
     Ok(Header { width, number: four_bytes(&block[4..8]), count })
 }
 
+// A refusal with the position of the stray word, where it is one.
+pub fn write_block(width: u32, number: u32, words: &[u64], buffer: &mut [u8]) -> Result<(), (u32, Option<usize>)> {
+    if ![8, 16, 32, 64].contains(&width) {
+        return Err((WIDTH, None));
+    }
+    let size = width as usize / 8;
+    if words.len() > 496 / size {
+        return Err((COUNT, None));
+    }
+    if buffer.len() != 512 {
+        return Err((SIZE, None));
+    }
+    let most = u64::MAX >> (64 - width);
+    if let Some(position) = words.iter().position(|&word| word > most) {
+        return Err((STRAY, Some(position)));
+    }
+    buffer[..2].copy_from_slice(&[0x54, width as u8]);
+    buffer[2..4].copy_from_slice(&(words.len() as u16).to_le_bytes());
+    buffer[4..8].copy_from_slice(&number.to_le_bytes());
+    let (bytes, unused) = buffer[8..504].split_at_mut(size * words.len());
+    match size {
+        1 => pack(words, bytes, |word| [word as u8]),
+        2 => pack(words, bytes, |word| (word as u16).to_le_bytes()),
+        4 => pack(words, bytes, |word| (word as u32).to_le_bytes()),
+        _ => pack(words, bytes, u64::to_le_bytes),
+    }
+    unused.fill(0);
+    let (a, b) = sums_of(buffer);
+    buffer[504..508].copy_from_slice(&a.to_le_bytes());
+    buffer[508..].copy_from_slice(&b.to_le_bytes());
+    Ok(())
+}
+
 // A and B over bytes 0 to 503.
 pub fn sums_of(block: &[u8]) -> (u32, u32) {
     block[..504].chunks_exact(4).fold((0, 0), |(a, b): (u32, u32), bytes| {
@@ -59,5 +92,12 @@ fn four_bytes(bytes: &[u8]) -> u32 {
 fn unpack<const SIZE: usize>(bytes: &[u8], results: &mut [u64], number: impl Fn([u8; SIZE]) -> u64) {
     for (result, word) in results.iter_mut().zip(bytes.chunks_exact(SIZE)) {
         *result = number(word.try_into().unwrap());
+    }
+}
+
+#[inline(always)]
+fn pack<const SIZE: usize>(words: &[u64], bytes: &mut [u8], word_bytes: impl Fn(u64) -> [u8; SIZE]) {
+    for (place, &word) in bytes.chunks_exact_mut(SIZE).zip(words) {
+        place.copy_from_slice(&word_bytes(word));
     }
 }

@@ -1,27 +1,28 @@
--- The tests of a content in the paper's order, what is known of one that they let through, and its words, tried one by one. Assumes nothing.
+-- The tests of a content in the paper's order, what is known of one that they let through, and its words, tried in order. Assumes nothing.
 use mathlib.Core.Path.{_≡_, refl, sym, ap, _∙_, subst}
 use mathlib.Core.Bool.{Bool, true, false, not, false≢true}
 use mathlib.Core.List.{List, [], _∷_}
 use mathlib.Core.Logic.{inl, inr}
-use Prim.Native.Nat.{ℕ, _+_, _*_, _/_, _^_, _≤_, _<_}
+use Prim.Native.Nat.{ℕ, _+_, _-_, _*_, _/_, _^_, _≤_, _<_}
 use native.Mathlib.Nat.{le-antisymm}
 use native.Mathlib.Omega.{arith}
 use borrow.Author.Count.{below-none, below-more}
 use borrow.Author.Tests.{eq-eqb, ne-eqb, eqb-true, leb-true}
 use lib.ListN.{length, getD}
+use lib.Pow.{pow-pos}
 use denote.Enum.Declared.{tagOf}
 use types.Run.{OneOf}
 use Rattle.bounds.specs.declared.refusal.Refusal.{Refusal}
 use Rattle.bounds.specs.declared.refusal.Verdict.{Verdict}
-use Rattle.bounds.specs.Refusals.{unless, widthTest, strayTest, wordTest, _then_}
-use Rattle.bounds.proofs.Verdicts.{open-when, then-through, stray-through, width-fits}
+use Rattle.bounds.specs.Refusals.{unless, strayTest, _then_}
+use Rattle.bounds.proofs.Verdicts.{open-when, then-through, stray-through, stray-fits, stray-bit}
 use Rattle.sheet.specs.declared.writing.Writing.{Writing}
 use Rattle.sheet.specs.Puts.{AreOfBytes}
 use Rattle.sheet.specs.Reads.{isBlockWidth, sizeTest}
 use Rattle.sheet.specs.Writes.{hasRoomFor, contentTest, FitUpTo, IsTried, FillsBuffer}
 use Rattle.sheet.proofs.writing.Writing.{the-type}
 use Rattle.sheet.proofs.Rooms.{has-room, has-no-room}
-use Rattle.sheet.proofs.Sizes.{whole-bytes, width-of-words}
+use Rattle.sheet.proofs.Sizes.{whole-bytes}
 use Rattle.sheet.proofs.Tests.{OneOfFour, each-width, is-width}
 
 -- ---- the tests
@@ -70,9 +71,6 @@ fitting n count buffer h =
       size = eqb-true _ _ (open-when _ Refusal.Size (to-count .1));
     }
 
-pub good-width : (n : ℕ) → OneOfFour n → widthTest n ≡ Verdict.Through
-good-width n four = let t = width-of-words n four in width-fits n (t .0) (t .1)
-
 -- a count of two bytes
 pub small-count : (n count : ℕ) (buffer : List ℕ) → Fitting n count buffer → count ≤ 496
 small-count n count buffer f = omega (arith, f .inside, at-least-one)
@@ -80,29 +78,32 @@ small-count n count buffer f = omega (arith, f .inside, at-least-one)
     at-least-one : count ≤ n / 8 * count
     at-least-one = each-width (λ w. count ≤ w / 8 * count) (omega arith) (omega arith) (omega arith) (omega arith) n (f .wide)
 
--- ---- its words, tried one by one
-module _ (n : ℕ) (words : List ℕ) where
-  pub none-tried : FitUpTo n words 0
-  unfolding FitUpTo
-  none-tried = below-none (λ i. strayTest n (getD words i 0) ≡ Verdict.Through)
+-- ---- its words, each compared with all ones of the width
+unfoldable pub NoneAbove : ℕ → List ℕ → ℕ → Type 0
+NoneAbove most words i = (k : ℕ) → k < i → getD words k 0 ≤ most
 
-  -- the word at i has been tested, with the verdict v
-  module _ (i : ℕ) (v : Verdict) (wide : widthTest n ≡ Verdict.Through) (tested : v ≡ wordTest n (getD words i 0)) (before : FitUpTo n words i) where
-    strayed : {u : Verdict} → v ≡ u → strayTest n (getD words i 0) ≡ u
-    strayed h = sym (tested ∙ ap (λ (w : Verdict). w then strayTest n (getD words i 0)) wide) ∙ h
+pub none-above : (most : ℕ) (words : List ℕ) → NoneAbove most words 0
+unfolding NoneAbove
+none-above most words = below-none (λ k. getD words k 0 ≤ most)
 
-    pub one-more-tried : v ≡ Verdict.Through → FitUpTo n words (i + 1)
-    unfolding FitUpTo
-    one-more-tried h = below-more (λ k. strayTest n (getD words k 0) ≡ Verdict.Through) i before (strayed h)
+pub one-more : (most : ℕ) (words : List ℕ) (i : ℕ) → NoneAbove most words i → getD words i 0 ≤ most → NoneAbove most words (i + 1)
+unfolding NoneAbove
+one-more most words = below-more (λ k. getD words k 0 ≤ most)
 
-    pub first-refused : (q : Refusal) → i < length words → v ≡ Verdict.Refused q → IsTried n words (Writing.RefusedAt i q)
-    unfolding IsTried
-    first-refused q inside h = (inside, before, strayed h)
+module _ (n : ℕ) (words : List ℕ) (most : ℕ) (ones : most ≡ 2 ^ n - 1) where
+  fit-up-to : (i : ℕ) → NoneAbove most words i → FitUpTo n words i
+  unfolding FitUpTo NoneAbove
+  fit-up-to i before k h = stray-fits n (getD words k 0) (omega (arith, before k h, ones, pow-pos n))
 
-  pub all-tried : (i : ℕ) → i ≤ length words → length words ≤ i → FitUpTo n words i → IsTried n words Writing.Written
+  pub first-refused : (i : ℕ) → NoneAbove most words i → i < length words → most < getD words i 0 → IsTried n words (Writing.RefusedAt i Refusal.Stray)
   unfolding IsTried
-  all-tried i lo hi = subst (FitUpTo n words) (le-antisymm lo hi)
+  first-refused i before inside h = (inside, fit-up-to i before, stray-bit n (getD words i 0) (omega (arith, h, ones, pow-pos n)))
 
+  pub all-tried : (i : ℕ) → i ≤ length words → length words ≤ i → NoneAbove most words i → IsTried n words Writing.Written
+  unfolding IsTried
+  all-tried i lo hi before = subst (FitUpTo n words) (le-antisymm lo hi) (fit-up-to i before)
+
+module _ (n : ℕ) (words : List ℕ) where
   -- words without a stray bit have the bytes of the width
   pub fit-bytes : OneOfFour n → FitUpTo n words (length words) → AreOfBytes (n / 8) words
   unfolding FitUpTo AreOfBytes

@@ -8,9 +8,9 @@ use bounds::refusal::Refusal;
 use bounds::refusal::Verdict;
 use bounds::width::Width;
 ghost use mathlib.Core.Path.{_≡_};
+ghost use Prim.Native.Nat.{_≤_};
 ghost use lib.ListN.{length};
 ghost use Rattle.bounds.specs.declared.refusal.Verdict.{Verdict};
-ghost use Rattle.bounds.specs.Refusals.{widthTest};
 ghost use Rattle.sheet.specs.Writes.{IsBlockOf, contentTest, FitUpTo, IsTried, WritesBlock, FillsBuffer};
 
 // The block was written, or why not: a refusal of the whole, or of the word at a position.
@@ -53,16 +53,19 @@ fn test_content(width: Width, count: usize, buffer: &[u8]) -> Verdict
     Verdict::Through
 }
 
-// The first word that has a stray bit decides.
+// The first word that has a stray bit decides: one that is above all ones of the width.
 fn try_words(width: Width, words: &[u64]) -> Writing
-    requires { ⌜ widthTest (width .bits) ≡ Verdict.Through ⌝ }
+    requires { ⌜ (2 ≤ width .bits) × (width .bits ≤ 64) ⌝ }
     ensures { λ a. ⌜ IsTried (width .bits) (now (words .entry)) a ⌝ }
 {
+    let most = 0xffff_ffff_ffff_ffff >> (64 - width.bits);
     let mut position = 0;
     while position < words.len() {
-        let verdict = width.test_word(words[position]);
-        if let Verdict::Refused(refusal) = verdict {
-            return Writing::RefusedAt { position, refusal };
+        if words[position] > most {
+            return Writing::RefusedAt {
+                position,
+                refusal: Refusal::Stray,
+            };
         }
         position += 1;
     }

@@ -1,42 +1,47 @@
--- `try_words` meets its contract. The invariant of its loop: no word before the position has a stray bit. The measure is how many words are left.
--- Assumes nothing.
-use Prim.Native.Nat.{_-_, _≤_}
+-- `try_words` meets its contract. The invariant of its loop: no word before the position is above all ones of the width. The measure is how many words are
+-- left. Assumes nothing.
+use mathlib.Core.Path.{_≡_}
+use Prim.Native.Nat.{_-_, _/_, _^_, _≤_}
+use native.Mathlib.Omega.{arith}
 use borrow.Author.Needs.{needs}
 use lib.ListN.{length}
-use Rattle.sheet.specs.Writes.{FitUpTo}
-use Rattle.sheet.proofs.Contents.{none-tried, one-more-tried, first-refused, all-tried}
+use Rattle.bounds.proofs.Powers.{ones-shr}
+use Rattle.sheet.proofs.Contents.{NoneAbove, none-above, one-more, first-refused, all-tried}
 use Rattle.sheet.proofs.writing.try_words.Statement.{statement}
 use Rattle.sheet.proofs.writing.try_words.Tie as tie
 
 abbrev Inv-loop : tie.InvT-loop
-Inv-loop width words position₀ position = (position ≤ length words) × FitUpTo (width .bits) words position
+Inv-loop words most position₀ position = (position ≤ length words) × NoneAbove most words position
 
 abbrev μ-loop : tie.MeasureT-loop
-μ-loop width words position₀ position = length words - position
+μ-loop words most position₀ position = length words - position
+
+-- all ones of the width
+ones : (c : tie.After-struct-known Inv-loop μ-loop) → (2 ^ 64 - 1) / 2 ^ (64 - c .before .args .width .bits) ≡ 2 ^ c .before .args .width .bits - 1
+ones c = ones-shr (c .before .args .width .bits) (64 - c .before .args .width .bits) 64 (omega arith)
+
+sub-most : tie.Need-sub-most Inv-loop μ-loop
+sub-most c = c .before .pre .1
+
+cast-most : tie.Need-cast-most Inv-loop μ-loop
+cast-most c = omega arith
+
+shr-most : tie.Need-shr-most Inv-loop μ-loop
+shr-most c = omega (arith, c .before .pre .0)
 
 loop-holds : tie.Need-loop-holds Inv-loop μ-loop
-loop-holds c = (search needs, none-tried _ _)
+loop-holds c = (search needs, none-above _ _)
 
-mul-test-word : tie.Need-mul-test-word Inv-loop μ-loop
-mul-test-word c = search needs
+mul-if1 : tie.Need-mul-if1 Inv-loop μ-loop
+mul-if1 c = search needs
 
-shared-slice-read-test-word : tie.Need-shared-slice-read-test-word Inv-loop μ-loop
-shared-slice-read-test-word c = search needs
-
-test-word-requires : tie.Need-test-word-requires Inv-loop μ-loop
-test-word-requires c κs = search needs
-
-enum-known-verdict : tie.Need-enum-known-verdict Inv-loop μ-loop
-enum-known-verdict c = search needs
+shared-slice-read-if1 : tie.Need-shared-slice-read-if1 Inv-loop μ-loop
+shared-slice-read-if1 c = search needs
 
 returns : tie.Need-returns Inv-loop μ-loop
 returns c =
-    let tested = c .before .before .before in
-    let in-loop = tested .before .before in
-    first-refused _ _ _ _ (in-loop .before .before .before .pre) (tested .test-word .ensures) (in-loop .before .loop .inv .1) _ (in-loop .loop-test .taken) (c .before .verdict .given .1)
-
-enum-told : tie.Need-enum-told Inv-loop μ-loop
-enum-told c = search needs
+    let in-loop = c .before .before in
+    first-refused _ _ _ (ones (in-loop .before .before)) _ (in-loop .before .loop .inv .1) (in-loop .loop-test .taken) (c .if1 .taken)
 
 add-position : tie.Need-add-position Inv-loop μ-loop
 add-position c = search needs
@@ -45,13 +50,10 @@ loop-less : tie.Need-loop-less Inv-loop μ-loop
 loop-less c = search needs
 
 loop-again : tie.Need-loop-again Inv-loop μ-loop
-loop-again c =
-    let tested = c .before .before in
-    let in-loop = tested .before .before in
-    (search needs, one-more-tried _ _ _ _ (in-loop .before .before .before .pre) (tested .test-word .ensures) (in-loop .before .loop .inv .1) (c .enum-told .given .1))
+loop-again c = (search needs, one-more _ _ _ (c .before .before .before .loop .inv .1) (c .if1 .left))
 
 returns-2 : tie.Need-returns-2 Inv-loop μ-loop
-returns-2 c = all-tried _ _ _ (c .before .loop .inv .0) (c .loop-test .left) (c .before .loop .inv .1)
+returns-2 c = all-tried _ _ _ (ones (c .before .before)) _ (c .before .loop .inv .0) (c .loop-test .left) (c .before .loop .inv .1)
 
 pub try-words-spec : {M : Type 1} → statement M
 try-words-spec =
@@ -59,13 +61,13 @@ try-words-spec =
     (tie.spec
     Inv-loop
     μ-loop
+    sub-most
+    cast-most
+    shr-most
     loop-holds
-    mul-test-word
-    shared-slice-read-test-word
-    test-word-requires
-    enum-known-verdict
+    mul-if1
+    shared-slice-read-if1
     returns
-    enum-told
     add-position
     loop-less
     loop-again

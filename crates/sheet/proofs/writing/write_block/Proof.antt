@@ -5,7 +5,8 @@ use lib.ListN.{length}
 use Rattle.bounds.specs.declared.refusal.Verdict.{Verdict}
 use Rattle.bounds.specs.Refusals.{through, refused}
 use Rattle.sheet.specs.Writes.{contentTest, IsTried, WritesBlock, FillsBuffer}
-use Rattle.sheet.proofs.Contents.{fitting, good-width, every-word-fits, nothing-written}
+use Rattle.sheet.proofs.Contents.{fitting, every-word-fits, nothing-written}
+use Rattle.sheet.proofs.Sizes.{width-of-words}
 use Rattle.sheet.proofs.writing.write_block.Statement.{statement}
 use Rattle.sheet.proofs.writing.write_block.Tie as tie
 
@@ -34,7 +35,7 @@ enum-told : tie.Need-enum-told
 enum-told c = search needs
 
 try-words-requires : tie.Need-try-words-requires
-try-words-requires c κs = good-width _ (fitting _ _ _ (told (c .before .before) (c .enum-told .given .1)) .wide)
+try-words-requires c κs = width-of-words _ (fitting _ _ _ (told (c .before .before) (c .enum-told .given .1)) .wide)
 
 enum-told-2 : tie.Need-enum-told-2
 enum-told-2 c = search needs

@@ -2,7 +2,7 @@
 use mathlib.Core.Path.{_≡_, refl, ap}
 use mathlib.Core.List.{List, [], _∷_}
 use mathlib.Core.Logic.{_⊎_, inl, inr}
-use Prim.Native.Nat.{ℕ, _^_, _≤_}
+use Prim.Native.Nat.{ℕ}
 use native.Mathlib.Omega.{arith}
 use lib.ListN.{length, getD}
 use Rattle.bounds.specs.declared.refusal.Refusal.{Refusal}
@@ -13,7 +13,7 @@ use Rattle.sheet.specs.declared.writing.Writing.{Writing}
 use Rattle.sheet.specs.Writes.{FitUpTo, IsTried, WritesBlock, FillsBuffer}
 use Rattle.ledusprig.specs.declared.handed.columns.HandedWriting.{HandedWriting}
 use Rattle.ledusprig.specs.Handed.{HandsOver, WritesTheBlock, writingHanded}
-use Rattle.promises.specs.Refusals.{Follows, FollowsUpTo, stray, size, writtenWidth, writtenCount}
+use Rattle.promises.specs.Refusals.{stray, size, writtenWidth, writtenCount}
 use Rattle.promises.specs.Face.{NoneHolds, WrittenAll, StrayAtPosition, HandsBlockWritten}
 use Rattle.promises.proofs.FaceLaws.{handed-so, hands, unrefused}
 use Rattle.promises.proofs.Refusals.{refusals-follow-the-table}

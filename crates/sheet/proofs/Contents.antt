@@ -1,5 +1,5 @@
 -- The tests of a content in the paper's order, what is known of one that they let through, and its words, tried in order. Assumes nothing.
-use mathlib.Core.Path.{_≡_, refl, sym, ap, _∙_, subst}
+use mathlib.Core.Path.{_≡_, refl, sym, subst}
 use mathlib.Core.Bool.{Bool, true, false, not, false≢true}
 use mathlib.Core.List.{List, [], _∷_}
 use mathlib.Core.Logic.{inl, inr}
@@ -14,7 +14,7 @@ use denote.Enum.Declared.{tagOf}
 use types.Run.{OneOf}
 use Rattle.bounds.specs.declared.refusal.Refusal.{Refusal}
 use Rattle.bounds.specs.declared.refusal.Verdict.{Verdict}
-use Rattle.bounds.specs.Refusals.{unless, strayTest, _then_}
+use Rattle.bounds.specs.Refusals.{unless, _then_}
 use Rattle.bounds.proofs.Verdicts.{open-when, then-through, stray-through, stray-fits, stray-bit}
 use Rattle.sheet.specs.declared.writing.Writing.{Writing}
 use Rattle.sheet.specs.Puts.{AreOfBytes}

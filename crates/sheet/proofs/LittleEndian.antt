@@ -47,9 +47,14 @@ below zero bytes small = omega arith
 below (suc k) [] small = pow-pos (8 * suc k)
 below (suc k) (b ∷ bytes) small = omega (arith, byte-more k, small 0, below k bytes (λ j. small (suc j)))
 
+-- what is left of bytes are bytes
+pub bytes-left : (i : ℕ) (bytes : List ℕ) → AreBytes bytes → AreBytes (drop i bytes)
+unfolding AreBytes
+bytes-left i bytes small j = subst (λ (x : ℕ). x < 256) (sym (getD-drop i bytes j 0)) (small (i + j))
+
 pub numberAt-below : (k i : ℕ) (bytes : List ℕ) → AreBytes bytes → numberAt k i bytes < 2 ^ (8 * k)
-unfolding numberAt AreBytes
-numberAt-below k i bytes small = below k (drop i bytes) (λ j. subst (λ (x : ℕ). x < 256) (sym (getD-drop i bytes j 0)) (small (i + j)))
+unfolding numberAt
+numberAt-below k i bytes small = below k (drop i bytes) (bytes-left i bytes small)
 
 -- a number of n bytes, where n is known to be k
 pub of-size : (k n i : ℕ) (bytes : List ℕ) {x : ℕ} → n ≡ k → x ≡ numberAt k i bytes → x ≡ numberAt n i bytes

@@ -1,5 +1,5 @@
 -- Packed numbers: how many there are, which one stands where, and what a turn that stores one of them leaves. Assumes nothing.
-use mathlib.Core.Path.{_≡_, refl, sym, ap, ap₂, _∙_, subst}
+use mathlib.Core.Path.{_≡_, refl, sym, ap, ap₂, _∙_}
 use mathlib.Core.List.{List, [], _∷_, _++_}
 use Prim.Native.Nat.{ℕ, zero, suc, _+_, _-_, _*_, _≤_, _<_}
 use native.Mathlib.Decide.{decLt}
@@ -7,10 +7,10 @@ use native.Mathlib.Nat.{le-of-suc-le-suc, not-suc-le-zero, le-antisymm, mul-le-m
 use native.Mathlib.Numerals.{add-one}
 use native.Mathlib.Omega.{arith}
 use lib.ListN.{length, take, drop, getD, set}
-use lib.Seq.{drop-drop, take-all, getD-drop}
+use lib.Seq.{drop-drop, take-all, getD-drop, ext-getD}
 use Rattle.bounds.proofs.Powers.{not-more}
 use Rattle.sheet.specs.Layout.{AreBytes, number, numberAt, packed, numbers}
-use Rattle.sheet.proofs.LittleEndian.{bytes-same}
+use Rattle.sheet.proofs.LittleEndian.{number-same, bytes-same, bytes-left}
 
 pub packed-length : (k n : ℕ) (bytes : List ℕ) → length (packed k n bytes) ≡ n
 unfolding packed
@@ -33,18 +33,15 @@ packed-at k (suc n) bytes (suc j) h =
 
 -- the same numbers are packed of the same bytes
 pub packed-same : (k n : ℕ) (xs ys : List ℕ) → AreBytes xs → AreBytes ys → packed k n xs ≡ packed k n ys → (j : ℕ) → j < k * n → getD xs j 0 ≡ getD ys j 0
-unfolding packed numberAt AreBytes
+unfolding packed numberAt
 packed-same k zero xs ys bx by e j h = absurd (omega (arith, h))
-packed-same k (suc n) xs ys bx by e j h = at (decLt j k) (packed-same k n (drop k xs) (drop k ys) (past xs bx) (past ys by) rest)
+packed-same k (suc n) xs ys bx by e j h = at (decLt j k) (packed-same k n (drop k xs) (drop k ys) (bytes-left k xs bx) (bytes-left k ys by) rest)
   where
     first : numberAt k 0 xs ≡ numberAt k 0 ys
     first = cc
 
     rest : packed k n (drop k xs) ≡ packed k n (drop k ys)
     rest = cc
-
-    past : (zs : List ℕ) → AreBytes zs → AreBytes (drop k zs)
-    past zs b i = subst (λ (x : ℕ). x < 256) (sym (getD-drop k zs i 0)) (b (k + i))
 
     at : Dec (j < k) → ((i : ℕ) → i < k * n → getD (drop k xs) i 0 ≡ getD (drop k ys) i 0) → getD xs j 0 ≡ getD ys j 0
     at (yes l) on = bytes-same k 0 xs ys bx by first j (omega arith) (omega (arith, l))
@@ -72,6 +69,13 @@ numbers-length block = packed-length 4 126 block
 pub numbers-at : (block : List ℕ) (i : ℕ) → i < 126 → getD (numbers block) i 0 ≡ numberAt 4 (4 * i) block
 unfolding numbers
 numbers-at block i h = packed-at 4 126 block i h
+
+-- the same bytes up to byte 503 are the same numbers
+pub numbers-same : (xs ys : List ℕ) → ((j : ℕ) → j < 504 → getD xs j 0 ≡ getD ys j 0) → numbers xs ≡ numbers ys
+numbers-same xs ys same = ext-getD 0 (numbers xs) (numbers ys) (numbers-length xs ∙ sym (numbers-length ys)) (λ i h. each i (omega (arith, h, numbers-length xs)))
+  where
+    each : (i : ℕ) → i < 126 → getD (numbers xs) i 0 ≡ getD (numbers ys) i 0
+    each i h = numbers-at xs i h ∙ number-same 4 (4 * i) xs ys (λ j l u. same j (omega (arith, u, h))) ∙ sym (numbers-at ys i h)
 
 -- packed from byte 8
 pub words-at : (k n : ℕ) (block : List ℕ) (j : ℕ) → j < n → getD (packed k n (drop 8 block)) j 0 ≡ numberAt k (8 + k * j) block

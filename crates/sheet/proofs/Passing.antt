@@ -11,6 +11,7 @@ use Rattle.bounds.specs.declared.refusal.Verdict.{Verdict}
 use Rattle.bounds.specs.Refusals.{_then_, through, refused, roomTest}
 use Rattle.bounds.proofs.Verdicts.{open-when, both, then-through}
 use Rattle.sheet.specs.declared.block.Block.{Block}
+use Rattle.sheet.specs.Layout as layout
 use Rattle.sheet.specs.Layout.{mark, width, count, blockNumber, end, A, B, numbers}
 use Rattle.sheet.specs.Sums.{sumA, sumB}
 use Rattle.sheet.specs.Reads.{sizeTest, markTest, checkTest, blockWidthTest, countTest, fillTest, blockTest, ReadsBlock}
@@ -51,34 +52,50 @@ module _ (block : List ℕ) (places : ℕ) (sized : length block ≡ 512) (marke
         pub room-decides : fillTest block ≡ Verdict.Through → blockTest block places ≡ roomTest (count block) places
         room-decides h = from-check ∙ rw (checked, wide, counted, h)
 
--- ---- a block that is let through
-pub record Passes (block : List ℕ) (places : ℕ) : Type 0 where
-  pub bytes : length block ≡ 512
-  pub marked : mark block ≡ 0x54
-  pub a : sumA (numbers block) ≡ A block
-  pub b : sumB (numbers block) ≡ B block
-  pub wide : OneOfFour (width block)
-  pub inside : end block ≤ 504
-  pub room : count block ≤ places
+-- ---- a block that is let through: each test lets it through
+pub record PassesEach (block : List ℕ) (places : ℕ) : Type 0 where
+  pub size : sizeTest block ≡ Verdict.Through
+  pub mark : markTest block ≡ Verdict.Through
+  pub check : checkTest block ≡ Verdict.Through
+  pub width : blockWidthTest block ≡ Verdict.Through
+  pub count : countTest block ≡ Verdict.Through
+  pub fill : fillTest block ≡ Verdict.Through
+  pub room : roomTest (layout.count block) places ≡ Verdict.Through
 
-pub passes : (block : List ℕ) (places : ℕ) → blockTest block places ≡ Verdict.Through → Passes block places
-unfolding blockTest sizeTest markTest checkTest blockWidthTest countTest fillTest roomTest
-passes block places h =
-    let to-fill = then-through (sizeTest block then markTest block then checkTest block then blockWidthTest block then countTest block then fillTest block) (roomTest (count block) places) h in
+pub passes-each : (block : List ℕ) (places : ℕ) → blockTest block places ≡ Verdict.Through → PassesEach block places
+unfolding blockTest
+passes-each block places h =
+    let to-fill = then-through (sizeTest block then markTest block then checkTest block then blockWidthTest block then countTest block then fillTest block) (roomTest (layout.count block) places) h in
     let to-count = then-through (sizeTest block then markTest block then checkTest block then blockWidthTest block then countTest block) (fillTest block) (to-fill .0) in
     let to-width = then-through (sizeTest block then markTest block then checkTest block then blockWidthTest block) (countTest block) (to-count .0) in
     let to-check = then-through (sizeTest block then markTest block then checkTest block) (blockWidthTest block) (to-width .0) in
     let to-mark = then-through (sizeTest block then markTest block) (checkTest block) (to-check .0) in
     let to-size = then-through (sizeTest block) (markTest block) (to-mark .0) in
-    let sums = both (eqb (sumA (numbers block)) (A block)) (eqb (sumB (numbers block)) (B block)) (open-when _ Refusal.Check (to-mark .1)) in
+    record { size = to-size .0; mark = to-size .1; check = to-mark .1; width = to-check .1; count = to-width .1; fill = to-count .1; room = to-fill .1 }
+
+-- what that tells of it
+pub record Passes (block : List ℕ) (places : ℕ) : Type 0 where
+  pub bytes : length block ≡ 512
+  pub marked : layout.mark block ≡ 0x54
+  pub a : sumA (numbers block) ≡ A block
+  pub b : sumB (numbers block) ≡ B block
+  pub wide : OneOfFour (layout.width block)
+  pub inside : end block ≤ 504
+  pub room : layout.count block ≤ places
+
+pub passes : (block : List ℕ) (places : ℕ) → blockTest block places ≡ Verdict.Through → Passes block places
+unfolding sizeTest markTest checkTest blockWidthTest countTest roomTest
+passes block places h =
+    let each = passes-each block places h in
+    let sums = both (eqb (sumA (numbers block)) (A block)) (eqb (sumB (numbers block)) (B block)) (open-when _ Refusal.Check (each .check)) in
     record {
-      bytes = eqb-true _ _ (open-when _ Refusal.Size (to-size .0));
-      marked = eqb-true _ _ (open-when _ Refusal.Mark (to-size .1));
+      bytes = eqb-true _ _ (open-when _ Refusal.Size (each .size));
+      marked = eqb-true _ _ (open-when _ Refusal.Mark (each .mark));
       a = eqb-true _ _ (sums .0);
       b = eqb-true _ _ (sums .1);
-      wide = is-width _ (open-when _ Refusal.Width (to-check .1));
-      inside = leb-true _ _ (open-when _ Refusal.Count (to-width .1));
-      room = leb-true _ _ (open-when _ Refusal.Room (to-fill .1));
+      wide = is-width _ (open-when _ Refusal.Width (each .width));
+      inside = leb-true _ _ (open-when _ Refusal.Count (each .count));
+      room = leb-true _ _ (open-when _ Refusal.Room (each .room));
     }
 
 -- its answer

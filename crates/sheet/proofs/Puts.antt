@@ -7,13 +7,13 @@ use native.Mathlib.Decide.{decLt}
 use native.Mathlib.Nat.{le-antisymm}
 use native.Mathlib.Omega.{arith}
 use lib.ListN.{length, getD, set, length-set}
-use lib.Seq.{ext-getD, getD-set-same, getD-set-other}
+use lib.Seq.{getD-set-same, getD-set-other}
 use Rattle.bounds.proofs.Powers.{not-more}
 use Rattle.sheet.specs.Layout.{numberAt, mark, width, count, blockNumber, numbers, A, B}
 use Rattle.sheet.specs.Puts.{Within, Puts, Packs, Clears, PutsHeader, Seals}
 use Rattle.sheet.specs.Sums.{sumA, sumB}
 use Rattle.sheet.proofs.LittleEndian.{numberAt-one, numberAt-split, number-same}
-use Rattle.sheet.proofs.Packing.{numbers-length, numbers-at, word-inside}
+use Rattle.sheet.proofs.Packing.{numbers-same, word-inside}
 
 -- ---- what stands outside
 pub nothing : (from to : ℕ) (bytes : List ℕ) → Within from to bytes bytes
@@ -111,19 +111,16 @@ pub clears-all : (from at to : ℕ) (before after : List ℕ) → at ≤ to → 
 clears-all from at to before after lo hi = subst (λ (k : ℕ). Clears from k before after) (le-antisymm lo hi)
 
 -- ---- A and B
-numbers-kept : {before after : List ℕ} → Within 504 512 before after → numbers after ≡ numbers before
-numbers-kept {before} {after} w = ext-getD 0 (numbers after) (numbers before) (numbers-length after ∙ sym (numbers-length before)) (λ i h. same i (omega (arith, h, numbers-length after)))
-  where
-    same : (i : ℕ) → i < 126 → getD (numbers after) i 0 ≡ getD (numbers before) i 0
-    same i h = numbers-at after i h ∙ kept 4 (4 * i) w (inl (omega (arith, h))) ∙ sym (numbers-at before i h)
-
 pub sealed : {a b : ℕ} {before mid after : List ℕ} → a ≡ sumA (numbers before) → b ≡ sumB (numbers before) → Puts 4 504 a before mid → Puts 4 508 b mid after → Seals before after
 unfolding A B
 sealed {before = before} {after = after} ea eb p q = record {
   within = all;
-  a = kept 4 504 (q .within) (inl (omega arith)) ∙ p .is ∙ ea ∙ ap sumA (sym (numbers-kept all));
-  b = q .is ∙ eb ∙ ap sumB (sym (numbers-kept all));
+  a = kept 4 504 (q .within) (inl (omega arith)) ∙ p .is ∙ ea ∙ ap sumA (sym same);
+  b = q .is ∙ eb ∙ ap sumB (sym same);
 }
   where
     all : Within 504 512 before after
     all = both (wider 504 512 (omega arith) (omega arith) (p .within)) (wider 504 512 (omega arith) (omega arith) (q .within))
+
+    same : numbers after ≡ numbers before
+    same = numbers-same after before (λ j h. all .outside j (inl h))

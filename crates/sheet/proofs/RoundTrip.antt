@@ -7,17 +7,16 @@ use lib.ListN.{length, getD, drop}
 use Rattle.bounds.specs.declared.refusal.Refusal.{Refusal}
 use Rattle.bounds.specs.declared.refusal.Verdict.{Verdict}
 use Rattle.bounds.proofs.Rooms.{room-fits}
-use Rattle.bounds.specs.Refusals.{_then_}
-use Rattle.bounds.proofs.Verdicts.{answered, stray-fits, then-through}
+use Rattle.bounds.proofs.Verdicts.{answered, stray-fits}
 use Rattle.sheet.specs.declared.block.Block.{Block}
 use Rattle.sheet.specs.declared.writing.Writing.{Writing}
 use Rattle.sheet.specs.Layout.{AreBytes, packed, width, count, blockNumber, wordBytes, words, end}
-use Rattle.sheet.specs.Reads.{sizeTest, markTest, checkTest, blockWidthTest, countTest, fillTest, blockTest, ReadsBlock, FillsResults}
+use Rattle.sheet.specs.Reads.{sizeTest, blockWidthTest, countTest, blockTest, ReadsBlock, FillsResults}
 use Rattle.sheet.specs.Writes.{IsBlockOf, hasRoomFor, contentTest, FitUpTo, IsTried, WritesBlock}
 use Rattle.sheet.proofs.Contents.{Fitting}
 use Rattle.sheet.proofs.LittleEndian.{numberAt-below}
 use Rattle.sheet.proofs.Packing.{packed-length, words-at}
-use Rattle.sheet.proofs.Passing.{passes, room-decides}
+use Rattle.sheet.proofs.Passing.{passes-each, passes, room-decides}
 use Rattle.sheet.proofs.Results.{words-length}
 use Rattle.sheet.proofs.SameContent.{has-size, has-mark}
 use Rattle.sheet.proofs.Sizes.{whole-bytes}
@@ -48,24 +47,18 @@ module _ (n number : ℕ) (content buffer block : List ℕ) (x : IsBlockOf n num
 -- ---- read, then written
 module _ (block : List ℕ) (places : ℕ) (bytes : AreBytes block) (h : blockTest block places ≡ Verdict.Through) where
   pub has-content : IsBlockOf (width block) (blockNumber block) (words block) block
-  unfolding blockTest
   has-content =
-      let to-fill = then-through (sizeTest block then markTest block then checkTest block then blockWidthTest block then countTest block then fillTest block) _ h .0 in
-      let to-count = then-through (sizeTest block then markTest block then checkTest block then blockWidthTest block then countTest block) (fillTest block) to-fill in
-      let to-width = then-through (sizeTest block then markTest block then checkTest block then blockWidthTest block) (countTest block) (to-count .0) .0 in
-      let to-check = then-through (sizeTest block then markTest block then checkTest block) (blockWidthTest block) to-width .0 in
-      let to-mark = then-through (sizeTest block then markTest block) (checkTest block) to-check in
-      let to-size = then-through (sizeTest block) (markTest block) (to-mark .0) in
+      let each = passes-each block places h in
       record {
         bytes = bytes;
-        sized = to-size .0;
-        marked = to-size .1;
+        sized = each .size;
+        marked = each .mark;
         wide = refl;
         counted = sym (words-length block);
         numbered = refl;
         packed = refl;
-        filled = to-count .1;
-        checked = to-mark .1;
+        filled = each .fill;
+        checked = each .check;
       }
 
   -- its words can be written at its width

@@ -13,12 +13,12 @@ use lib.Seq.{ext-getD, getD-drop}
 use Rattle.bounds.specs.declared.refusal.Refusal.{Refusal}
 use Rattle.bounds.proofs.Powers.{not-more}
 use Rattle.bounds.proofs.Verdicts.{open-when, both}
-use Rattle.sheet.specs.Layout.{AreBytes, packed, mark, width, count, blockNumber, wordBytes, words, end, unused, numbers, A, B}
+use Rattle.sheet.specs.Layout.{packed, mark, width, count, blockNumber, wordBytes, words, end, unused, numbers, A, B}
 use Rattle.sheet.specs.Sums.{sumA, sumB}
 use Rattle.sheet.specs.Reads.{sizeTest, markTest, checkTest, fillTest}
 use Rattle.sheet.specs.Writes.{IsBlockOf}
-use Rattle.sheet.proofs.LittleEndian.{number-same, bytes-same}
-use Rattle.sheet.proofs.Packing.{numbers-length, numbers-at, packed-same}
+use Rattle.sheet.proofs.LittleEndian.{bytes-same, bytes-left}
+use Rattle.sheet.proofs.Packing.{packed-same, numbers-same}
 use Rattle.sheet.proofs.Unused.{part-zero}
 
 -- ---- what a block with a content has
@@ -66,14 +66,10 @@ module _ (n number : ℕ) (content one other : List ℕ) (x : IsBlockOf n number
       by (no f) (no g) (yes l) = bytes-same 2 2 one other (x .bytes) (y .bytes) (x .counted ∙ sym (y .counted)) j (not-more g) l
       by (no f) (no g) (no k) = bytes-same 4 4 one other (x .bytes) (y .bytes) (x .numbered ∙ sym (y .numbered)) j (not-more k) h
 
-  past-header : (block : List ℕ) → AreBytes block → AreBytes (drop 8 block)
-  unfolding AreBytes
-  past-header block bytes j = subst (λ (b : ℕ). b < 256) (sym (getD-drop 8 block j 0)) (bytes (8 + j))
-
   in-words : (j : ℕ) → 8 ≤ j → j < 8 + n / 8 * length content → getD one j 0 ≡ getD other j 0
   in-words j lo hi =
       ap (λ (i : ℕ). getD one i 0) (sym (add-sub-of-le lo)) ∙ sym (getD-drop 8 one (j - 8) 0)
-      ∙ packed-same (n / 8) (length content) (drop 8 one) (drop 8 other) (past-header one (x .bytes)) (past-header other (y .bytes)) (are-packed n number content one x ∙ sym (are-packed n number content other y)) (j - 8) (omega (arith, lo, hi))
+      ∙ packed-same (n / 8) (length content) (drop 8 one) (drop 8 other) (bytes-left 8 one (x .bytes)) (bytes-left 8 other (y .bytes)) (are-packed n number content one x ∙ sym (are-packed n number content other y)) (j - 8) (omega (arith, lo, hi))
       ∙ getD-drop 8 other (j - 8) 0 ∙ ap (λ (i : ℕ). getD other i 0) (add-sub-of-le lo)
 
   up-to-504 : (j : ℕ) → j < 504 → getD one j 0 ≡ getD other j 0
@@ -85,10 +81,7 @@ module _ (n number : ℕ) (content one other : List ℕ) (x : IsBlockOf n number
       by (no f) (no g) = are-zero n number content one x j (not-more g) h ∙ sym (are-zero n number content other y j (not-more g) h)
 
   same-numbers : numbers one ≡ numbers other
-  same-numbers = ext-getD 0 (numbers one) (numbers other) (numbers-length one ∙ sym (numbers-length other)) (λ i h. same i (omega (arith, h, numbers-length one)))
-    where
-      same : (i : ℕ) → i < 126 → getD (numbers one) i 0 ≡ getD (numbers other) i 0
-      same i h = numbers-at one i h ∙ number-same 4 (4 * i) one other (λ j l u. up-to-504 j (omega (arith, u, h))) ∙ sym (numbers-at other i h)
+  same-numbers = numbers-same one other up-to-504
 
   pub same-bytes : one ≡ other
   unfolding A B

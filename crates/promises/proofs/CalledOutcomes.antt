@@ -254,7 +254,7 @@ block-called-one b before after after' r s = follows-one (size b ∷ mark b ∷ 
 
 -- ---- a written block
 module _ (n number : ℕ) (words before : List ℕ) where
-  stray-later : (k : ℕ) (after : List ℕ) (r : HandedWriting) → ((i : ℕ) → i < k → NoneHolds (stray n (getD words i 0) ∷ [])) → StrayAtPosition n number words before after r → k ≤ r .position
+  stray-later : (k : ℕ) (after : List ℕ) (r : HandedWriting) → ((i : ℕ) → i < k → NoneHolds (stray n (getD words i 0) ∷ [])) → StrayAtPosition n words before after r → k ≤ r .position
   stray-later k after r none x = not-more (λ h. refused-somewhere (stray n (getD words (r .position) 0) ∷ []) (r .refusal) _ (none (r .position) h) (x .is))
 
   pub block-written-called-one : (after after' : List ℕ) (r s : HandedWriting) → HandsBlockWritten n number words before after r → HandsBlockWritten n number words before after' s → (r ≡ s) × (after ≡ after')
@@ -264,12 +264,12 @@ module _ (n number : ℕ) (words before : List ℕ) where
       same : r .refusal ≡ s .refusal → r .position ≡ s .position → r ≡ s
       same e f = λ i. record { refusal = e i; position = f i }
 
-      both-stray : StrayAtPosition n number words before after r → StrayAtPosition n number words before after' s → (r ≡ s) × (after ≡ after')
+      both-stray : StrayAtPosition n words before after r → StrayAtPosition n words before after' s → (r ≡ s) × (after ≡ after')
       both-stray x y =
           let there : r .position ≡ s .position = le-antisymm (stray-later (r .position) after' s (x .lowest) y) (stray-later (s .position) after r (y .lowest) x) in
           follows-one (stray n (getD words (r .position) 0) ∷ []) (λ e a b. (same e there, both a b)) (λ none z z'. absurd z) (x .is) (subst (λ (p : ℕ). FieldFollows (s .refusal) (stray n (getD words p 0) ∷ []) (after' ≡ before) ⊥) (sym there) (y .is))
 
-      by : WrittenAll n number words before after r ⊎ StrayAtPosition n number words before after r → WrittenAll n number words before after' s ⊎ StrayAtPosition n number words before after' s → (r ≡ s) × (after ≡ after')
+      by : WrittenAll n number words after r ⊎ StrayAtPosition n words before after r → WrittenAll n number words after' s ⊎ StrayAtPosition n words before after' s → (r ≡ s) × (after ≡ after')
       by (inl x) (inl y) = (same (both (x .refusal) (y .refusal)) (both (x .position) (y .position)), same-bytes n number words after after' (x .block) (y .block))
       by (inl x) (inr y) = absurd (omega (arith, y .inside, stray-later (length words) after' s (x .none) y))
       by (inr x) (inl y) = absurd (omega (arith, x .inside, stray-later (length words) after r (y .none) x))

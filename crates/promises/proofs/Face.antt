@@ -71,7 +71,7 @@ module _ (n n' : ℕ) (strict : Bool) (words before after : List ℕ) (r : Hande
 -- ---- a written block: refused as a whole, written, or refused at a position
 module _ (n number : ℕ) (words before after : List ℕ) (r : HandedWriting) (h : HandsBlockWritten n number words before after r) where
   -- the line of a word is STRAY
-  at-stray : StrayAtPosition n number words before after r → (r .refusal ≡ 2) × (after ≡ before)
+  at-stray : StrayAtPosition n words before after r → (r .refusal ≡ 2) × (after ≡ before)
   unfolding FieldFollows
   at-stray x = by (x .is)
     where
@@ -80,7 +80,7 @@ module _ (n number : ℕ) (words before after : List ℕ) (r : HandedWriting) (h
       by (inr y) = absurd (y .1)
 
   Tried : Type 0
-  Tried = ((r .position ≡ 0) × (after ≡ before)) ⊎ (WrittenAll n number words before after r ⊎ StrayAtPosition n number words before after r)
+  Tried = ((r .position ≡ 0) × (after ≡ before)) ⊎ (WrittenAll n number words after r ⊎ StrayAtPosition n words before after r)
 
   buffer-kept : (r .refusal ≡ 0 → ⊥) → after ≡ before
   unfolding HandsBlockWritten Tried

@@ -25,7 +25,7 @@ module _ (n number : ℕ) (words before after : List ℕ) where
   none-at w e = (λ h. let small = stray-through n w e in omega (arith, h, small), tt)
 
   Tried : HandedWriting → Type 0
-  Tried r = WrittenAll n number words before after r ⊎ StrayAtPosition n number words before after r
+  Tried r = WrittenAll n number words after r ⊎ StrayAtPosition n words before after r
 
   tried : (a : Writing) → WritesBlock n words before a → IsTried n words a → FillsBuffer n number words before a after → Tried (writingHanded a)
   unfolding IsTried FitUpTo FillsBuffer Tried

@@ -195,22 +195,21 @@ HandsBlock b before after r = Hands (r .refusal) (size b ∷ mark b ∷ check b 
     ((r .width ≡ block.width b) × (r .number ≡ block.blockNumber b) × (r .count ≡ block.count b) × (after ≡ block.words b ++ drop (block.count b) before))
 
 -- ---- takum_write_block
-module _ (n number : ℕ) (words before after : List ℕ) (r : HandedWriting) where
-  -- no word is stray, and the buffer is the block that has this content
-  pub record WrittenAll : Type 0 where
-    pub refusal : r .refusal ≡ 0
-    pub position : r .position ≡ 0
-    pub none : (i : ℕ) → i < length words → NoneHolds (stray n (getD words i 0) ∷ [])
-    pub block : IsBlockOf n number words after
+-- no word is stray, and the buffer is the block that has this content
+pub record WrittenAll (n number : ℕ) (words after : List ℕ) (r : HandedWriting) : Type 0 where
+  pub refusal : r .refusal ≡ 0
+  pub position : r .position ≡ 0
+  pub none : (i : ℕ) → i < length words → NoneHolds (stray n (getD words i 0) ∷ [])
+  pub block : IsBlockOf n number words after
 
-  -- the word at the position is stray, none before it is, and nothing was written
-  pub record StrayAtPosition : Type 0 where
-    pub inside : r .position < length words
-    pub lowest : (i : ℕ) → i < r .position → NoneHolds (stray n (getD words i 0) ∷ [])
-    pub is : FieldFollows (r .refusal) (stray n (getD words (r .position) 0) ∷ []) (after ≡ before) ⊥
+-- the word at the position is stray, none before it is, and nothing was written
+pub record StrayAtPosition (n : ℕ) (words before after : List ℕ) (r : HandedWriting) : Type 0 where
+  pub inside : r .position < length words
+  pub lowest : (i : ℕ) → i < r .position → NoneHolds (stray n (getD words i 0) ∷ [])
+  pub is : FieldFollows (r .refusal) (stray n (getD words (r .position) 0) ∷ []) (after ≡ before) ⊥
 
-  unfoldable pub HandsBlockWritten : Type 0
-  HandsBlockWritten = FieldFollows (r .refusal) (writtenWidth n ∷ writtenCount n (length words) ∷ size before ∷ []) ((r .position ≡ 0) × (after ≡ before)) (WrittenAll ⊎ StrayAtPosition)
+unfoldable pub HandsBlockWritten : ℕ → ℕ → List ℕ → List ℕ → List ℕ → HandedWriting → Type 0
+HandsBlockWritten n number words before after r = FieldFollows (r .refusal) (writtenWidth n ∷ writtenCount n (length words) ∷ size before ∷ []) ((r .position ≡ 0) × (after ≡ before)) (WrittenAll n number words after r ⊎ StrayAtPosition n words before after r)
 
 -- ---- lent memory and positions
 -- where the refusal isn't 0, lent memory is as it came

@@ -13,7 +13,8 @@
 //!
 //! [`Width`] and [`Takum`] are a width and a word that have been accepted once, so that most of their calls can't be refused. The module
 //! [`calls`] has the library's calls as they are: they take any numbers, and refuse a bad width or a stray bit. There is no rule of the
-//! format in this crate; what is refused, and in which order, is decided by the library.
+//! format in this crate; what is refused, and in which order, is decided by the library. Sheet blocks are read by [`calls::read_block`] and written
+//! by [`calls::write_block`] or [`Width::write_block`].
 //!
 //! The standard traits convert what can be meant in one way only: `Width::try_from(16)`, `i64::try_from(takum)` and
 //! `Takum::try_from((width, 514_i64))`, which are strict, and `f64::from(takum)`. A [`Refusal`] is an error with a number, a name and a sentence;

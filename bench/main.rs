@@ -45,7 +45,7 @@ fn compare_blocks(blocks: &[Block]) -> bool {
     compare("blocks", BLOCKS, [&mut side(0), &mut side(1), &mut side(2)])
 }
 
-// Full blocks, each of other words, written into one buffer; the block's sum B stands for all of it, and was compared before.
+// Full blocks, each of other words, written into one buffer. All of it is compared before; here A and B stand for it.
 fn compare_written(width: u32, words: &[u64]) -> bool {
     let side = |i: usize| {
         let (call, mut buffer) = (hidden(&WRITE_BLOCK[i]), [0; 512]);

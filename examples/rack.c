@@ -8,7 +8,7 @@
  *
  * A line of the text is a length in whole millimetres, or the word void for a joint that wasn't measured, which keeps its place on the sheet as NaR.
  * Lines that are empty or start with # are passed over. (Metres would not do: at no width has 10.431 a word.) */
-#define _POSIX_C_SOURCE 200809L /* for access and fsync */
+#define _POSIX_C_SOURCE 200809L /* for access, fsync and link */
 #include "ledusprig.h"
 
 #include <errno.h>
@@ -94,8 +94,12 @@ static bool has_word(const char *line, size_t line_number, uint32_t width, uint6
 static bool put_block(sheet *to) {
     uint8_t block[TAKUM_BLOCK_SIZE] = {0};
     takum_written_answer got = takum_write_block(to->width, to->number, to->words, to->count, block, sizeof block);
-    if (got.refusal != TAKUM_OK || to->number == UINT32_MAX) { /* the words are never refused, since the library gave them; the numbers may end */
-        errno = got.refusal != TAKUM_OK ? EINVAL : EFBIG;
+    if (got.refusal != TAKUM_OK) { /* never so: the library gave the words, and the width was tried */
+        fprintf(stderr, "rack: block %" PRIu32 " is refused with %" PRIu32 " (%s)\n", to->number, got.refusal, takum_refusal_name(got.refusal));
+        return false;
+    }
+    if (to->number == UINT32_MAX) { /* the next block would have no number */
+        errno = EFBIG;
         return false;
     }
     to->number++;
@@ -134,8 +138,8 @@ static bool put_joints(FILE *from, sheet *to) {
     return false;
 }
 
-/* The sheet gets its name when it is whole and saved. Until then the name ends with .part, and where something fails nothing is left of it. No file
- * that is there already is written over. */
+/* The sheet gets its name when it is whole and saved. Until then the name ends with .part, and where something fails nothing is left of it, unless the
+ * program is stopped; such a part may be removed. No file that is there already is written over: a link to a name that is taken fails. */
 static int write_sheet(const char *lengths, const char *name, uint32_t width) {
     sheet to = {NULL, width, 1, 0, 0, {0}};
     errno = 0;
@@ -152,13 +156,12 @@ static int write_sheet(const char *lengths, const char *name, uint32_t width) {
         return fails(part == NULL ? name : part, "can't be made");
     }
     errno = 0;
-    bool is_saved = put_joints(from, &to) && rename(part, name) == 0;
+    bool is_saved = put_joints(from, &to) && link(part, name) == 0;
     int status = is_saved ? 0 : fails(name, "is not written");
     if (is_saved) {
         fprintf(stderr, "rack: %zu joints are on %s, at %" PRIu32 " bits\n", to.joints, name, width);
-    } else {
-        remove(part);
     }
+    remove(part);
     fclose(to.file);
     free(part);
     fclose(from);

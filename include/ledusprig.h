@@ -243,9 +243,9 @@ TAKUM_MUST_USE TAKUM_NOT_NULL takum_column_answer takum_move_column(uint32_t fro
 TAKUM_MUST_USE TAKUM_NOT_NULL takum_block_answer takum_read_block(const uint8_t *block, size_t block_length, uint64_t *results,
                                                                   size_t results_length) TAKUM_NOEXCEPT;
 
-/* Writes the block that has this width, number and words: all 512 bytes of the buffer, whatever was in it. It reads back as the same width, number
- * and words, and any block that can be read is what this makes of its width, number and words. The width is 8, 16, 32 or 64, with room for 496, 248,
- * 124 or 62 words (TAKUM_BLOCK_WORDS * 8 / width); the number is any; without words the block has the count 0.
+/* Writes the block that has this width, number and words: all 512 bytes of the buffer, which is initialized, as every slice, with whatever it may be.
+ * It reads back as the same width, number and words, and any block that can be read is what this makes of its width, number and words. The width is
+ * 8, 16, 32 or 64, with room for 496, 248, 124 or 62 words (TAKUM_BLOCK_WORDS * 8 / width); the number is any; without words the block has the count 0.
  *
  * WIDTH; COUNT where there are more words than the width has room for; SIZE where the buffer isn't 512 bytes; or STRAY with the lowest position that
  * has one, in this order. */

@@ -100,9 +100,9 @@ module _ (n number : ℕ) (words before after : List ℕ) (r : HandedWriting) (h
       by (inr (inl x)) = absurd (some (x .position))
       by (inr (inr x)) = (at-stray x .0, x .inside)
 
-pub a-writes-position-comes-only-with-stray : promise.AWritesPositionComesOnlyWithStray
-unfolding promise.AWritesPositionComesOnlyWithStray
-a-writes-position-comes-only-with-stray = with-stray
+pub a-written-blocks-position-comes-only-with-stray : promise.AWrittenBlocksPositionComesOnlyWithStray
+unfolding promise.AWrittenBlocksPositionComesOnlyWithStray
+a-written-blocks-position-comes-only-with-stray = with-stray
 
 pub a-position-comes-only-with-a-words-refusal : promise.APositionComesOnlyWithAWordsRefusal
 unfolding promise.APositionComesOnlyWithAWordsRefusal

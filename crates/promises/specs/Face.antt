@@ -223,5 +223,5 @@ unfoldable pub APositionComesOnlyWithAWordsRefusal : Type 0
 APositionComesOnlyWithAWordsRefusal = (n n' : ℕ) (strict : Bool) (words before after : List ℕ) (r : HandedColumn) → HandsColumn n n' strict words before after r → (r .position ≡ 0 → ⊥) → ((r .refusal ≡ 2) ⊎ (r .refusal ≡ 4)) × (r .position < length words)
 
 -- and that of a written block only with STRAY
-unfoldable pub AWritesPositionComesOnlyWithStray : Type 0
-AWritesPositionComesOnlyWithStray = (n number : ℕ) (words before after : List ℕ) (r : HandedWriting) → HandsBlockWritten n number words before after r → (r .position ≡ 0 → ⊥) → (r .refusal ≡ 2) × (r .position < length words)
+unfoldable pub AWrittenBlocksPositionComesOnlyWithStray : Type 0
+AWrittenBlocksPositionComesOnlyWithStray = (n number : ℕ) (words before after : List ℕ) (r : HandedWriting) → HandsBlockWritten n number words before after r → (r .position ≡ 0 → ⊥) → (r .refusal ≡ 2) × (r .position < length words)

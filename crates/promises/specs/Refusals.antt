@@ -181,7 +181,7 @@ pub record RefusalsFollowTheTable : Type 0 where
   -- and no refusal has a position behind the column's end
   pub inside : (n n' : ℕ) (rule : Rule) (words : List ℕ) (places : ℕ) (a : Column) → MovesColumn n n' rule words places a → (i : ℕ) (q : Refusal) → a ≡ Column.RefusedAt i q → i < length words
   pub read-block : (b : List ℕ) (places : ℕ) (a : Block) → ReadsBlock b places a → Follows Block.Refused a (size b ∷ mark b ∷ check b ∷ blockWidth b ∷ count b ∷ fill b ∷ room (block.count b) places ∷ [])
-  -- the buffer is a block of 512 bytes
+  -- SIZE is asked of the buffer
   pub write-block : (n : ℕ) (words buffer : List ℕ) (a : Writing) → WritesBlock n words buffer a → Follows Writing.Refused a (writtenWidth n ∷ writtenCount n (length words) ∷ size buffer ∷ [])
   -- and then each position that is reached, as in a column
   pub write-position : (n : ℕ) (words buffer : List ℕ) (a : Writing) → WritesBlock n words buffer a → ((q : Refusal) → a ≡ Writing.Refused q → ⊥)

@@ -1,4 +1,4 @@
--- The laws of blocks, one idea a file, in reading order. From OneOutcome on they are for the reader of the contract; no function's proof in this
+-- The laws of blocks, one idea a file, in reading order. From SameContent on they are for the reader of the contract; no function's proof in this
 -- crate uses them.
 
 -- little-endian numbers: a longer one is made of two shorter ones, and none has the bytes of another

@@ -52,7 +52,7 @@ pub below-of-size : (k n x : ℕ) → n ≡ k → x < 2 ^ (8 * n) → x < 2 ^ (8
 below-of-size k n x = subst (λ (s : ℕ). x < 2 ^ (8 * s))
 
 -- ---- the header
-pub headed : {n words number : ℕ} {before first second third after : List ℕ} → 8 ≤ length before → Puts 1 0 0x54 before first → Puts 1 1 n first second → Puts 2 2 words second third → Puts 4 4 number third after → PutsHeader n words number before after
+pub headed : {n many number : ℕ} {before first second third after : List ℕ} → 8 ≤ length before → Puts 1 0 0x54 before first → Puts 1 1 n first second → Puts 2 2 many second third → Puts 4 4 number third after → PutsHeader n many number before after
 unfolding mark width count blockNumber
 headed {before = before} {first} {second} {third} {after} fits m w c b = record {
   within = both (wider 0 8 (omega arith) (omega arith) (m .within)) (both (wider 0 8 (omega arith) (omega arith) (w .within)) past-width);

@@ -32,11 +32,11 @@ pub record Clears (from to : ℕ) (before after : List ℕ) : Type 0 where
   pub zero : (j : ℕ) → from ≤ j → j < to → getD after j 0 ≡ 0
 
 -- the header of a block
-pub record PutsHeader (n words number : ℕ) (before after : List ℕ) : Type 0 where
+pub record PutsHeader (n many number : ℕ) (before after : List ℕ) : Type 0 where
   pub within : Within 0 8 before after
   pub marked : mark after ≡ 0x54
   pub wide : width after ≡ n
-  pub counted : count after ≡ words
+  pub counted : count after ≡ many
   pub numbered : blockNumber after ≡ number
 
 -- A and B

@@ -38,11 +38,11 @@ hasRoomFor n count = leb (8 + n / 8 * count) 504
 unfoldable pub contentTest : ℕ → ℕ → List ℕ → Verdict
 contentTest n count buffer = unless Width (isBlockWidth n) then unless Count (hasRoomFor n count) then sizeTest buffer
 
--- 2 STRAY: the words before the position have no stray bit
+-- the words before the position have no stray bit
 unfoldable pub FitUpTo : ℕ → List ℕ → ℕ → Type 0
 FitUpTo n words position = (i : ℕ) → i < position → strayTest n (getD words i 0) ≡ Through
 
--- and what the words decide, in order: where one has, the lowest position that has one is refused
+-- 2 STRAY, with the lowest position that has one: what the words decide, in order
 unfoldable pub IsTried : ℕ → List ℕ → Writing → Type 0
 IsTried n words Writing.Written = FitUpTo n words (length words)
 IsTried n words (Writing.RefusedAt position q) = (position < length words) × FitUpTo n words position × (strayTest n (getD words position 0) ≡ Refused q)

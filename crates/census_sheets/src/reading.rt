@@ -41,14 +41,8 @@ pub(crate) fn take_reading(digest: u64, block: [u8; 520], room: usize) -> u64
 pub(crate) fn take_reading_of(digest: u64, bytes: [u8; 520], lent: usize, room: usize) -> u64
     requires { ⌜ (lent ≤ 520) × (room ≤ 1008) ⌝ }
 {
-    let reading = read_bytes(digest, bytes, lent, room);
+    let reading = read_lent(digest, &bytes, lent, room);
     reading.digest
-}
-
-pub(crate) fn read_bytes(digest: u64, bytes: [u8; 520], lent: usize, room: usize) -> Reading
-    requires { ⌜ (lent ≤ 520) × (room ≤ 1008) ⌝ }
-{
-    read_lent(digest, &bytes, lent, room)
 }
 
 pub(crate) fn read_lent(digest: u64, bytes: &[u8], lent: usize, room: usize) -> Reading

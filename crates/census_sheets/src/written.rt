@@ -6,7 +6,7 @@ use crate::changed::block_number_at;
 use crate::contents::draw_content;
 use crate::faults::count_of;
 use crate::faults::times_in;
-use crate::reading::read_bytes;
+use crate::reading::read_lent;
 use crate::row::BESIDE;
 use crate::writing::Content;
 use crate::writing::take_writing;
@@ -37,15 +37,11 @@ pub(crate) fn take_unwritten(digest: u64, w: u32, faults: u64) -> u64
         number: drawn.number,
         count: count_of(w, times_in(faults, OF_COUNT)) as usize,
     };
-    take_writing(
-        digest,
-        content,
-        &words,
-        SIZE - times_in(faults, OF_SIZE) as usize,
-    )
+    let size = SIZE - times_in(faults, OF_SIZE) as usize;
+    take_writing(digest, content, &words, size)
 }
 
-// Part 48.
+// Part 48: the width, which is also the number, is that of the place.
 pub(crate) fn take_width(digest: u64, count: u32, place: u64) -> u64
     requires { ⌜ count ≤ 64 ⌝ }
 {
@@ -91,16 +87,23 @@ pub(crate) fn take_again(run: Run, w: u32, place: u64) -> Run {
     let count = bounded(place, 496);
     let drawn = draw_block(w, count as u32, run.state);
     let block = drawn.block;
-    let reading = read_bytes(run.digest, block, SIZE, count as usize);
-    let answer = reading.block;
-    let row = reading.row;
     Run {
         state: drawn.state,
-        digest: take_read(reading.digest, answer, row),
+        digest: take_copy(run.digest, block, count as usize),
     }
 }
 
-// Writes what was read. No block of part 50 is refused.
+// Reads a block, and writes what was read.
+fn take_copy(digest: u64, block: [u8; 520], room: usize) -> u64
+    requires { ⌜ room ≤ 1008 ⌝ }
+{
+    let reading = read_lent(digest, &block, SIZE, room);
+    let answer = reading.block;
+    let row = reading.row;
+    take_read(reading.digest, answer, row)
+}
+
+// No block of part 50 is refused.
 fn take_read(digest: u64, answer: Block, row: [u64; 1024]) -> u64 {
     match answer {
         Block::Read {

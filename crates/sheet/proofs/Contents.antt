@@ -1,8 +1,7 @@
 -- The tests of a content in the paper's order, what is known of one that they let through, and its words, tried in order. Assumes nothing.
-use mathlib.Core.Path.{_≡_, refl, sym, subst}
+use mathlib.Core.Path.{_≡_, sym, subst}
 use mathlib.Core.Bool.{Bool, true, false, not, false≢true}
-use mathlib.Core.List.{List, [], _∷_}
-use mathlib.Core.Logic.{inl, inr}
+use mathlib.Core.List.{List}
 use Prim.Native.Nat.{ℕ, _+_, _-_, _*_, _/_, _^_, _≤_, _<_}
 use native.Mathlib.Nat.{le-antisymm}
 use native.Mathlib.Omega.{arith}
@@ -10,17 +9,14 @@ use borrow.Author.Count.{below-none, below-more}
 use borrow.Author.Tests.{eq-eqb, ne-eqb, eqb-true, leb-true}
 use lib.ListN.{length, getD}
 use lib.Pow.{pow-pos}
-use denote.Enum.Declared.{tagOf}
-use types.Run.{OneOf}
 use Rattle.bounds.specs.declared.refusal.Refusal.{Refusal}
 use Rattle.bounds.specs.declared.refusal.Verdict.{Verdict}
 use Rattle.bounds.specs.Refusals.{unless, _then_}
 use Rattle.bounds.proofs.Verdicts.{open-when, then-through, stray-through, stray-fits, stray-bit}
 use Rattle.sheet.specs.declared.writing.Writing.{Writing}
-use Rattle.sheet.specs.Puts.{AreOfBytes}
+use Rattle.sheet.specs.Puts.{AreOfBytes, IsFirstStray}
 use Rattle.sheet.specs.Reads.{isBlockWidth, sizeTest}
-use Rattle.sheet.specs.Writes.{hasRoomFor, contentTest, FitUpTo, IsTried, FillsBuffer}
-use Rattle.sheet.proofs.writing.Writing.{the-type}
+use Rattle.sheet.specs.Writes.{hasRoomFor, contentTest, FitUpTo, IsTried}
 use Rattle.sheet.proofs.Rooms.{has-room, has-no-room}
 use Rattle.sheet.proofs.Sizes.{whole-bytes}
 use Rattle.sheet.proofs.Tests.{OneOfFour, each-width, is-width}
@@ -95,13 +91,11 @@ module _ (n : ℕ) (words : List ℕ) (most : ℕ) (ones : most ≡ 2 ^ n - 1) w
   unfolding FitUpTo NoneAbove
   fit-up-to i before k h = stray-fits n (getD words k 0) (omega (arith, before k h, ones, pow-pos n))
 
-  pub first-refused : (i : ℕ) → NoneAbove most words i → i < length words → most < getD words i 0 → IsTried n words (Writing.RefusedAt i Refusal.Stray)
-  unfolding IsTried
-  first-refused i before inside h = (inside, fit-up-to i before, stray-bit n (getD words i 0) (omega (arith, h, ones, pow-pos n)))
+  pub found : (i : ℕ) → NoneAbove most words i → i < length words → most < getD words i 0 → IsFirstStray n words i
+  found i before inside h = record { inside = omega (arith, inside); lowest = fit-up-to i before; is = λ k. stray-bit n (getD words i 0) (omega (arith, h, ones, pow-pos n)) }
 
-  pub all-tried : (i : ℕ) → i ≤ length words → length words ≤ i → NoneAbove most words i → IsTried n words Writing.Written
-  unfolding IsTried
-  all-tried i lo hi before = subst (FitUpTo n words) (le-antisymm lo hi) (fit-up-to i before)
+  pub not-found : (i : ℕ) → i ≤ length words → length words ≤ i → NoneAbove most words i → IsFirstStray n words i
+  not-found i lo hi before = record { inside = lo; lowest = fit-up-to i before; is = λ k. absurd (omega (arith, k, hi)) }
 
 module _ (n : ℕ) (words : List ℕ) where
   -- words without a stray bit have the bytes of the width
@@ -109,15 +103,11 @@ module _ (n : ℕ) (words : List ℕ) where
   unfolding FitUpTo AreOfBytes
   fit-bytes four fit j h = subst (λ (k : ℕ). getD words j 0 < 2 ^ k) (sym (whole-bytes n four)) (stray-through n (getD words j 0) (fit j h))
 
--- ---- what the answer of the trial tells
-pub every-word-fits : (n : ℕ) (words : List ℕ) (a : Writing) → IsTried n words a → a ≡ Writing.Written → FitUpTo n words (length words)
-unfolding IsTried
-every-word-fits n words a x q = subst (IsTried n words) q x
+-- ---- what the first stray word decides
+module _ (n : ℕ) (words : List ℕ) (position : ℕ) (f : IsFirstStray n words position) where
+  pub stray-refused : position < length words → IsTried n words (Writing.RefusedAt position Refusal.Stray)
+  unfolding IsTried
+  stray-refused h = (h, f .lowest, f .is h)
 
--- an answer that isn't `Written`, the first of the three
-pub nothing-written : (n number : ℕ) (words before : List ℕ) (a : Writing) → OneOf (1 ∷ 2 ∷ []) (tagOf the-type a) → FillsBuffer n number words before a before
-unfolding FillsBuffer
-nothing-written n number words before Writing.Written (inl q) = let z : _≡_ {A = ℕ} 0 1 = q in absurd (omega arith)
-nothing-written n number words before Writing.Written (inr q) = let z : _≡_ {A = ℕ} 0 2 = q in absurd (omega arith)
-nothing-written n number words before (Writing.Refused q) h = refl
-nothing-written n number words before (Writing.RefusedAt position q) h = refl
+  pub none-stray : length words ≤ position → FitUpTo n words (length words)
+  none-stray h = subst (FitUpTo n words) (le-antisymm (f .inside) h) (f .lowest)

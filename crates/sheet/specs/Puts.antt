@@ -1,11 +1,21 @@
--- Serves private functions only: what a put into a lent buffer leaves there.
+-- Serves private functions only: the first stray word, and what a put into a lent buffer leaves there.
 use mathlib.Core.Path.{_≡_}
 use mathlib.Core.List.{List}
 use mathlib.Core.Logic.{_⊎_}
 use Prim.Native.Nat.{ℕ, _+_, _*_, _^_, _≤_, _<_}
 use lib.ListN.{length, getD}
+use Rattle.bounds.specs.declared.refusal.Refusal.the-variants.{Stray}
+use Rattle.bounds.specs.declared.refusal.Verdict.the-variants.{Refused}
+use Rattle.bounds.specs.Refusals.{strayTest}
 use Rattle.sheet.specs.Layout.{numberAt, mark, width, count, blockNumber, A, B, numbers}
 use Rattle.sheet.specs.Sums.{sumA, sumB}
+use Rattle.sheet.specs.Writes.{FitUpTo}
+
+-- the position of the first word that has a stray bit, or the number of words if none has
+pub record IsFirstStray (n : ℕ) (words : List ℕ) (position : ℕ) : Type 0 where
+  pub inside : position ≤ length words
+  pub lowest : FitUpTo n words position
+  pub is : position < length words → strayTest n (getD words position 0) ≡ Refused Stray
 
 -- all bytes but those from `from` up to `to` are as they were
 pub record Within (from to : ℕ) (before after : List ℕ) : Type 0 where

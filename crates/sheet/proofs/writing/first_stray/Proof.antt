@@ -1,33 +1,33 @@
--- `try_words` meets its contract. The invariant of its loop: no word before the position is above all ones of the width. The measure is how many words are
--- left. Assumes nothing.
+-- `first_stray` meets its contract. The invariant of its loop: no word before the position is above all ones of n bits. The measure is how many words
+-- are left. Assumes nothing.
 use mathlib.Core.Path.{_≡_}
 use Prim.Native.Nat.{_-_, _/_, _^_, _≤_}
 use native.Mathlib.Omega.{arith}
 use borrow.Author.Needs.{needs}
 use lib.ListN.{length}
 use Rattle.bounds.proofs.Powers.{ones-shr}
-use Rattle.sheet.proofs.Contents.{NoneAbove, none-above, one-more, first-refused, all-tried}
-use Rattle.sheet.proofs.writing.try_words.Statement.{statement}
-use Rattle.sheet.proofs.writing.try_words.Tie as tie
+use Rattle.sheet.proofs.Contents.{NoneAbove, none-above, one-more, found, not-found}
+use Rattle.sheet.proofs.writing.first_stray.Statement.{statement}
+use Rattle.sheet.proofs.writing.first_stray.Tie as tie
 
 abbrev Inv-loop : tie.InvT-loop
-Inv-loop words most position₀ position = (position ≤ length words) × NoneAbove most words position
+Inv-loop n words most position₀ position = (position ≤ length words) × NoneAbove most words position
 
 abbrev μ-loop : tie.MeasureT-loop
-μ-loop words most position₀ position = length words - position
+μ-loop n words most position₀ position = length words - position
 
--- all ones of the width
-ones : (c : tie.After-struct-known Inv-loop μ-loop) → (2 ^ 64 - 1) / 2 ^ (64 - c .before .args .width .bits) ≡ 2 ^ c .before .args .width .bits - 1
-ones c = ones-shr (c .before .args .width .bits) (64 - c .before .args .width .bits) 64 (omega arith)
+-- all ones of n bits
+ones : (c : tie.Start Inv-loop μ-loop) → (2 ^ 64 - 1) / 2 ^ (64 - c .args .n) ≡ 2 ^ c .args .n - 1
+ones c = ones-shr (c .args .n) (64 - c .args .n) 64 (omega (arith, c .pre .1))
 
 sub-most : tie.Need-sub-most Inv-loop μ-loop
-sub-most c = c .before .pre .1
+sub-most c = c .pre .1
 
 cast-most : tie.Need-cast-most Inv-loop μ-loop
 cast-most c = omega arith
 
 shr-most : tie.Need-shr-most Inv-loop μ-loop
-shr-most c = omega (arith, c .before .pre .0)
+shr-most c = omega (arith, c .pre .0)
 
 loop-holds : tie.Need-loop-holds Inv-loop μ-loop
 loop-holds c = (search needs, none-above _ _)
@@ -41,7 +41,7 @@ shared-slice-read-if1 c = search needs
 returns : tie.Need-returns Inv-loop μ-loop
 returns c =
     let in-loop = c .before .before in
-    first-refused _ _ _ (ones (in-loop .before .before)) _ (in-loop .before .loop .inv .1) (in-loop .loop-test .taken) (c .if1 .taken)
+    found _ _ _ (ones (in-loop .before .before)) _ (in-loop .before .loop .inv .1) (in-loop .loop-test .taken) (c .if1 .taken)
 
 add-position : tie.Need-add-position Inv-loop μ-loop
 add-position c = search needs
@@ -53,10 +53,10 @@ loop-again : tie.Need-loop-again Inv-loop μ-loop
 loop-again c = (search needs, one-more _ _ _ (c .before .before .before .loop .inv .1) (c .if1 .left))
 
 returns-2 : tie.Need-returns-2 Inv-loop μ-loop
-returns-2 c = all-tried _ _ _ (ones (c .before .before)) _ (c .before .loop .inv .0) (c .loop-test .left) (c .before .loop .inv .1)
+returns-2 c = not-found _ _ _ (ones (c .before .before)) _ (c .before .loop .inv .0) (c .loop-test .left) (c .before .loop .inv .1)
 
-pub try-words-spec : {M : Type 1} → statement M
-try-words-spec =
+pub first-stray-spec : {M : Type 1} → statement M
+first-stray-spec =
     tie.close
     (tie.spec
     Inv-loop

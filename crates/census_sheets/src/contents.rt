@@ -45,34 +45,34 @@ pub(crate) fn draw_content(w: u32, count: usize, start: u64) -> Drawn
 }
 
 // Part 45.
-pub(crate) fn print_written(w: u32)
+pub(crate) fn print_written(name: &[u8], w: u32)
     requires { ⌜ w ≤ 64 ⌝ }
 {
     let full = full_of(w);
     let mut state = sequence(47_000 + w as u64);
-    state = print_as_drawn(w, 0, state);
-    state = print_as_drawn(w, 1, state);
-    state = print_as_drawn(w, 2, state);
-    state = print_as_drawn(w, full - 1, state);
-    state = print_as_drawn(w, full, state);
-    state = print_as_drawn(w, full + 1, state);
-    print_as_drawn(w, 2 * full + 1, state);
+    state = print_as_drawn(name, w, 0, state);
+    state = print_as_drawn(name, w, 1, state);
+    state = print_as_drawn(name, w, 2, state);
+    state = print_as_drawn(name, w, full - 1, state);
+    state = print_as_drawn(name, w, full, state);
+    state = print_as_drawn(name, w, full + 1, state);
+    print_as_drawn(name, w, 2 * full + 1, state);
 }
 
 // Part 46.
-pub(crate) fn print_strayed(w: u32)
+pub(crate) fn print_strayed(name: &[u8], w: u32)
     requires { ⌜ w ≤ 64 ⌝ }
 {
     let full = full_of(w);
     let mut state = sequence(48_000 + w as u64);
-    state = print_with_strays(w, 1, state);
-    state = print_with_strays(w, 2, state);
-    state = print_with_strays(w, full / 2, state);
-    print_with_strays(w, full, state);
+    state = print_with_strays(name, w, 1, state);
+    state = print_with_strays(name, w, 2, state);
+    state = print_with_strays(name, w, full / 2, state);
+    print_with_strays(name, w, full, state);
 }
 
 // Prints the line of a count, and gives back the state of the sequence after it.
-fn print_as_drawn(w: u32, count: u32, start: u64) -> u64
+fn print_as_drawn(name: &[u8], w: u32, count: u32, start: u64) -> u64
     requires { ⌜ count ≤ 1000 ⌝ }
 {
     let drawn = draw_content(w, count as usize, start);
@@ -82,11 +82,11 @@ fn print_as_drawn(w: u32, count: u32, start: u64) -> u64
         number: drawn.number,
         count: count as usize,
     };
-    print_of_two(b"written", w, count, take_sizes(content, &words));
+    print_of_two(name, w, count, take_sizes(content, &words));
     drawn.state
 }
 
-fn print_with_strays(w: u32, count: u32, start: u64) -> u64
+fn print_with_strays(name: &[u8], w: u32, count: u32, start: u64) -> u64
     requires { ⌜ (1 ≤ count) × (count ≤ 1000) ⌝ }
 {
     let drawn = draw_content(w, count as usize, start);
@@ -96,11 +96,11 @@ fn print_with_strays(w: u32, count: u32, start: u64) -> u64
         number: drawn.number,
         count: count as usize,
     };
-    print_of_two(b"strayed", w, count, take_strayed(content, &words));
+    print_of_two(name, w, count, take_strayed(content, &words));
     drawn.state
 }
 
-// With each size of the buffer, last the one that a block has.
+// With each size of the buffer. What the last call has left is read where there was room for the words.
 fn take_sizes(content: Content, words: &[u64; 1000]) -> u64
     requires { ⌜ content .count ≤ 1000 ⌝ }
 {
@@ -110,13 +110,6 @@ fn take_sizes(content: Content, words: &[u64; 1000]) -> u64
     digest = take_writing(digest, content, words, 511);
     digest = take_writing(digest, content, words, 513);
     digest = take_writing(digest, content, words, 520);
-    take_written(digest, content, words)
-}
-
-// Written, and read where there was room for the words.
-fn take_written(digest: u64, content: Content, words: &[u64; 1000]) -> u64
-    requires { ⌜ content .count ≤ 1000 ⌝ }
-{
     let written = write_lent(digest, content, words, SIZE);
     if content.count > full_of(content.width) as usize {
         return written.digest;

@@ -24,15 +24,8 @@ mod written;
 use crate::changes::Change;
 use crate::lengths::print_drawn_columns;
 use crate::lengths::print_planted_columns;
-use crate::parts::print_every_block;
-use crate::parts::print_every_content;
-use crate::parts::print_every_count;
-use crate::parts::print_every_fill;
-use crate::parts::print_every_line;
-use crate::parts::print_every_run;
-use crate::parts::print_every_stray;
-use crate::parts::print_every_sum;
 use crate::parts::print_pairs_everywhere;
+use crate::parts::print_part;
 use crate::runs::print_one_line;
 use crate::uncolumned::print_bad_widths;
 
@@ -52,24 +45,26 @@ fn print_columns() {
 
 // Parts 32 to 40.
 fn print_blocks() {
-    print_every_block(b"block");
-    print_every_run(b"byte", Change::Byte);
-    print_every_sum(b"sums");
-    print_every_run(b"fault", Change::Fault);
+    print_part(b"block", 32);
+    print_part(b"byte", 33);
+    print_part(b"sums", 34);
+    print_part(b"fault", 35);
     print_one_line(b"widthbyte", Change::WidthByte, 1);
     print_one_line(b"widthbyte", Change::WidthByte, 63);
     print_one_line(b"mark", Change::Mark, 16);
-    print_every_fill(b"fill");
-    print_every_line(b"size", Change::Size);
-    print_every_line(b"number", Change::Number);
+    print_part(b"fill", 38);
+    print_part(b"size", 39);
+    print_part(b"number", 40);
 }
 
 // Parts 45 to 50.
 fn print_written_blocks() {
-    print_every_content();
-    print_every_stray();
-    print_every_line(b"unwritten", Change::Unwritten);
-    print_every_count(b"writtenwidth", Change::WrittenWidth);
-    print_every_line(b"writtennumber", Change::WrittenNumber);
-    print_every_run(b"again", Change::Again);
+    print_part(b"written", 45);
+    print_part(b"strayed", 46);
+    print_part(b"unwritten", 47);
+    print_one_line(b"writtenwidth", Change::WrittenWidth, 0);
+    print_one_line(b"writtenwidth", Change::WrittenWidth, 1);
+    print_one_line(b"writtenwidth", Change::WrittenWidth, 63);
+    print_part(b"writtennumber", 49);
+    print_part(b"again", 50);
 }

@@ -1,4 +1,4 @@
-// The parts that go from width to width: over every width, and over those of blocks; and one that goes from count to count.
+// The parts that go from width to width: over every width, and over those of blocks.
 use crate::changes::Change;
 use crate::contents::print_strayed;
 use crate::contents::print_written;
@@ -9,6 +9,7 @@ use crate::runs::print_one_line;
 use crate::runs::print_runs;
 use crate::runs::print_sums;
 use bounds::width::Width;
+ghost use Prim.Native.Nat.{_≤_};
 
 // Part 31.
 pub(crate) fn print_pairs_everywhere(name: &[u8]) {
@@ -19,65 +20,29 @@ pub(crate) fn print_pairs_everywhere(name: &[u8]) {
     }
 }
 
-// Parts 33, 35 and 50.
-pub(crate) fn print_every_run(name: &[u8], change: Change) {
-    print_runs(name, change, 8);
-    print_runs(name, change, 16);
-    print_runs(name, change, 32);
-    print_runs(name, change, 64);
+// Prints a part at every width that a block can have.
+pub(crate) fn print_part(name: &[u8], part: u32) {
+    print_at(name, part, 8);
+    print_at(name, part, 16);
+    print_at(name, part, 32);
+    print_at(name, part, 64);
 }
 
-// Parts 39, 40, 47 and 49.
-pub(crate) fn print_every_line(name: &[u8], change: Change) {
-    print_one_line(name, change, 8);
-    print_one_line(name, change, 16);
-    print_one_line(name, change, 32);
-    print_one_line(name, change, 64);
-}
-
-// Part 48.
-pub(crate) fn print_every_count(name: &[u8], change: Change) {
-    print_one_line(name, change, 0);
-    print_one_line(name, change, 1);
-    print_one_line(name, change, 63);
-}
-
-// Part 32.
-pub(crate) fn print_every_block(name: &[u8]) {
-    print_blocks(name, 8);
-    print_blocks(name, 16);
-    print_blocks(name, 32);
-    print_blocks(name, 64);
-}
-
-// Part 34.
-pub(crate) fn print_every_sum(name: &[u8]) {
-    print_sums(name, 8);
-    print_sums(name, 16);
-    print_sums(name, 32);
-    print_sums(name, 64);
-}
-
-// Part 38.
-pub(crate) fn print_every_fill(name: &[u8]) {
-    print_fills(name, 8);
-    print_fills(name, 16);
-    print_fills(name, 32);
-    print_fills(name, 64);
-}
-
-// Part 45.
-pub(crate) fn print_every_content() {
-    print_written(8);
-    print_written(16);
-    print_written(32);
-    print_written(64);
-}
-
-// Part 46.
-pub(crate) fn print_every_stray() {
-    print_strayed(8);
-    print_strayed(16);
-    print_strayed(32);
-    print_strayed(64);
+fn print_at(name: &[u8], part: u32, w: u32)
+    requires { ⌜ w ≤ 64 ⌝ }
+{
+    match part {
+        32 => print_blocks(name, w),
+        33 => print_runs(name, Change::Byte, w),
+        34 => print_sums(name, w),
+        35 => print_runs(name, Change::Fault, w),
+        38 => print_fills(name, w),
+        39 => print_one_line(name, Change::Size, w),
+        40 => print_one_line(name, Change::Number, w),
+        45 => print_written(name, w),
+        46 => print_strayed(name, w),
+        47 => print_one_line(name, Change::Unwritten, w),
+        49 => print_one_line(name, Change::WrittenNumber, w),
+        _ => print_runs(name, Change::Again, w),
+    }
 }

@@ -37,13 +37,8 @@ fn take_ways(
 {
     let lows = plant(words, p, stray_bit(content.width), q, with_low);
     let highs = plant(words, p, TOP_BIT, q, with_high);
-    let after_lows = take_two_sizes(digest, content, &lows);
-    take_two_sizes(after_lows, content, &highs)
-}
-
-fn take_two_sizes(digest: u64, content: Content, words: &[u64; 1000]) -> u64
-    requires { ⌜ content .count ≤ 1000 ⌝ }
-{
-    let after_block = take_writing(digest, content, words, SIZE);
-    take_writing(after_block, content, words, 511)
+    let mut after = take_writing(digest, content, &lows, SIZE);
+    after = take_writing(after, content, &lows, 511);
+    after = take_writing(after, content, &highs, SIZE);
+    take_writing(after, content, &highs, 511)
 }

@@ -32,7 +32,7 @@ pub mod Taken
 -- ---- what follows
 -- up to width 57 the number out is exactly the value
 pub mod Exactness
--- the distance of two numbers with their signs, by their sizes
+-- the distance of a value from a number, by their sizes
 pub mod Gaps
 -- the nearest number as a place in the row of patterns
 pub mod Places

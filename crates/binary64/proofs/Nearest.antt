@@ -19,11 +19,12 @@ use Rattle.word.specs.Takum.{real, takum}
 use Rattle.word.proofs.Values.{value-below}
 use Rattle.write.specs.Writes.{isNegative}
 use Rattle.nearest.proofs.Nearest.{NearestPlace, place-one}
+use Rattle.nearest.proofs.Gaps.{gap}
 use Rattle.binary64.specs.declared.taking.Binary64.{Binary64}
 use Rattle.binary64.specs.Takes.{TakesBinary64}
 use Rattle.binary64.specs.Nearest.{IsFinite, apart, NearestBinary64}
 use Rattle.binary64.proofs.Closest.{closest-range}
-use Rattle.binary64.proofs.Gaps.{gap, apart-le, gap-le}
+use Rattle.binary64.proofs.Gaps.{apart-le, gap-le}
 use Rattle.binary64.proofs.Held.{value-one}
 use Rattle.binary64.proofs.Leading.{rounded-size}
 use Rattle.binary64.proofs.Patterns.{signBit}

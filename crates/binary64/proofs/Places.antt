@@ -15,8 +15,8 @@ use Rattle.bounds.proofs.Limits.{exponent-lt}
 use Rattle.bounds.proofs.Powers.{pow-sum}
 use Rattle.nearest.specs.Nearest.{distance}
 use Rattle.nearest.proofs.Nearest.{NearestPlace, nearer-below, nearer-above, midway}
+use Rattle.nearest.proofs.Gaps.{gap}
 use Rattle.binary64.proofs.Closest.{Rounds, less, half, more, rounds}
-use Rattle.binary64.proofs.Gaps.{gap}
 use Rattle.binary64.proofs.Rows.{sizeOf, row, row-grows, row-at, last}
 
 pub rising : (v u : ℕ) → 0 < v → v < u → u < last → row v < row u

@@ -3,6 +3,8 @@
 -- ---- what the nearest word is
 -- the nearest of an increasing row of sizes, ties to the even place: there is one, and only one
 pub mod Nearest
+-- the distance of two numbers with their signs, by their sizes
+pub mod Gaps
 -- the nonzero words of one sign are such a row
 pub mod Places
 -- ---- how one function finds it

@@ -33,12 +33,12 @@ either-side a x = by (decLe x a)
     by (no f) = inr (le-of-lt (lt-of-not-le f))
 
 -- where another place lies
-data Beside (v u : ℕ) : Type 0 where
+pub data Beside (v u : ℕ) : Type 0 where
   before : u < v → Beside v u
   at : u ≡ v → Beside v u
   after : v < u → Beside v u
 
-beside : (v u : ℕ) → Beside v u
+pub beside : (v u : ℕ) → Beside v u
 beside v u = by (decLt u v)
   where
     by : Dec (u < v) → Beside v u
@@ -197,7 +197,7 @@ module _ (g : ℕ → ℕ) (B a b : ℕ) (up : (v u : ℕ) → zero < v → v < 
       by (inside v p r l k) = side v p r l k (beside (g v * b + g (suc v) * b) (2 * a))
 
 -- ---- a size that is not smaller has a nearest place that is not before
-half-up : (a x y : ℕ) → x < y → distance a y ≤ distance a x → x + y ≤ 2 * a
+pub half-up : (a x y : ℕ) → x < y → distance a y ≤ distance a x → x + y ≤ 2 * a
 half-up a x y h l = by (decLe a x) (decLe a y)
   where
     by : Dec (a ≤ x) → Dec (a ≤ y) → x + y ≤ 2 * a
@@ -205,7 +205,7 @@ half-up a x y h l = by (decLe a x) (decLe a y)
     by (no f) (yes r) = omega (arith, l, r, lt-of-not-le f, distance-above a y r, distance-below a x (le-of-lt (lt-of-not-le f)))
     by (no f) (no e) = omega (arith, h, lt-of-not-le f, lt-of-not-le e)
 
-half-down : (a x y : ℕ) → x < y → distance a x ≤ distance a y → 2 * a ≤ x + y
+pub half-down : (a x y : ℕ) → x < y → distance a x ≤ distance a y → 2 * a ≤ x + y
 half-down a x y h l = by (decLe a x) (decLe a y)
   where
     by : Dec (a ≤ x) → Dec (a ≤ y) → 2 * a ≤ x + y
@@ -213,7 +213,7 @@ half-down a x y h l = by (decLe a x) (decLe a y)
     by (no f) (yes r) = omega (arith, l, r, lt-of-not-le f, distance-above a y r, distance-below a x (le-of-lt (lt-of-not-le f)))
     by (no f) (no e) = absurd (omega (arith, l, h, lt-of-not-le f, lt-of-not-le e, distance-below a x (le-of-lt (lt-of-not-le f)), distance-below a y (le-of-lt (lt-of-not-le e))))
 
-midway-same : (a x y : ℕ) → x < y → 2 * a ≡ x + y → distance a x ≡ distance a y
+pub midway-same : (a x y : ℕ) → x < y → 2 * a ≡ x + y → distance a x ≡ distance a y
 midway-same a x y h q = distance-below a x (omega (arith, h, q)) ∙ omega (arith, h, q) ∙ sym (distance-above a y (omega (arith, h, q)))
 
 module _ (g : ℕ → ℕ) (B a b a' b' : ℕ) (up : (v u : ℕ) → zero < v → v < u → u < B → g v < g u) (some : zero < b) (some' : zero < b') (at-most : a * b' ≤ a' * b) where

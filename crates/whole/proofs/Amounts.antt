@@ -1,8 +1,8 @@
--- How much a size counts in 2^-307: its significand times a power of two, or less than one. Assumes nothing.
+-- How much a size counts in 2^-307: its significand times a power of two, or less than a half. Assumes nothing.
 use mathlib.Core.Path.{_≡_, refl, sym, ap, _∙_, subst}
 use mathlib.Core.Bool.{Bool, true, false, cond}
 use Prim.Native.Nat.{ℕ, zero, suc, _+_, _-_, _*_, _^_, _≤_, _<_}
-use native.Mathlib.Nat.{add-zero, add-suc, mul-one, mul-assoc, zero-mul, mul-pos, lt-of-lt-of-le, lt-of-mul-lt-mul-right, mul-lt-mul-of-pos-right, mul-comm}
+use native.Mathlib.Nat.{add-zero, add-suc, mul-one, mul-assoc, zero-mul, mul-pos, lt-of-lt-of-le, lt-of-mul-lt-mul-right, mul-lt-mul-of-pos-right, mul-comm, two-pow-succ}
 use native.Mathlib.Omega.{arith}
 use borrow.Author.Tests.{ltb-true, ltb-false}
 use lib.Dec.{ltb}
@@ -13,10 +13,11 @@ use Rattle.word.proofs.Integers.{sub-add}
 use Rattle.bounds.proofs.Powers.{pow-sum}
 use Rattle.word.proofs.Signed.{difference}
 
--- from one up
-pub amount : (i m v : ℕ) → IsSize m (pos i -ℤ pos 63) v → v ≡ m * 2 ^ (i + 244)
+-- from a half up: h is k - 1
+pub amount : (k m v : ℕ) → IsSize m (pos k -ℤ pos 1 -ℤ pos 63) v → v ≡ m * 2 ^ (k + 243)
 unfolding IsSize num den
-amount i m v h = sym (subst (λ (z : ℤ). m * num z ≡ v * den z) (sub-add (pos i) (pos 63) (pos 307) ∙ difference (i + 307) 63 (omega arith) ∙ ap pos (omega arith)) h ∙ mul-one v)
+amount k m v h =
+    sym (subst (λ (z : ℤ). m * num z ≡ v * den z) (sub-add (pos k -ℤ pos 1) (pos 63) (pos 307) ∙ ap (λ (z : ℤ). z -ℤ pos 63) (sub-add (pos k) (pos 1) (pos 307) ∙ difference (k + 307) 1 (omega arith)) ∙ difference (k + 307 - 1) 63 (omega arith) ∙ ap pos (omega arith)) h ∙ mul-one v)
 
 -- -(i + 1) less p
 less : (i p : ℕ) → negsuc i -ℤ pos p ≡ negsuc (i + p)
@@ -36,17 +37,25 @@ small m k t v = by (ltb t (suc k)) refl
         ap (λ (x : ℕ). x * 2 ^ suc k) (sym (h ∙ mul-one v)) ∙ mul-assoc m (2 ^ (t - suc k)) (2 ^ suc k)
         ∙ ap (λ (x : ℕ). m * x) (pow-sum (t - suc k) (suc k) t (omega (arith, ltb-false t (suc k) q)))
 
--- below one
-pub under-one : (i m v : ℕ) → 2 ^ 63 ≤ m → m < 2 ^ 64 → IsSize m (negsuc i -ℤ pos 63) v → (0 < v) × (v < 2 ^ 307)
+-- below a half
+pub under-half : (i m v : ℕ) → 2 ^ 63 ≤ m → m < 2 ^ 64 → IsSize m (negsuc (suc i) -ℤ pos 63) v → (0 < v) × (2 * v < 2 ^ 307)
 unfolding IsSize
-under-one i m v low high h = by (2 ^ 307) (pow-pos 307) (small m (i + 63) 307 v (subst (λ (z : ℤ). m * num (z +ℤ pos 307) ≡ v * den (z +ℤ pos 307)) (less i 63) h))
+under-half i m v low high h = by (2 ^ 307) (pow-pos 307) (small m (suc i + 63) 307 v (subst (λ (z : ℤ). m * num (z +ℤ pos 307) ≡ v * den (z +ℤ pos 307)) (less (suc i) 63) h))
   where
-    room : m < 2 ^ suc (i + 63)
-    room = lt-of-lt-of-le high (pow-mono {i = 64} {j = suc (i + 63)} (omega arith))
+    P : ℕ
+    P = 2 ^ (suc i + 63)
 
-    by : (u : ℕ) → 0 < u → v * 2 ^ suc (i + 63) ≡ m * u → (0 < v) × (v < u)
-    by u some q = (positive v q, lt-of-mul-lt-mul-right (2 ^ suc (i + 63)) (subst (λ (x : ℕ). x < u * 2 ^ suc (i + 63)) (sym q) (subst (λ (x : ℕ). m * u < x) (mul-comm (2 ^ suc (i + 63)) u) (mul-lt-mul-of-pos-right room some))))
+    room : m < P
+    unfolding P
+    room = lt-of-lt-of-le high (pow-mono {i = 64} {j = suc i + 63} (omega arith))
+
+    by : (u : ℕ) → 0 < u → v * 2 ^ suc (suc i + 63) ≡ m * u → (0 < v) × (2 * v < u)
+    by u some q = (positive v q, lt-of-mul-lt-mul-right P (subst (λ (x : ℕ). x < u * P) (sym doubled) (subst (λ (x : ℕ). m * u < x) (mul-comm P u) (mul-lt-mul-of-pos-right room some))))
       where
-        positive : (v : ℕ) → v * 2 ^ suc (i + 63) ≡ m * u → 0 < v
-        positive zero q = absurd (omega (arith, q, zero-mul (2 ^ suc (i + 63)), mul-pos (lt-of-lt-of-le (pow-pos 63) low) some))
+        doubled : 2 * v * P ≡ m * u
+        unfolding P
+        doubled = omega (arith, q, ap (λ (x : ℕ). v * x) (two-pow-succ (suc i + 63)))
+
+        positive : (v : ℕ) → v * 2 ^ suc (suc i + 63) ≡ m * u → 0 < v
+        positive zero q = absurd (omega (arith, q, zero-mul (2 ^ suc (suc i + 63)), mul-pos (lt-of-lt-of-le (pow-pos 63) low) some))
         positive (suc v) q = omega arith

@@ -20,11 +20,11 @@ use Rattle.round.specs.Writes.{IsWritten}
 use Rattle.round.proofs.Rounding.{exact-written}
 use Rattle.whole.specs.declared.taking.Taking.{Taking}
 use Rattle.whole.specs.declared.taking.Whole.{Whole}
-use Rattle.whole.specs.Wholes.{IsWholePart, overTest, inexactTest, IsTakenWhole, WritesWhole, TakesWhole}
+use Rattle.whole.specs.Wholes.{IsNearestWhole, overTest, inexactTest, IsTakenWhole, WritesWhole, TakesWhole}
 use Rattle.whole.proofs.OneOutcome.{taken-one}
 use Rattle.whole.proofs.TakenOut.{taken-out}
-use Rattle.whole.proofs.WholeParts.{one-whole-part}
-use Rattle.whole.proofs.WholeValues.{valueOf, is-its-whole-part, exact-value, taken-as-itself}
+use Rattle.whole.proofs.NearestWholes.{one-nearest-whole}
+use Rattle.whole.proofs.WholeValues.{valueOf, is-its-nearest, exact-value, taken-as-itself}
 
 -- ---- a whole number in
 pub record Written (n : ℕ) (x : ℤ) (w : ℕ) : Type 0 where
@@ -54,7 +54,7 @@ not-inexact z x h = eqb-true (natAbs x * 2 ^ 307) (natAbs z) (open-when (eqb (na
 pub strictly-taken : (n w : ℕ) (x : ℤ) → TakesWhole n Taking.Strict w (Whole.Is x) → Written n x w
 strictly-taken n w x y =
     let k = taken-out n Taking.Strict w x y in
-    record { word = k .word; means = k .means ∙ ap real (exact-value (k .z) x (k .part) (not-inexact (k .z) x (k .allowed))) }
+    record { word = k .word; means = k .means ∙ ap real (exact-value (k .z) x (k .near) (not-inexact (k .z) x (k .allowed))) }
 
 -- ---- there and back
 -- a word that has the value of a whole number gives that one and no other, by either rule
@@ -65,7 +65,7 @@ written-comes-back n x w rule a inside k t = taken-one rule (real (valueOf x)) a
 pub taken-as-written : (n : ℕ) (x y : ℤ) (w : ℕ) (rule : Taking) → Written n x w → TakesWhole n rule w (Whole.Is y) → y ≡ x
 taken-as-written n x y w rule k t =
     let o = taken-out n rule w y t in
-    one-whole-part (valueOf x) y x (subst (λ (z : ℤ). IsWholePart z y) (real-inj (sym (o .means) ∙ k .means)) (o .part)) (is-its-whole-part x)
+    one-nearest-whole (valueOf x) y x (subst (λ (z : ℤ). IsNearestWhole z y) (real-inj (sym (o .means) ∙ k .means)) (o .near)) (is-its-nearest x)
 
 pub whole-comes-back : (n : ℕ) (x : ℤ) (w : ℕ) (rule : Taking) (a : Whole) → overTest x ≡ Verdict.Through → WritesWhole n Rule.Strict x (Answer.Word w) → TakesWhole n rule w a → a ≡ Whole.Is x
 whole-comes-back n x w rule a inside y = written-comes-back n x w rule a inside (strictly-written n x w y)

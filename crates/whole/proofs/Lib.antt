@@ -1,17 +1,15 @@
 -- The laws of whole numbers, one idea a file, in reading order.
 
 -- ---- taking out
--- a value has one whole part
-pub mod WholeParts
--- what is answered once the whole part is known: the range, and then the rule
+-- a value has one nearest whole number, which is at most a half off
+pub mod NearestWholes
+-- what is answered once the nearest whole number is known: the range, and then the rule
 pub mod Answers
--- the whole part of a whole number is the number itself
+-- a whole number is the nearest to its own value
 pub mod WholeValues
 -- how much a size counts in 2^-307
 pub mod Amounts
--- what is lost where the lowest bits are dropped
-pub mod Fractions
--- what is taken out of a size, by where its exponent lies: below zero, from 0 to 63, or past it
+-- what is taken out of a size, by where it lies: below a half, up to 2^63, or past it
 pub mod Takings
 -- ---- what the contracts say of it
 -- two outcomes that a contract allows are equal

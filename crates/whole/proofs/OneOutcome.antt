@@ -13,7 +13,7 @@ use Rattle.round.proofs.Rounding.{written-one}
 use Rattle.whole.specs.declared.taking.Taking.{Taking}
 use Rattle.whole.specs.declared.taking.Whole.{Whole}
 use Rattle.whole.specs.Wholes.{overTest, inexactTest, IsTakenWhole, WritesWhole, TakesWhole}
-use Rattle.whole.proofs.WholeParts.{one-whole-part}
+use Rattle.whole.proofs.NearestWholes.{one-nearest-whole}
 
 pub writes-whole-one : (n : ℕ) (rule : Rule) (x : ℤ) (a b : Answer) → WritesWhole n rule x a → WritesWhole n rule x b → a ≡ b
 unfolding WritesWhole
@@ -25,9 +25,9 @@ writes-whole-one n rule x a b (refused h y) z = y ∙ sym (refused-as _ h z)
 pub taken-one : (rule : Taking) (t : Takum) (a b : Whole) → IsTakenWhole rule t a → IsTakenWhole rule t b → a ≡ b
 unfolding IsTakenWhole
 taken-one rule NaR a b p q = p ∙ sym q
-taken-one rule (real z) a b (x, part, p) (y, other, q) =
+taken-one rule (real z) a b (x, near, p) (y, other, q) =
     decided-one Whole.Refused (λ w. w ≡ Whole.Is x) (λ v w r s. r ∙ sym s) a b p
-    (subst (λ (x : ℤ). Decided (overTest x then inexactTest rule z x) (λ r. b ≡ Whole.Refused r) (b ≡ Whole.Is x)) (one-whole-part z y x other part) q)
+    (subst (λ (x : ℤ). Decided (overTest x then inexactTest rule z x) (λ r. b ≡ Whole.Refused r) (b ≡ Whole.Is x)) (one-nearest-whole z y x other near) q)
 
 pub takes-whole-one : (n : ℕ) (rule : Taking) (w : ℕ) (a b : Whole) → TakesWhole n rule w a → TakesWhole n rule w b → a ≡ b
 unfolding TakesWhole

@@ -1,96 +1,98 @@
--- What is taken out of a size, by where its exponent lies: below zero, from 0 to 63, or past it. Assumes nothing.
-use mathlib.Core.Path.{_≡_, sym, ap, ap₂, _∙_, subst}
+-- What is taken out of a size, by where it lies: below a half, from there up to 2^63, or past it. Assumes nothing.
+use mathlib.Core.Path.{_≡_, refl, sym, ap, ap₂, _∙_, subst, subst₂}
 use mathlib.Core.Bool.{Bool, true, false}
-use Prim.Native.Nat.{ℕ, suc, _+_, _-_, _*_, _/_, _^_, _≤_, _<_, zero-le}
-use native.Mathlib.Nat.{le-trans, le-of-eq, mul-le-mul, mul-assoc, le-div-iff-mul-le, zero-mul, one-mul, le-refl, ne-of-lt, mul-lt-mul-of-pos-right, lt-of-lt-of-le, lt-of-le-of-lt}
+use Prim.Native.Nat.{ℕ, suc, _+_, _-_, _*_, _%_, _^_, _≤_, _<_}
+use native.Mathlib.Nat.{mul-le-mul, mul-assoc, mul-one, zero-mul, ne-of-lt, lt-of-lt-of-le, eq-of-mul-eq-mul-right}
 use native.Mathlib.Omega.{arith}
-use borrow.Author.Tests.{ne-eqb}
+use borrow.Author.Tests.{eq-eqb, ne-eqb, eqb-true, eqb-false}
 use lib.Dec.{eqb, lit<}
-use lib.IntN.{pos, negsuc, natAbs}
+use lib.IntN.{pos, negsuc, natAbs, _-ℤ_}
 use lib.Pow.{pow-pos, pow-mono}
 use Rattle.bounds.specs.declared.refusal.Refusal.{Refusal}
+use Rattle.bounds.specs.Refusals.{refused}
 use Rattle.word.specs.Takum.{Takum}
 use Rattle.word.specs.Reads.{signedSize}
 use Rattle.bounds.proofs.Powers.{pow-sum}
 use Rattle.word.proofs.Values.{absolute, no-sign}
 use Rattle.whole.specs.declared.taking.Taking.{Taking}
 use Rattle.whole.specs.declared.taking.Whole.{Whole}
-use Rattle.whole.specs.Wholes.{IsWholePart, IsTakenWhole}
-use Rattle.whole.specs.Parts.{greatestSize, byRule, TakesSize}
-use Rattle.whole.proofs.Amounts.{amount, under-one}
-use Rattle.whole.proofs.Fractions.{not-above, next-above, nothing-lost}
-use Rattle.whole.proofs.WholeParts.{whole-part}
-use Rattle.whole.proofs.Answers.{inside, outside, taken-inside, taken-over}
+use Rattle.whole.specs.Wholes.{IsNearestWhole, IsTakenWhole}
+use Rattle.whole.specs.Parts.{NearestSize, byRule, IsAnswered, TakesSize}
+use Rattle.whole.proofs.Amounts.{amount, under-half}
+use Rattle.whole.proofs.NearestWholes.{finer, itself, nothing-left, nearest-whole}
+use Rattle.whole.proofs.Answers.{inside, outside, taken-inside, taken}
 
--- what is left of a significand without its fraction
-abbrev pub kept : ℕ → ℕ → ℕ
-kept m i = m / 2 ^ (63 - i)
-
--- a size from 2^64 up is outside
-most : (s : Bool) → greatestSize s < 2 ^ 63 * 2 ^ 1
-unfolding greatestSize
-most false = lit< tt
-most true = lit< tt
+-- a factor on both sides changes no test of equality
+times-both : (x y g : ℕ) → 0 < g → eqb x y ≡ eqb (x * g) (y * g)
+times-both x y g some = by (eqb x y) refl
+  where
+    by : (b : Bool) → eqb x y ≡ b → b ≡ eqb (x * g) (y * g)
+    by true q = sym (eq-eqb (x * g) (y * g) (ap (λ (z : ℕ). z * g) (eqb-true x y q)))
+    by false q = sym (ne-eqb (x * g) (y * g) (λ e. eqb-false x y q (eq-of-mul-eq-mul-right g some x y e)))
 
 module _ (rule : Taking) (s : Bool) (m : ℕ) (low : 2 ^ 63 ≤ m) where
-  pub takes-under-one : m < 2 ^ 64 → (i : ℕ) → TakesSize rule s (negsuc i) m (byRule rule false (pos 0))
-  unfolding TakesSize signedSize
-  takes-under-one high i t v means counted = subst (λ (t : Takum). IsTakenWhole rule t (byRule rule false (pos 0))) (sym means) (taken-inside rule (signedSize s v) (pos 0) false part (inside false 0 zero-le) nothing)
-    where
-      small : (0 < v) × (v < 2 ^ 307)
-      small = under-one i m v low high counted
-
-      part : IsWholePart (signedSize s v) (pos 0)
-      part = subst (IsWholePart (signedSize s v)) (no-sign s) (whole-part s v 0 (le-trans (le-of-eq (zero-mul (2 ^ 307))) zero-le) (lt-of-lt-of-le (small .1) (le-of-eq (sym (one-mul (2 ^ 307))))))
-
-      nothing : false ≡ eqb (0 * 2 ^ 307) (natAbs (signedSize s v))
-      nothing = subst (λ (a : ℕ). false ≡ eqb (0 * 2 ^ 307) a) (sym (absolute s v)) (sym (ne-eqb 0 v (ne-of-lt (small .0))))
-
-  pub takes-past : (i : ℕ) → 63 < i → TakesSize rule s (pos i) m (Whole.Refused Refusal.Over)
+  -- below a half
+  pub takes-under-half : m < 2 ^ 64 → (i : ℕ) → TakesSize rule s (negsuc (suc i)) m (byRule rule false (pos 0))
   unfolding TakesSize
-  takes-past i h t v means counted = subst (λ (t : Takum). IsTakenWhole rule t (Whole.Refused Refusal.Over)) (sym means) (taken-over rule (signedSize s v) (signedSize s size) part (outside s size large))
+  takes-under-half high i t v means counted = subst (λ (t : Takum). IsTakenWhole rule t (byRule rule false (pos 0))) (sym means) (taken-inside rule (signedSize s v) (pos 0) false near (inside false 0 (pow-pos 63)) something)
     where
-      size : ℕ
-      size = m * 2 ^ (i - 63)
+      small : (0 < v) × (2 * v < 2 ^ 307)
+      small = under-half i m v low high counted
 
-      is : v ≡ size * 2 ^ 307
-      is = amount i m v counted ∙ ap (λ (y : ℕ). m * y) (sym (pow-sum (i - 63) 307 (i + 244) (omega (arith, h)))) ∙ sym (mul-assoc m (2 ^ (i - 63)) (2 ^ 307))
+      zero-size : (u : ℕ) → 2 * v < u → NearestSize u v 0
+      zero-size u h = record { up-to = omega (arith, h, zero-mul u); from = omega (arith, zero-mul u); tie-above = λ q. refl; tie-below = λ q. refl }
 
-      part : IsWholePart (signedSize s v) (signedSize s size)
-      part = whole-part s v size (le-of-eq (sym is)) (lt-of-le-of-lt (le-of-eq is) (mul-lt-mul-of-pos-right (le-refl (suc size)) (pow-pos 307)))
+      near : IsNearestWhole (signedSize s v) (pos 0)
+      near = subst (IsNearestWhole (signedSize s v)) (no-sign s) (nearest-whole s v 0 (zero-size (2 ^ 307) (small .1)))
 
-      large : greatestSize s < size
-      large = lt-of-lt-of-le (most s) (mul-le-mul {n₁ = 2 ^ 63} {m₁ = 2 ^ 1} low (pow-mono {i = 1} {j = i - 63} (omega (arith, h))))
+      something : false ≡ eqb (0 * 2 ^ 307) (natAbs (signedSize s v))
+      something = subst (λ (a : ℕ). false ≡ eqb (0 * 2 ^ 307) a) (sym (absolute s v)) (sym (ne-eqb 0 v (ne-of-lt (small .0))))
 
-  -- from one up to 2^64
-  module _ (i : ℕ) (h : i ≤ 63) where
-    whole : 2 ^ (63 - i) * 2 ^ (i + 244) ≡ 2 ^ 307
-    whole = pow-sum (63 - i) (i + 244) 307 (omega (arith, h))
+  -- from 2^63 up it is whole
+  module _ (k : ℕ) (far : 64 ≤ k) where
+    whole : ℕ
+    whole = m * 2 ^ (k - 64)
 
-    pub kept-some : 0 < kept m i
-    kept-some = le-div-iff-mul-le {x = 1} (pow-pos (63 - i)) .1 (le-trans (le-of-eq (one-mul (2 ^ (63 - i)))) (le-trans (pow-mono {i = 63 - i} {j = 63} (omega arith)) low))
+    is-whole : (v : ℕ) → v ≡ m * 2 ^ (k + 243) → v ≡ whole * 2 ^ 307
+    unfolding whole
+    is-whole v q = q ∙ ap (λ (y : ℕ). m * y) (sym (pow-sum (k - 64) 307 (k + 243) (omega (arith, far)))) ∙ sym (mul-assoc m (2 ^ (k - 64)) (2 ^ 307))
 
-    part-of : (v : ℕ) → v ≡ m * 2 ^ (i + 244) → IsWholePart (signedSize s v) (signedSize s (kept m i))
-    part-of v q =
-        whole-part s v (kept m i) (le-trans (not-above m (63 - i) (2 ^ (i + 244)) (2 ^ 307) (pow-pos (i + 244)) whole) (le-of-eq (sym q)))
-        (lt-of-le-of-lt (le-of-eq q) (next-above m (63 - i) (2 ^ (i + 244)) (2 ^ 307) (pow-pos (i + 244)) whole))
-
-    pub takes-over : greatestSize s < kept m i → TakesSize rule s (pos i) m (Whole.Refused Refusal.Over)
+    takes-whole : (a : Whole) → IsAnswered rule true (signedSize s whole) a → TakesSize rule s (pos k -ℤ pos 1) m a
     unfolding TakesSize
-    takes-over large t v means counted =
-        subst (λ (t : Takum). IsTakenWhole rule t (Whole.Refused Refusal.Over)) (sym means)
-        (taken-over rule (signedSize s v) (signedSize s (kept m i)) (part-of v (amount i m v counted)) (outside s (kept m i) large))
+    takes-whole a is t v means counted =
+        let q = is-whole v (amount k m v counted) in
+        subst (λ (t : Takum). IsTakenWhole rule t a) (sym means)
+        (taken rule (signedSize s v) (signedSize s whole) true a (subst (λ (y : ℕ). IsNearestWhole (signedSize s y) (signedSize s whole)) (sym q) (nearest-whole s (whole * 2 ^ 307) whole (itself (2 ^ 307) (pow-pos 307) whole)))
+        (sym (eq-eqb _ _ (ap (λ (y : ℕ). y * 2 ^ 307) (absolute s whole) ∙ sym q ∙ sym (absolute s v)))) is)
 
-    pub takes-inside : kept m i ≤ greatestSize s → TakesSize rule s (pos i) m (byRule rule (eqb (kept m i * 2 ^ (63 - i)) m) (signedSize s (kept m i)))
-    unfolding TakesSize
-    takes-inside small t v means counted =
-        subst (λ (t : Takum). IsTakenWhole rule t (byRule rule (eqb (kept m i * 2 ^ (63 - i)) m) (signedSize s (kept m i)))) (sym means)
-        (taken-inside rule (signedSize s v) (signedSize s (kept m i)) (eqb (kept m i * 2 ^ (63 - i)) m) (part-of v is) (inside s (kept m i) small) exactly)
+    pub takes-past : 64 < k → TakesSize rule s (pos k -ℤ pos 1) m (Whole.Refused Refusal.Over)
+    unfolding IsAnswered whole
+    takes-past h = takes-whole (Whole.Refused Refusal.Over) (refused (outside s (m * 2 ^ (k - 64)) large) refl)
       where
-        is : v ≡ m * 2 ^ (i + 244)
-        is = amount i m v counted
+        large : 2 ^ 63 < m * 2 ^ (k - 64)
+        large = lt-of-lt-of-le {b = 2 ^ 63 * 2 ^ 1} (lit< tt) (mul-le-mul {n₁ = 2 ^ 63} {m₁ = 2 ^ 1} low (pow-mono {i = 1} {j = k - 64} (omega (arith, h))))
 
-        exactly : eqb (kept m i * 2 ^ (63 - i)) m ≡ eqb (natAbs (signedSize s (kept m i)) * 2 ^ 307) (natAbs (signedSize s v))
+    pub takes-64 : k ≡ 64 → (a : Whole) → IsAnswered rule true (signedSize s m) a → TakesSize rule s (pos k -ℤ pos 1) m a
+    unfolding whole
+    takes-64 q a is = takes-whole a (subst (λ (y : ℕ). IsAnswered rule true (signedSize s y) a) (sym (ap (λ (j : ℕ). m * 2 ^ (j - 64)) q ∙ mul-one m)) is)
+
+  -- from a half up to 2^63: 64 - k bits are the fraction
+  module _ (k : ℕ) (h : k ≤ 63) where
+    pub takes-rounded : (i : ℕ) (a : Whole) → NearestSize (2 ^ 64) (m * 2 ^ k) i → IsAnswered rule (eqb (m * 2 ^ k % 2 ^ 64) 0) (signedSize s i) a → TakesSize rule s (pos k -ℤ pos 1) m a
+    unfolding TakesSize
+    takes-rounded i a x is t v means counted =
+        subst (λ (t : Takum). IsTakenWhole rule t a) (sym means) (taken rule (signedSize s v) (signedSize s i) (eqb (m * 2 ^ k % 2 ^ 64) 0) a (nearest-whole s v i near) exactly is)
+      where
+        one : 2 ^ 64 * 2 ^ 243 ≡ 2 ^ 307
+        one = pow-sum 64 243 307 refl
+
+        is-size : m * 2 ^ k * 2 ^ 243 ≡ v
+        is-size = mul-assoc m (2 ^ k) (2 ^ 243) ∙ ap (λ (y : ℕ). m * y) (pow-sum k 243 (k + 243) refl) ∙ sym (amount k m v counted)
+
+        near : NearestSize (2 ^ 307) v i
+        near = subst₂ (λ (u b : ℕ). NearestSize u b i) one is-size (finer (2 ^ 64) (pow-pos 64) (m * 2 ^ k) i (2 ^ 243) (pow-pos 243) x)
+
+        exactly : eqb (m * 2 ^ k % 2 ^ 64) 0 ≡ eqb (natAbs (signedSize s i) * 2 ^ 307) (natAbs (signedSize s v))
         exactly =
-            nothing-lost m (63 - i) (2 ^ (i + 244)) (2 ^ 307) (pow-pos (i + 244)) whole
-            ∙ ap₂ (λ (a b : ℕ). eqb (a * 2 ^ 307) b) (sym (absolute s (kept m i))) (sym is ∙ sym (absolute s v))
+            nothing-left (2 ^ 64) (pow-pos 64) (m * 2 ^ k) i x ∙ times-both (i * 2 ^ 64) (m * 2 ^ k) (2 ^ 243) (pow-pos 243)
+            ∙ ap₂ eqb (mul-assoc i (2 ^ 64) (2 ^ 243) ∙ ap₂ (λ (j u : ℕ). j * u) (sym (absolute s i)) one) (is-size ∙ sym (absolute s v))

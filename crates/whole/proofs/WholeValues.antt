@@ -1,8 +1,7 @@
--- The value of a whole number: its whole part is the number itself, and by either rule the number itself is taken out. Assumes nothing.
+-- The value of a whole number: the nearest whole number is the number itself, and by either rule the number itself is taken out. Assumes nothing.
 use mathlib.Core.Path.{_≡_, refl, sym, ap, _∙_, subst}
 use mathlib.Core.Bool.{Bool, true, false}
 use Prim.Native.Nat.{ℕ, zero, suc, _*_, _^_}
-use native.Mathlib.Nat.{le-refl, mul-lt-mul-of-pos-right}
 use borrow.Author.Tests.{eq-eqb}
 use lib.IntN.{ℤ, natAbs}
 use lib.Pow.{pow-pos}
@@ -14,18 +13,18 @@ use Rattle.write.specs.Writes.{isNegative}
 use Rattle.write.proofs.Moves.{rejoined}
 use Rattle.whole.specs.declared.taking.Taking.{Taking}
 use Rattle.whole.specs.declared.taking.Whole.{Whole}
-use Rattle.whole.specs.Wholes.{IsWholePart, overTest, IsTakenWhole}
+use Rattle.whole.specs.Wholes.{IsNearestWhole, overTest, IsTakenWhole}
 use Rattle.whole.specs.Parts.{byRule}
-use Rattle.whole.proofs.WholeParts.{whole-part}
+use Rattle.whole.proofs.NearestWholes.{itself, nearest-whole, its-sign}
 use Rattle.whole.proofs.Answers.{taken-inside}
 
 -- the whole number x is the value x * 2^307 * 2^-307
 unfoldable pub valueOf : ℤ → ℤ
 valueOf x = signedSize (isNegative x) (natAbs x * 2 ^ 307)
 
-pub is-its-whole-part : (x : ℤ) → IsWholePart (valueOf x) x
+pub is-its-nearest : (x : ℤ) → IsNearestWhole (valueOf x) x
 unfolding valueOf
-is-its-whole-part x = subst (IsWholePart (valueOf x)) (rejoined x) (whole-part (isNegative x) (natAbs x * 2 ^ 307) (natAbs x) (le-refl (natAbs x * 2 ^ 307)) (mul-lt-mul-of-pos-right (le-refl (suc (natAbs x))) (pow-pos 307)))
+is-its-nearest x = subst (IsNearestWhole (valueOf x)) (rejoined x) (nearest-whole (isNegative x) (natAbs x * 2 ^ 307) (natAbs x) (itself (2 ^ 307) (pow-pos 307) (natAbs x)))
 
 pub signed-value : (s : Bool) (i : ℕ) → valueOf (signedSize s i) ≡ signedSize s (i * 2 ^ 307)
 unfolding valueOf signedSize isNegative
@@ -33,16 +32,16 @@ signed-value false i = refl
 signed-value true zero = refl
 signed-value true (suc i) = refl
 
--- a value that is as large as its whole part is its whole part's
-pub exact-value : (z x : ℤ) → IsWholePart z x → natAbs x * 2 ^ 307 ≡ natAbs z → z ≡ valueOf x
-exact-value z x part q = sym (ap valueOf (part .sign) ∙ signed-value (isNegative z) (natAbs x) ∙ ap (signedSize (isNegative z)) q ∙ rejoined z)
+-- a value that is as large as the nearest whole number is that number's
+pub exact-value : (z x : ℤ) → IsNearestWhole z x → natAbs x * 2 ^ 307 ≡ natAbs z → z ≡ valueOf x
+exact-value z x near q = sym (ap valueOf (its-sign z x near) ∙ signed-value (isNegative z) (natAbs x) ∙ ap (signedSize (isNegative z)) q ∙ rejoined z)
 
 -- where nothing is lost both rules answer alike
 pub exactly : (rule : Taking) (x : ℤ) → byRule rule true x ≡ Whole.Is x
 unfolding byRule
-exactly Taking.Cut x = refl
+exactly Taking.Nearest x = refl
 exactly Taking.Strict x = refl
 
 pub taken-as-itself : (rule : Taking) (x : ℤ) → overTest x ≡ Verdict.Through → IsTakenWhole rule (real (valueOf x)) (Whole.Is x)
 unfolding valueOf
-taken-as-itself rule x h = subst (IsTakenWhole rule (real (valueOf x))) (exactly rule x) (taken-inside rule (valueOf x) x true (is-its-whole-part x) h (sym (eq-eqb (natAbs x * 2 ^ 307) (natAbs (valueOf x)) (sym (absolute (isNegative x) (natAbs x * 2 ^ 307))))))
+taken-as-itself rule x h = subst (IsTakenWhole rule (real (valueOf x))) (exactly rule x) (taken-inside rule (valueOf x) x true (is-its-nearest x) h (sym (eq-eqb (natAbs x * 2 ^ 307) (natAbs (valueOf x)) (sym (absolute (isNegative x) (natAbs x * 2 ^ 307))))))

@@ -1,23 +1,31 @@
--- Serves private functions only: what the parts of taking out answer, which are the whole part of a size, its range, its sign and the rule.
+-- Serves private functions only: what the parts of taking out answer, which are the whole number nearest to a size, its range, its sign and the rule.
 use mathlib.Core.Path.{_≡_}
 use mathlib.Core.Bool.{Bool, cond}
-use Prim.Native.Nat.{ℕ, _-_, _^_}
+use Prim.Native.Nat.{ℕ, _+_, _*_, _%_, _≤_}
 use lib.IntN.{ℤ, pos, _-ℤ_}
 use Rattle.bounds.specs.declared.refusal.Refusal.{Refusal}
+use Rattle.bounds.specs.Refusals.{Decided}
 use Rattle.word.specs.Takum.{Takum, real}
 use Rattle.word.specs.Reads.{IsSize, signedSize}
 use Rattle.whole.specs.declared.taking.Taking.{Taking}
 use Rattle.whole.specs.declared.taking.Whole.{Whole}
-use Rattle.whole.specs.Wholes.{IsTakenWhole}
+use Rattle.whole.specs.Wholes.{overTest, IsTakenWhole}
 
--- the greatest size of a signed 64-bit number
-unfoldable pub greatestSize : Bool → ℕ
-greatestSize negative = cond negative (2 ^ 63) (2 ^ 63 - 1)
+-- i is the whole number nearest to the size a, u being one: it is at most a half off, and where it is a half off, even
+pub record NearestSize (u a i : ℕ) : Type 0 where
+  pub up-to : 2 * a ≤ 2 * (i * u) + u
+  pub from : 2 * (i * u) ≤ 2 * a + u
+  pub tie-above : 2 * a ≡ 2 * (i * u) + u → i % 2 ≡ 0
+  pub tie-below : 2 * (i * u) ≡ 2 * a + u → i % 2 ≡ 0
 
--- what the rule answers for the whole part x of a value that is exactly x, or isn't
+-- what the rule answers for the whole number x nearest to a value that is exactly x, or isn't
 unfoldable pub byRule : Taking → Bool → ℤ → Whole
-byRule Taking.Cut exactly x = Whole.Is x
+byRule Taking.Nearest exactly x = Whole.Is x
 byRule Taking.Strict exactly x = cond exactly (Whole.Is x) (Whole.Refused Refusal.Inexact)
+
+-- what is answered for it: OVER, and then what the rule says
+unfoldable pub IsAnswered : Taking → Bool → ℤ → Whole → Type 0
+IsAnswered rule exactly x a = Decided (overTest x) (λ q. a ≡ Whole.Refused q) (a ≡ byRule rule exactly x)
 
 -- what is taken out of every word whose value has this sign and the size m * 2^(h - 63)
 unfoldable pub TakesSize : Taking → Bool → ℤ → ℕ → Whole → Type 0

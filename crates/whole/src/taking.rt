@@ -1,19 +1,20 @@
-// A whole number out: the whole part of what a word means, cut or strict.
+// A whole number out: the one nearest to what a word means, or, strictly, the one that it means.
 use bounds::refusal::Refusal;
 use bounds::width::Width;
 use sizes::size::Size;
 use sizes::size::WordSize;
 use sizes::size::read_size;
 ghost use mathlib.Core.Path.{_≡_};
-ghost use Prim.Native.Nat.{_^_, _≤_, _<_};
-ghost use lib.IntN.{pos};
+ghost use Prim.Native.Nat.{_+_, _*_, _^_, _≤_, _<_};
+ghost use lib.IntN.{pos, _-ℤ_};
+ghost use lib.Signed.{mag};
 ghost use Rattle.word.specs.Reads.{signedSize};
 ghost use Rattle.whole.specs.Wholes.{TakesWhole};
-ghost use Rattle.whole.specs.Parts.{greatestSize, byRule, TakesSize};
+ghost use Rattle.whole.specs.Parts.{NearestSize, IsAnswered, byRule, TakesSize};
 
-// Cut drops the fraction toward zero, strict refuses a value that has one.
+// Nearest rounds, halves to the even number; strict refuses a value that isn't whole.
 pub enum Taking {
-    Cut,
+    Nearest,
     Strict,
 }
 
@@ -22,7 +23,7 @@ pub enum Whole {
     Refused(Refusal),
 }
 
-// The whole part of the word's value, where it falls inside signed 64 bits.
+// The whole number nearest to the word's value, where it falls inside signed 64 bits.
 pub fn take_whole(width: Width, rule: Taking, word: u64) -> Whole
     ensures { λ a. ⌜ TakesWhole (width .bits) rule word a ⌝ }
 {
@@ -34,66 +35,81 @@ pub fn take_whole(width: Width, rule: Taking, word: u64) -> Whole
     }
 }
 
-// The whole part of a number.
+// The whole number nearest to a size with its sign.
 fn take_number(rule: Taking, size: Size) -> Whole
-    requires { ⌜ 2 ^ 63 ≤ size .m ⌝ }
+    requires { ⌜ (2 ^ 63 ≤ size .m) × (mag (size .h) ≤ 254) ⌝ }
     ensures { λ a. ⌜ TakesSize rule (size .negative) (size .h) (size .m) a ⌝ }
 {
-    // Below one the whole part is zero, and something is left beside it.
-    if size.h < 0 {
+    // Below a half it is zero, and something is left beside it.
+    if size.h < -1 {
         return by_rule(rule, false, 0);
     }
-    take_size(rule, size.negative, size.h as u32, size.m)
+    take_size(rule, size.negative, (size.h + 1) as u32, size.m)
 }
 
-// The whole part of the size m * 2^(h - 63) with its sign, m having its top bit set.
-fn take_size(rule: Taking, negative: bool, h: u32, m: u64) -> Whole
+// The same of m * 2^(k - 64), m having its top bit set: from a half up.
+fn take_size(rule: Taking, negative: bool, k: u32, m: u64) -> Whole
     requires { ⌜ 2 ^ 63 ≤ m ⌝ }
-    ensures { λ a. ⌜ TakesSize rule negative (pos h) m a ⌝ }
+    ensures { λ a. ⌜ TakesSize rule negative (pos k -ℤ pos 1) m a ⌝ }
 {
-    if 62 < h {
-        return take_far(rule, negative, h, m);
-    }
-    // The lowest 63 - h bits are the fraction.
-    let fraction = 63 - h;
-    let size = m >> fraction;
-    by_rule(rule, size << fraction == m, with_sign(negative, size))
-}
-
-// The same from 2^63 on, where only -2^63 itself falls inside signed 64 bits.
-fn take_far(rule: Taking, negative: bool, h: u32, m: u64) -> Whole
-    requires { ⌜ (2 ^ 63 ≤ m) × (62 < h) ⌝ }
-    ensures { λ a. ⌜ TakesSize rule negative (pos h) m a ⌝ }
-{
-    if 63 < h {
+    if 64 < k {
         return Whole::Refused(Refusal::Over);
     }
+    // From 2^63 on nothing is left beside a whole number.
+    if k == 64 {
+        return in_range(rule, true, negative, m);
+    }
+    // The lowest 64 - k bits are the fraction.
+    let fraction = m << k;
+    let size = nearest((m >> 1) >> (63 - k), fraction);
+    in_range(rule, fraction == 0, negative, size)
+}
+
+// Whole or whole + 1, whichever is nearer to whole + fraction * 2^-64, and at a half the even one. One test decides, since nobody can foretell which
+// way it goes.
+fn nearest(whole: u64, fraction: u64) -> u64
+    requires { ⌜ whole < 2 ^ 63 ⌝ }
+    ensures { λ i. ⌜ NearestSize (2 ^ 64) (whole * 2 ^ 64 + fraction) i ⌝ }
+{
+    if (1 << 63) - whole % 2 < fraction {
+        return whole + 1;
+    }
+    whole
+}
+
+// A whole number by its sign and its size: OVER is judged on the rounded size, and comes before what the rule says. Of the sizes from 2^63 on only -2^63
+// falls inside signed 64 bits.
+fn in_range(rule: Taking, exactly: bool, negative: bool, size: u64) -> Whole
+    ensures { λ a. ⌜ IsAnswered rule exactly (signedSize negative size) a ⌝ }
+{
+    if size < 1 << 63 {
+        return by_rule(rule, exactly, with_sign(negative, size));
+    }
     if negative {
-        if m == 1 << 63 {
-            return by_rule(rule, true, with_sign(negative, m));
+        if size == 1 << 63 {
+            return by_rule(rule, exactly, -0x8000_0000_0000_0000);
         }
         return Whole::Refused(Refusal::Over);
     }
     Whole::Refused(Refusal::Over)
 }
 
-// A whole number of its sign and size; 2^63 itself is no i64, so one is taken off before the sign is set.
 fn with_sign(negative: bool, size: u64) -> i64
-    requires { ⌜ (0 < size) × (size ≤ greatestSize negative) ⌝ }
+    requires { ⌜ size < 2 ^ 63 ⌝ }
     ensures { λ x. ⌜ x ≡ signedSize negative size ⌝ }
 {
     if negative {
-        return -1 - (size - 1) as i64;
+        return 0 - size as i64;
     }
     size as i64
 }
 
-// What the rule answers where the whole part is x, and the value is exactly x or has a fraction beside it.
+// What the rule answers where the nearest whole number is x, and the value is exactly x or has a fraction beside it.
 fn by_rule(rule: Taking, exactly: bool, x: i64) -> Whole
     ensures { λ a. ⌜ a ≡ byRule rule exactly x ⌝ }
 {
     match rule {
-        Taking::Cut => Whole::Is(x),
+        Taking::Nearest => Whole::Is(x),
         Taking::Strict => {
             if exactly {
                 return Whole::Is(x);

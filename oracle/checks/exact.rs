@@ -28,6 +28,7 @@ fn check_one(a: i64) {
     let exact = Whole::from_signed(a);
     assert!(exact.is_zero() == (a == 0));
     assert!(exact.is_negative() == (a < 0));
+    assert!(exact.is_even() == (a % 2 == 0));
     assert!(exact.size().to_unsigned() == u128::from(a.unsigned_abs()));
     assert!(exact.negated() == from_machine(-i128::from(a)));
     assert!(exact.to_signed() == Some(a));

@@ -102,7 +102,7 @@ const WHOLE_NUMBERS: [&str; 23] = [
     // "515 rounded is 0x5A02", and 0x5A01 being 514, that is 516. "512 at 16; 2^24 at 32": at 32 bits 515 has a word,
     // 512 * (1 + 3 * 2^-9), and p is 24, so F is 3 * 2^15 after the 0x5A of 512.
     "width 16 whole number 515 rounded gives 5a02",
-    "width 16 word 5a02 cut is 516",
+    "width 16 word 5a02 nearest is 516",
     "width 16 whole number 515 strict is refused 4",
     "width 32 whole number 515 strict gives 5a018000",
     "width 32 word 5a018000 strict is 515",
@@ -114,13 +114,13 @@ const WHOLE_NUMBERS: [&str; 23] = [
     // "1,023 rounded is 0x5B00." "9 and 10 rounded are 0x50."
     "width 16 whole number 1023 rounded gives 5b00",
     "width 8 whole number 10 rounded gives 50",
-    // "-0.5 cut is 0", 0x3800 being 0.5. "0xBC00 is -1.5." "0x8000 is NaR": "a whole number is wanted of NaR".
-    "width 16 word c800 cut is 0",
+    // Halves go to the even number (paper 02, Wish 2), 0x3800 being 0.5. "0xBC00 is -1.5." "0x8000 is NaR": "a whole number is wanted of NaR".
+    "width 16 word c800 nearest is 0",
     "width 16 word c800 strict is refused 4",
-    "width 16 word bc00 cut is -1",
-    "width 16 word 8000 cut is refused 3",
-    "width 16 word 10000 cut is refused 2",
-    "width 65 word 0 cut is refused 1",
+    "width 16 word bc00 nearest is -2",
+    "width 16 word 8000 nearest is refused 3",
+    "width 16 word 10000 nearest is refused 2",
+    "width 65 word 0 nearest is refused 1",
     // "A word of value -2^63 goes out; 2^63 is refused 5." 2^63 is 0 1 110 000000. At width 64 the words below it lie
     // 2^8 apart, so it is the nearest to 2^63 - 1.
     "width 16 whole number -9223372036854775808 strict gives 9000",
@@ -128,7 +128,7 @@ const WHOLE_NUMBERS: [&str; 23] = [
     "width 64 whole number 9223372036854775807 rounded gives 7000000000000000",
     "width 16 word 9000 strict is -9223372036854775808",
     "width 16 word 7000 strict is refused 5",
-    "width 16 word 7000 cut is refused 5",
+    "width 16 word 7000 nearest is refused 5",
 ];
 
 const BINARY64: [&str; 13] = [

@@ -74,7 +74,7 @@ fn check_two(a: i64, b: i64) {
 }
 
 /// A 128-bit number of the machine as an exact one.
-fn from_machine(number: i128) -> Whole {
+pub fn from_machine(number: i128) -> Whole {
     let size = Whole::from_unsigned(number.unsigned_abs());
     if number < 0 {
         size.negated()

@@ -6,12 +6,13 @@ mod buffers;
 pub mod columns;
 mod digest;
 mod faults;
+pub mod halves;
 pub mod long;
 pub mod out;
 mod reading;
 mod results;
 mod runs;
-mod ways;
+pub mod ways;
 pub mod whole;
 pub mod writing;
 pub mod written;
@@ -25,13 +26,14 @@ pub fn words() -> Vec<String> {
     lines
 }
 
-/// The text of numbers: parts 13 to 27.
+/// The text of numbers: parts 13 to 27, then 51.
 pub fn numbers() -> Vec<String> {
     let mut lines = Vec::new();
     out::push(&mut lines);
     whole::push(&mut lines);
     binary64::push(&mut lines);
     ways::push_refusals(&mut lines);
+    halves::push(&mut lines);
     lines
 }
 

@@ -4,7 +4,7 @@
 use crate::census::digest::Digest;
 use crate::census::runs::single_line;
 use crate::numbers::binary64::{binary64_in, binary64_out, with_sign, Binary64, INFINITY, NAN};
-use crate::numbers::whole::{whole_in, whole_out_cut, whole_out_strict};
+use crate::numbers::whole::{whole_in, whole_out_nearest, whole_out_strict};
 use crate::words::refusals::{count_of_words, Refusal, BAD_WIDTHS};
 
 /// "The ways in of a whole number."
@@ -36,7 +36,7 @@ pub fn take_binary64_out(digest: &mut Digest, width: u32, word: u64) {
 
 /// "The ways out of a word."
 pub fn take_ways_out(digest: &mut Digest, width: u32, word: u64) {
-    digest.take_signed_number(whole_out_cut(width, word));
+    digest.take_signed_number(whole_out_nearest(width, word));
     digest.take_signed_number(whole_out_strict(width, word));
     take_binary64_out(digest, width, word);
 }
@@ -71,7 +71,7 @@ fn unnumbered_lines(lines: &mut Vec<String>) {
         }
         take_binary64_in(&mut digest, width, NAN);
         for word in [0, 1, 1 << 63, u64::MAX] {
-            assert!(whole_out_cut(width, word) == Err(Refusal::Width));
+            assert!(whole_out_nearest(width, word) == Err(Refusal::Width));
             take_ways_out(&mut digest, width, word);
         }
         lines.push(single_line("unnumbered", width, &digest));
@@ -84,7 +84,7 @@ fn unread_lines(lines: &mut Vec<String>) {
         let mut digest = Digest::new();
         let lowest_stray: u64 = 1 << width;
         for word in [lowest_stray, lowest_stray + 1, lowest_stray + lowest_stray / 2, 1 << 63, u64::MAX] {
-            assert!(whole_out_cut(width, word) == Err(Refusal::Stray));
+            assert!(whole_out_nearest(width, word) == Err(Refusal::Stray));
             take_ways_out(&mut digest, width, word);
         }
         lines.push(single_line("unread", width, &digest));

@@ -57,13 +57,14 @@ fn check_lister() {
     damaged[8] ^= 1;
     let sheet = [&damaged[..], &case, &damaged, &case[..1]].concat();
     assert!(listing(&sheet) == format!("block 0 refused 9\n{lines}block 2 refused 9\nblock 3 refused 7\n"));
-    // An empty block has no line. All digits, a minus sign, `over` of both signs, and the greatest block number.
+    // An empty block has no line. All digits, a minus sign, `over` of both signs, and the greatest block number. -1.5
+    // goes to the even number: "The lister prints by the new rule" (paper 02, Wish 2).
     let block = good_block(32, u32::MAX, &[0, 0xC000_0000, 0xBC00_0000, 0x7FFF_FFFF, 0x8000_0001, 0x9000_0000]);
     let sheet = [&good_block(8, 5, &[])[..], &block].concat();
     let expected = [
         "4294967295 0 00000000 0",
         "4294967295 1 c0000000 -1",
-        "4294967295 2 bc000000 -1",
+        "4294967295 2 bc000000 -2",
         "4294967295 3 7fffffff over",
         "4294967295 4 80000001 over",
         "4294967295 5 90000000 -9223372036854775808",

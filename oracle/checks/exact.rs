@@ -28,6 +28,7 @@ fn check_one(a: i64) {
     let exact = Whole::from_signed(a);
     assert!(exact.is_zero() == (a == 0));
     assert!(exact.is_negative() == (a < 0));
+    assert!(exact.is_even() == (a % 2 == 0));
     assert!(exact.size().to_unsigned() == u128::from(a.unsigned_abs()));
     assert!(exact.negated() == from_machine(-i128::from(a)));
     assert!(exact.to_signed() == Some(a));
@@ -73,7 +74,7 @@ fn check_two(a: i64, b: i64) {
 }
 
 /// A 128-bit number of the machine as an exact one.
-fn from_machine(number: i128) -> Whole {
+pub fn from_machine(number: i128) -> Whole {
     let size = Whole::from_unsigned(number.unsigned_abs());
     if number < 0 {
         size.negated()

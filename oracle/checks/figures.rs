@@ -1,17 +1,18 @@
-//! Checks of the printed figures against paper 01; written from the papers alone.
+//! Checks of the printed figures against papers 01 and 02; written from the papers alone.
 //!
-//! Each line stands below the sentence of the paper that gives it, or that it follows from; the paper's marks P are
-//! left out. The words that the paper doesn't name were worked out by hand from the fields of Definition 2: S, D, R, C
-//! and F from the top.
+//! Each line stands below the sentence of paper 01 that gives it, or that it follows from, and in HALVES of paper 02,
+//! Wish 2; the marks P are left out. The words that the papers don't name were worked out by hand from the fields of
+//! Definition 2: S, D, R, C and F from the top.
 
 /// Every line below is printed, and no other is.
 pub fn check(lines: &[String]) {
-    let expected = [&READING[..], &LIMITS, &WRITING, &ERRORS_THAT_LOOK_RIGHT, &WHOLE_NUMBERS, &BINARY64].concat();
+    let expected =
+        [&READING[..], &LIMITS, &WRITING, &ERRORS_THAT_LOOK_RIGHT, &WHOLE_NUMBERS, &HALVES, &BINARY64].concat();
     for line in &expected {
         assert!(lines.iter().any(|printed| printed == line), "not printed: {line}");
     }
     for line in lines {
-        assert!(expected.contains(&line.as_str()), "not from the paper: {line}");
+        assert!(expected.contains(&line.as_str()), "not from the papers: {line}");
     }
     assert!(lines.len() == expected.len());
 }
@@ -102,7 +103,7 @@ const WHOLE_NUMBERS: [&str; 23] = [
     // "515 rounded is 0x5A02", and 0x5A01 being 514, that is 516. "512 at 16; 2^24 at 32": at 32 bits 515 has a word,
     // 512 * (1 + 3 * 2^-9), and p is 24, so F is 3 * 2^15 after the 0x5A of 512.
     "width 16 whole number 515 rounded gives 5a02",
-    "width 16 word 5a02 cut is 516",
+    "width 16 word 5a02 nearest is 516",
     "width 16 whole number 515 strict is refused 4",
     "width 32 whole number 515 strict gives 5a018000",
     "width 32 word 5a018000 strict is 515",
@@ -114,13 +115,14 @@ const WHOLE_NUMBERS: [&str; 23] = [
     // "1,023 rounded is 0x5B00." "9 and 10 rounded are 0x50."
     "width 16 whole number 1023 rounded gives 5b00",
     "width 8 whole number 10 rounded gives 50",
-    // "-0.5 cut is 0", 0x3800 being 0.5. "0xBC00 is -1.5." "0x8000 is NaR": "a whole number is wanted of NaR".
-    "width 16 word c800 cut is 0",
+    // "Halves to the even number" (paper 02, Wish 2): -0.5 goes to 0, 0x3800 being 0.5. "0xBC00 is -1.5." "0x8000 is
+    // NaR": "a whole number is wanted of NaR".
+    "width 16 word c800 nearest is 0",
     "width 16 word c800 strict is refused 4",
-    "width 16 word bc00 cut is -1",
-    "width 16 word 8000 cut is refused 3",
-    "width 16 word 10000 cut is refused 2",
-    "width 65 word 0 cut is refused 1",
+    "width 16 word bc00 nearest is -2",
+    "width 16 word 8000 nearest is refused 3",
+    "width 16 word 10000 nearest is refused 2",
+    "width 65 word 0 nearest is refused 1",
     // "A word of value -2^63 goes out; 2^63 is refused 5." 2^63 is 0 1 110 000000. At width 64 the words below it lie
     // 2^8 apart, so it is the nearest to 2^63 - 1.
     "width 16 whole number -9223372036854775808 strict gives 9000",
@@ -128,7 +130,46 @@ const WHOLE_NUMBERS: [&str; 23] = [
     "width 64 whole number 9223372036854775807 rounded gives 7000000000000000",
     "width 16 word 9000 strict is -9223372036854775808",
     "width 16 word 7000 strict is refused 5",
-    "width 16 word 7000 cut is refused 5",
+    "width 16 word 7000 nearest is refused 5",
+];
+
+/// Paper 02, Wish 2: "The trade rounds to the nearest, halves to the even number." "Strict stays. OVER is judged on the
+/// rounded number; the order of refusals stands."
+const HALVES: [&str; 22] = [
+    // "2.5 goes to 2." 0x4900 is 0 1 001 0 and F = 256 of 10 bits: (1 + 1/4) * 2. A step of F is 2^-9, so the words
+    // beside it are 2.5 - 2^-9 and 2.5 + 2^-9.
+    "width 16 word 4900 is 5 * 2^-1",
+    "width 16 word 4900 nearest is 2",
+    "width 16 word 4900 strict is refused 4",
+    "width 16 word 48ff nearest is 2",
+    "width 16 word 4901 nearest is 3",
+    // "3.5 to 4." 0x4B00 has F = 768 of 10 bits: (1 + 3/4) * 2.
+    "width 16 word 4b00 is 7 * 2^-1",
+    "width 16 word 4b00 nearest is 4",
+    // "-2.5 to -2." "Negation is two's complement negation": of 0x4900 it is 0xB700, and of 0x4901 it is 0xB6FF.
+    "width 16 word b700 is -5 * 2^-1",
+    "width 16 word b700 nearest is -2",
+    "width 16 word b700 strict is refused 4",
+    "width 16 word b6ff nearest is -3",
+    // "0x3800 is 0.5": 0 0 111 and F of 11 bits. 0x3801 is just above it, and 0xC7FF is the negation of that.
+    "width 16 word 3800 nearest is 0",
+    "width 16 word 3801 nearest is 1",
+    "width 16 word c7ff nearest is -1",
+    // "0x4400 is 1.5."
+    "width 16 word 4400 nearest is 2",
+    // 0 1 101 10110 and F of 54 bits, all of them 1: c is 31 + 22, and the value (2 - 2^-54) * 2^53. That is 2^54 - 1/2,
+    // or (2^55 - 1) * 2^-1. 2^54 is even. With F less by 2 it is 2^54 - 3/2, and 2^54 - 2 is even.
+    "width 64 word 6dbfffffffffffff is 36028797018963967 * 2^-1",
+    "width 64 word 6dbfffffffffffff nearest is 18014398509481984",
+    "width 64 word 6dbfffffffffffff strict is refused 4",
+    "width 64 word 6dbffffffffffffd nearest is 18014398509481982",
+    // The negation of the first.
+    "width 64 word 9240000000000001 nearest is -18014398509481984",
+    // 0 1 101 11111 and F of 54 bits, all of them 1: (2 - 2^-54) * 2^62, which is 2^63 - 2^8. The other one is the
+    // negation of 0 1 110 000000 and F = 1 of 53 bits, which is 2^63 + 2^10: "the whole number falls outside signed 64
+    // bits".
+    "width 64 word 6fffffffffffffff nearest is 9223372036854775552",
+    "width 64 word 8fffffffffffffff nearest is refused 5",
 ];
 
 const BINARY64: [&str; 13] = [

@@ -12,6 +12,7 @@ mod jamming;
 mod long;
 mod midpoints;
 mod moving;
+mod nearest;
 mod offers;
 mod patterns;
 mod reading;
@@ -33,6 +34,7 @@ pub fn check_words() {
 /// What its numbers stand on besides.
 pub fn check_numbers() {
     whole::check();
+    nearest::check();
     patterns::check();
     binary64::check();
     midpoints::check();

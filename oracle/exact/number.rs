@@ -51,6 +51,11 @@ impl Whole {
         self.negative
     }
 
+    /// Whether 2 divides the number. It divides zero.
+    pub fn is_even(&self) -> bool {
+        self.is_zero() || self.count_of_twos() > 0
+    }
+
     /// The number without its sign.
     pub fn size(&self) -> Whole {
         Whole::from_parts(false, self.digits.clone())

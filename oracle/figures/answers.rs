@@ -1,7 +1,7 @@
 //! The answer to a question of docs/FIGURES.md, in its line of text; written from the papers alone.
 
 use crate::numbers::binary64::{binary64_in, binary64_out, Binary64, NAN};
-use crate::numbers::whole::{whole_in, whole_out_cut, whole_out_strict};
+use crate::numbers::whole::{whole_in, whole_out_nearest, whole_out_strict};
 use crate::words::reading::{read, Reading};
 use crate::words::refusals::{make_width, Refusal};
 use crate::words::widths::exact_count_limit;
@@ -31,7 +31,7 @@ fn answer_of(question: &str) -> Result<String, Refusal> {
             word_by_rule(move_word(decimal(n), decimal(b), hex(w)), rule)
         }
         ["width", n, "whole", "number", x, rule] => word_by_rule(whole_in(decimal(n), decimal(x)), rule),
-        ["width", n, "word", w, "cut"] => Ok(format!(" is {}", whole_out_cut(decimal(n), hex(w))?)),
+        ["width", n, "word", w, "nearest"] => Ok(format!(" is {}", whole_out_nearest(decimal(n), hex(w))?)),
         ["width", n, "word", w, "strict"] => Ok(format!(" is {}", whole_out_strict(decimal(n), hex(w))?)),
         ["width", n, "binary64", "nan", rule] => word_by_rule(binary64_in(decimal(n), NAN), rule),
         ["width", n, "binary64", bits, rule] => word_by_rule(binary64_in(decimal(n), hex(bits)), rule),

@@ -1,6 +1,6 @@
-//! What the lister must print (paper 01, "The lister"); written from the papers alone.
+//! What the lister must print (paper 01, "The lister"; paper 02, Wish 2); written from the papers alone.
 
-use crate::numbers::whole::whole_out_cut;
+use crate::numbers::whole::whole_out_nearest;
 use crate::sheets::blocks::{read_block, BLOCK_SIZE};
 use crate::words::refusals::Refusal;
 use std::io::{Result, Write};
@@ -25,9 +25,9 @@ pub fn list(input: &[u8], output: &mut impl Write) -> Result<()> {
     Ok(())
 }
 
-/// "The cut whole number, or `nar`, or `over` for refusal 5."
+/// The nearest whole number, "or `nar`, or `over` for refusal 5"; paper 02, Wish 2: "The lister prints by the new rule."
 fn whole_text(width: u32, word: u64) -> String {
-    match whole_out_cut(width, word) {
+    match whole_out_nearest(width, word) {
         Ok(whole) => whole.to_string(),
         Err(Refusal::NaR) => "nar".to_string(),
         Err(Refusal::Over) => "over".to_string(),

@@ -68,7 +68,7 @@ const WHOLES: [i64; 13] = [
 
 const COUNT_OF_KINDS: usize = WHOLES.len() + 4;
 
-/// The word of each whole number above, rounded; then NaR, both ends of the width, and -0.5, which is cut to 0.
+/// The word of each whole number above, rounded; then NaR, both ends of the width, and -0.5, which goes out as 0.
 fn word_of_kind(width: u32, kind: usize) -> u64 {
     if kind < WHOLES.len() {
         return whole_in(width, WHOLES[kind]).rounded.unwrap();

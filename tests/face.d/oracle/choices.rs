@@ -4,7 +4,8 @@ use crate::numbers::binary64::{finest, nearest_pattern, with_sign, INFINITY, NAN
 use crate::numbers::whole::whole_in;
 use crate::words::refusals::{make_width, BAD_WIDTHS};
 use crate::words::sequence::{low_bits, Sequence};
-use crate::words::widths::{largest_word, nar_word};
+use crate::words::widths::{exact_count_limit, largest_word, nar_word};
+use crate::writing::answers::write;
 use crate::writing::around::{beside, itself, midpoint_above};
 use crate::writing::offers::Offer;
 
@@ -68,6 +69,18 @@ impl Choices {
             }
             _ => self.0.next_word(width),
         }
+    }
+
+    /// The word of i and a half, of either sign, or one beside it: the words drawn above are hardly ever halves. At a bad width any number.
+    pub fn half(&mut self, width: u32) -> u64 {
+        let Ok(limit) = exact_count_limit(width) else {
+            return self.number();
+        };
+        // Up to the limit every whole number has a word, and half of one has a word too (not so at the narrowest widths, where it is rounded).
+        let odd = u128::from(self.number() >> self.below(64)) % u128::from(limit) | 1;
+        let offer = Offer { minus: self.once_in(2), m: odd, k: -1 };
+        let word = write(width, &offer).rounded.unwrap();
+        low_bits(word.wrapping_add(self.one_of(&[0, 0, 1, u64::MAX])), width)
     }
 
     /// A whole number of any length; seldom one at an edge.

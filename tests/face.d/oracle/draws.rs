@@ -3,7 +3,7 @@ use crate::answers::{binary64, reading, sign, text, word};
 use crate::choices::Choices;
 use crate::lent::{column, sheet_block};
 use crate::numbers::binary64::{binary64_in, binary64_out};
-use crate::numbers::whole::{whole_in, whole_out_cut, whole_out_strict};
+use crate::numbers::whole::{whole_in, whole_out_nearest, whole_out_strict};
 use crate::words::reading::{compare, negate, read};
 use crate::words::widths::{exact_count_limit, largest_word, nar_word, smallest_word};
 use crate::writing::answers::{write, Answers};
@@ -88,8 +88,8 @@ fn of_whole_in(choices: &mut Choices) -> String {
 
 fn of_whole_out(choices: &mut Choices) -> String {
     let n = choices.width();
-    let x = choices.word(n);
-    let (rule, answer) = if choices.once_in(2) { ("strict", whole_out_strict(n, x)) } else { ("cut", whole_out_cut(n, x)) };
+    let x = if choices.once_in(3) { choices.half(n) } else { choices.word(n) };
+    let (rule, answer) = if choices.once_in(2) { ("strict", whole_out_strict(n, x)) } else { ("nearest", whole_out_nearest(n, x)) };
     format!("take_whole {n} {rule} {x:#x} = {}", text(answer, |whole| format!("whole {whole}")))
 }
 

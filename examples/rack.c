@@ -82,7 +82,7 @@ static bool has_word(const char *line, size_t line_number, uint32_t width, uint6
     fprintf(stderr, "rack: line %zu is not written: %" PRId64 " is refused with %" PRIu32 " (%s) at %" PRIu32 " bits", line_number, length,
             got.refusal, takum_refusal_name(got.refusal), width);
     takum_word_answer rounded = takum_write_whole(width, TAKUM_ROUNDED, length);
-    takum_whole_answer misread = takum_take_whole(width, TAKUM_TAKE_NEAREST, rounded.word);
+    takum_whole_answer misread = takum_take_whole(width, TAKUM_NEAREST, rounded.word);
     if (rounded.refusal == TAKUM_OK && misread.refusal == TAKUM_OK) {
         fprintf(stderr, "; rounded it would be read as %" PRId64, misread.whole);
     }
@@ -183,7 +183,7 @@ static int list_sheet(const char *name) {
             status = 1;
         }
         for (uint32_t i = 0; i < got.count; i++) {
-            takum_whole_answer whole = takum_take_whole(got.width, TAKUM_TAKE_NEAREST, words[i]);
+            takum_whole_answer whole = takum_take_whole(got.width, TAKUM_NEAREST, words[i]);
             printf("%" PRIu32 " %" PRIu32 " %0*" PRIx64 " ", got.number, i, (int)(got.width / 4), words[i]);
             if (whole.refusal == TAKUM_OK) {
                 printf("%" PRId64 "\n", whole.whole);

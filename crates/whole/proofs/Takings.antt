@@ -33,7 +33,7 @@ times-both x y g some = by (eqb x y) refl
 module _ (rule : Taking) (s : Bool) (m : ℕ) (low : 2 ^ 63 ≤ m) where
   -- below a half
   pub takes-under-half : m < 2 ^ 64 → (i : ℕ) → TakesSize rule s (negsuc (suc i)) m (byRule rule false (pos 0))
-  unfolding TakesSize
+  unfolding TakesSize signedSize
   takes-under-half high i t v means counted = subst (λ (t : Takum). IsTakenWhole rule t (byRule rule false (pos 0))) (sym means) (taken-inside rule (signedSize s v) (pos 0) false near (inside false 0 (pow-pos 63)) something)
     where
       small : (0 < v) × (2 * v < 2 ^ 307)
@@ -69,8 +69,11 @@ module _ (rule : Taking) (s : Bool) (m : ℕ) (low : 2 ^ 63 ≤ m) where
     unfolding IsAnswered whole
     takes-past h = takes-whole (Whole.Refused Refusal.Over) (refused (outside s (m * 2 ^ (k - 64)) large) refl)
       where
+        doubled : 2 ^ 63 < 2 ^ 63 * 2 ^ 1
+        doubled = lit< tt
+
         large : 2 ^ 63 < m * 2 ^ (k - 64)
-        large = lt-of-lt-of-le {b = 2 ^ 63 * 2 ^ 1} (lit< tt) (mul-le-mul {n₁ = 2 ^ 63} {m₁ = 2 ^ 1} low (pow-mono {i = 1} {j = k - 64} (omega (arith, h))))
+        large = lt-of-lt-of-le doubled (mul-le-mul {n₁ = 2 ^ 63} {m₁ = 2 ^ 1} low (pow-mono {i = 1} {j = k - 64} (omega (arith, h))))
 
     pub takes-64 : k ≡ 64 → (a : Whole) → IsAnswered rule true (signedSize s m) a → TakesSize rule s (pos k -ℤ pos 1) m a
     unfolding whole

@@ -1,4 +1,4 @@
--- `take_whole` meets its contract: the refusals, zero and NaR, and the whole part of any other word's number. Assumes nothing.
+-- `take_whole` meets its contract: the refusals, zero and NaR, and the whole number nearest to any other. Assumes nothing.
 use mathlib.Core.Path.{_≡_, refl, sym, _∙_, subst, subst₂}
 use lib.IntN.{pos}
 use borrow.Author.Needs.{needs}
@@ -7,7 +7,8 @@ use Rattle.bounds.specs.Refusals.{through, refused}
 use Rattle.sizes.specs.declared.size.WordSize.{WordSize}
 use Rattle.word.specs.Takum.{Takum}
 use Rattle.word.specs.Reads.{signedSize}
-use Rattle.sizes.proofs.Normal.{TellsWord, tells}
+use Rattle.bounds.proofs.Verdicts.{word-through}
+use Rattle.sizes.proofs.Normal.{TellsWord, tells, exponent-small}
 use Rattle.write.specs.Writes.{isNegative}
 use Rattle.whole.specs.declared.taking.Whole.{Whole}
 use Rattle.whole.specs.Wholes.{overTest, IsTakenWhole, TakesWhole}
@@ -37,7 +38,8 @@ enum-known-size c = search needs
 
 take-number-requires : tie.Need-take-number-requires
 unfolding TellsWord
-take-number-requires c κs = told (c .before .before .before) (c .before .size .given .1) .1 .low
+take-number-requires c κs = let x = told (c .before .before .before) (c .before .size .given .1) in
+    (x .1 .low, exponent-small _ _ (word-through _ _ (x .0)) _ (x .1))
 
 enum-known-q : tie.Need-enum-known-q
 enum-known-q c = search needs

@@ -14,10 +14,18 @@ use Rattle.bounds.proofs.Powers.{pow-sum}
 use Rattle.word.proofs.Signed.{difference}
 
 -- from a half up: h is k - 1
+raised : (k : ℕ) → pos k -ℤ pos 1 -ℤ pos 63 +ℤ pos 307 ≡ pos (k + 243)
+raised k =
+    sub-add (pos k -ℤ pos 1) (pos 63) (pos 307) ∙ ap (λ (z : ℤ). z -ℤ pos 63) (sub-add (pos k) (pos 1) (pos 307) ∙ difference (k + 307) 1 (omega arith))
+    ∙ difference (k + 307 - 1) 63 (omega arith) ∙ ap pos (omega arith)
+
 pub amount : (k m v : ℕ) → IsSize m (pos k -ℤ pos 1 -ℤ pos 63) v → v ≡ m * 2 ^ (k + 243)
 unfolding IsSize num den
-amount k m v h =
-    sym (subst (λ (z : ℤ). m * num z ≡ v * den z) (sub-add (pos k -ℤ pos 1) (pos 63) (pos 307) ∙ ap (λ (z : ℤ). z -ℤ pos 63) (sub-add (pos k) (pos 1) (pos 307) ∙ difference (k + 307) 1 (omega arith)) ∙ difference (k + 307 - 1) 63 (omega arith) ∙ ap pos (omega arith)) h ∙ mul-one v)
+amount k m v h = sym (subst (λ (z : ℤ). m * num z ≡ v * den z) (raised k) h ∙ mul-one v)
+
+pub amounts-to : (k m : ℕ) → IsSize m (pos k -ℤ pos 1 -ℤ pos 63) (m * 2 ^ (k + 243))
+unfolding IsSize num den
+amounts-to k m = subst (λ (z : ℤ). m * num z ≡ m * 2 ^ (k + 243) * den z) (sym (raised k)) (sym (mul-one (m * 2 ^ (k + 243))))
 
 -- -(i + 1) less p
 less : (i p : ℕ) → negsuc i -ℤ pos p ≡ negsuc (i + p)

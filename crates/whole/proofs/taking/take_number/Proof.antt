@@ -14,7 +14,7 @@ use mir.Val.{Fits, SFits, toZ, ofZ}
 use Rattle.sizes.specs.declared.size.Size.{Size}
 use Rattle.word.proofs.Signed.{difference}
 use Rattle.whole.specs.declared.taking.Whole.{Whole}
-use Rattle.whole.specs.Parts.{TakesSize}
+use Rattle.whole.specs.Parts.{TakesSize, WholeWhereLarge}
 use Rattle.whole.proofs.Takings.{takes-under-half}
 use Rattle.whole.proofs.taking.take_number.Statement.{statement}
 use Rattle.whole.proofs.taking.take_number.Tie as tie
@@ -60,6 +60,9 @@ module _ (k : tie.After-struct-told) where
     held : toZ w32 (ofZ w32 (toZ w32 (ofZ w32 (size .h)) +ℤ pos 1)) ≡ pos (up .k)
     held = ap (λ (z : ℤ). toZ w32 (ofZ w32 z)) sum ∙ toZ-ofZ sum-fits
 
+    lowered : pos (natAbs (toZ w32 (ofZ w32 (toZ w32 (ofZ w32 (size .h)) +ℤ pos 1)))) -ℤ pos 1 ≡ size .h
+    lowered = ap (λ (z : ℤ). pos (natAbs z) -ℤ pos 1) held ∙ sym (up .back)
+
 by-rule-requires : tie.Need-by-rule-requires
 by-rule-requires c κs = search needs
 
@@ -78,13 +81,13 @@ cast-take-size c = let e = c .before .before in
     subst (λ (z : ℤ). T (nonNeg z) × Fits w32 (natAbs z)) (sym (held (e .before) (e .if1 .left))) (tt, record { fits = omega (arith, sum-fits (e .before) (e .if1 .left) .sfits) })
 
 take-size-requires : tie.Need-take-size-requires
-take-size-requires c κs = search needs
+take-size-requires c κs = let e = c .before .before in
+    (e .before .before .before .pre .0, subst (λ (z : ℤ). WholeWhereLarge z (size (e .before) .m)) (sym (lowered (e .before) (e .if1 .left))) (e .before .before .before .pre .2))
 
 returns-2 : tie.Need-returns-2
 returns-2 c = let e = c .before .before .before in
     let k = e .before in
-    let h : pos (natAbs (toZ w32 (ofZ w32 (toZ w32 (ofZ w32 (size k .h)) +ℤ pos 1)))) -ℤ pos 1 ≡ size k .h = ap (λ (z : ℤ). pos (natAbs z) -ℤ pos 1) (held k (e .if1 .left)) ∙ sym (up k (e .if1 .left) .back) in
-    subst (λ (z : ℤ). TakesSize (k .before .before .args .rule) (size k .negative) z (size k .m) (c .take-size .result)) h (c .take-size .ensures)
+    subst (λ (z : ℤ). TakesSize (k .before .before .args .rule) (size k .negative) z (size k .m) (c .take-size .result)) (lowered k (e .if1 .left)) (c .take-size .ensures)
 
 pub take-number-spec : {M : Type 1} → statement M
 take-number-spec = tie.close (tie.spec by-rule-requires returns add-take-size cast-take-size take-size-requires returns-2)

@@ -3,11 +3,13 @@ use mathlib.Core.Path.{_≡_, sym, ap, _∙_, subst}
 use Prim.Native.Nat.{ℕ, _+_, _-_, _*_, _/_, _%_, _^_, _≤_, _<_}
 use native.Mathlib.Nat.{lt-of-le-of-lt}
 use native.Mathlib.Omega.{arith}
-use borrow.Author.Needs.{needs}
-use lib.Arith.{lt-of-le-ne}
+use borrow.Author.Needs.{needs, sfits-of}
+use lib.IntN.{pos, _-ℤ_}
 use lib.Pow.{shr-lt, shr-le, shl-shr, shr-shr, split}
-use Rattle.whole.specs.Parts.{NearestSize}
-use Rattle.whole.proofs.Takings.{takes-past, takes-64, takes-rounded}
+use mir.Facts.{toZ-ofZ}
+use mir.Syntax.{w64}
+use Rattle.whole.specs.Parts.{NearestSize, byRule, TakesSize, TakesByEitherRule}
+use Rattle.whole.proofs.Takings.{takes-rounded, stays-below}
 use Rattle.whole.proofs.taking.take_size.Statement.{statement}
 use Rattle.whole.proofs.taking.take_size.Tie as tie
 
@@ -23,28 +25,30 @@ module _ (m k : ℕ) (most : k ≤ 63) where
   together : m / 2 ^ 1 / 2 ^ (63 - k) * 2 ^ 64 + m * 2 ^ k % 2 ^ 64 ≡ m * 2 ^ k
   together = ap (λ (x : ℕ). x * 2 ^ 64 + m * 2 ^ k % 2 ^ 64) above ∙ split (m * 2 ^ k) 64
 
+-- and how many they are
 few : (m j : ℕ) → m < 2 ^ 64 → m / 2 ^ 1 / 2 ^ j < 2 ^ 63
 few m j h = lt-of-le-of-lt (shr-le (m / 2 ^ 1) j) (shr-lt 63 1 h)
 
-at-most-63 : {k : ℕ} → k ≤ 64 → (k ≡ 64 → ⊥) → k ≤ 63
-at-most-63 h f = omega (arith, lt-of-le-ne h f)
+-- the nearest whole number, as the contract of `nearest` tells it
+module _ (c : tie.After-nearest) where
+  abbrev s : tie.Start
+  s = c .before .before
+
+  is : NearestSize (2 ^ 64) (s .args .m * 2 ^ s .args .k) (c .nearest .result)
+  is = subst (λ (a : ℕ). NearestSize (2 ^ 64) a (c .nearest .result)) (together (s .args .m) (s .args .k) (c .before .if1 .left)) (c .nearest .ensures)
+
+  small : c .nearest .result < 2 ^ 63
+  small = stays-below (s .args .rule) (s .args .negative) (s .args .m) (s .pre .0) (s .args .k) (c .before .if1 .left) (s .fits .m .fits) (s .pre .1) (c .nearest .result) is
+
+take-far-requires : tie.Need-take-far-requires
+take-far-requires c κs = search needs
 
 returns : tie.Need-returns
-returns c = let s = c .before in
-    takes-past (s .args .rule) (s .args .negative) (s .args .m) (s .pre) (s .args .k) (omega (arith, c .if1 .taken)) (c .if1 .taken)
-
-in-range-requires : tie.Need-in-range-requires
-in-range-requires c κs = search needs
-
-returns-2 : tie.Need-returns-2
-returns-2 c = let s = c .before .before .before in
-    takes-64 (s .args .rule) (s .args .negative) (s .args .m) (s .pre) (s .args .k) (omega (arith, c .before .if2 .taken)) (c .before .if2 .taken) _ (c .in-range .ensures)
+unfolding TakesByEitherRule
+returns c = c .take-far .ensures (c .before .before .args .rule)
 
 shl-fraction : tie.Need-shl-fraction
 shl-fraction c = search needs
-
-sub-nearest : tie.Need-sub-nearest
-sub-nearest c = search needs
 
 cast-nearest : tie.Need-cast-nearest
 cast-nearest c = search needs
@@ -53,28 +57,31 @@ shr-nearest : tie.Need-shr-nearest
 shr-nearest c = search needs
 
 nearest-requires : tie.Need-nearest-requires
-nearest-requires c κs = few _ _ (c .before .before .fits .m .fits)
+nearest-requires c κs = few _ _ (c .before .fits .m .fits)
 
-in-range-requires-2 : tie.Need-in-range-requires-2
-in-range-requires-2 c κs = search needs
+with-sign-requires : tie.Need-with-sign-requires
+with-sign-requires c κs = small c
 
-returns-3 : tie.Need-returns-3
-returns-3 c = let k = c .before .before in
+by-rule-requires : tie.Need-by-rule-requires
+by-rule-requires c κs = search needs
+
+returns-2 : tie.Need-returns-2
+returns-2 c = let k = c .before .before in
     let s = k .before .before in
-    let most : s .args .k ≤ 63 = at-most-63 (k .before .if1 .left) (k .if2 .left) in
-    takes-rounded (s .args .rule) (s .args .negative) (s .args .m) (s .pre) (s .args .k) most _ _ (subst (λ (a : ℕ). NearestSize (2 ^ 64) a (c .before .nearest .result)) (together (s .args .m) (s .args .k) most) (c .before .nearest .ensures)) (c .in-range2 .ensures)
+    subst (TakesSize (s .args .rule) (s .args .negative) (pos (s .args .k) -ℤ pos 1) (s .args .m))
+    (sym (c .by-rule .ensures ∙ ap (byRule (s .args .rule) _) (toZ-ofZ {w = w64} {z = c .before .with-sign .result} (sfits-of (c .before .with-sign .ok)) ∙ c .before .with-sign .ensures)))
+    (takes-rounded (s .args .rule) (s .args .negative) (s .args .m) (s .pre .0) (s .args .k) (k .before .if1 .left) (k .nearest .result) (small k) (is k))
 
 pub take-size-spec : {M : Type 1} → statement M
 take-size-spec =
     tie.close
     (tie.spec
+    take-far-requires
     returns
-    in-range-requires
-    returns-2
     shl-fraction
-    sub-nearest
     cast-nearest
     shr-nearest
     nearest-requires
-    in-range-requires-2
-    returns-3)
+    with-sign-requires
+    by-rule-requires
+    returns-2)

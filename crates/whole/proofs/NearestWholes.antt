@@ -3,7 +3,7 @@ use mathlib.Core.Path.{_≡_, refl, sym, ap, _∙_, subst, subst₂}
 use mathlib.Core.Bool.{Bool, true, false}
 use mathlib.Core.Logic.{_⊎_, inl, inr, ⊎-elim}
 use Prim.Native.Nat.{ℕ, zero, suc, _+_, _*_, _/_, _%_, _^_, _≤_, _<_}
-use native.Mathlib.Nat.{suc-mul, zero-mul, mul-pos, zero-lt-suc, mul-le-mul-right, le-refl, le-antisymm, le-of-eq, eq-of-mul-eq-mul-right, div-add-mod', mul-mod-left}
+use native.Mathlib.Nat.{suc-mul, zero-mul, mul-pos, zero-lt-suc, mul-le-mul-right, le-refl, le-antisymm, le-of-eq, eq-of-mul-eq-mul-right, div-add-mod', mul-mod-left, mod-lt}
 use native.Mathlib.Omega.{arith}
 use borrow.Author.Tests.{eq-eqb, ne-eqb, eqb-true, eqb-false}
 use lib.Dec.{eqb}
@@ -116,6 +116,30 @@ module _ (u : ℕ) (some : 0 < u) where
   -- a whole number of ones is its own
   pub itself : (i : ℕ) → NearestSize u (i * u) i
   itself i = record { up-to = omega arith; from = omega arith; tie-above = λ q. absurd (omega (arith, q, some)); tie-below = λ q. absurd (omega (arith, q, some)) }
+
+  -- and there is one: the whole number below the size, or the next
+  pub a-nearest : (a : ℕ) → (i : ℕ) × NearestSize u a i
+  a-nearest a = by (beside u (2 * (a % u)))
+    where
+      w : ℕ
+      w = a / u
+
+      parts : w * u + a % u ≡ a
+      parts = div-add-mod' a u
+
+      rest : a % u < u
+      rest = mod-lt a some
+
+      by : Beside u (2 * (a % u)) → (i : ℕ) × NearestSize u a i
+      by (before h) = (w, record { up-to = omega (arith, parts, h); from = omega (arith, parts); tie-above = λ q. absurd (omega (arith, parts, h, q)); tie-below = λ q. absurd (omega (arith, parts, some, q)) })
+      by (at h) = tie (w % 2) refl
+        where
+          tie : (r : ℕ) → w % 2 ≡ r → (i : ℕ) × NearestSize u a i
+          tie zero e = (w, record { up-to = omega (arith, parts, h); from = omega (arith, parts); tie-above = λ q. e; tie-below = λ q. e })
+          tie (suc r) e =
+              let even : suc w % 2 ≡ 0 = omega (arith, e) in
+              (suc w, record { up-to = omega (arith, parts, h, suc-mul w u); from = omega (arith, parts, h, suc-mul w u); tie-above = λ q. even; tie-below = λ q. even })
+      by (after h) = (suc w, record { up-to = omega (arith, parts, h, rest, suc-mul w u); from = omega (arith, parts, h, suc-mul w u); tie-above = λ q. absurd (omega (arith, parts, rest, suc-mul w u, q)); tie-below = λ q. absurd (omega (arith, parts, h, suc-mul w u, q)) })
 
   -- counted in parts of which there are g times as many
   pub finer : (a i g : ℕ) → 0 < g → NearestSize u a i → NearestSize (u * g) (a * g) i

@@ -6,6 +6,7 @@ use sizes::size::WordSize;
 use sizes::size::read_size;
 ghost use mathlib.Core.Path.{_≡_};
 ghost use Prim.Native.Nat.{_+_, _*_, _^_, _≤_, _<_};
+ghost use mathlib.Core.Bool.{false};
 ghost use lib.IntN.{pos, _-ℤ_};
 ghost use lib.Signed.{mag};
 ghost use Rattle.word.specs.Reads.{signedSize};
@@ -35,19 +36,28 @@ pub fn take_whole(width: Width, rule: Taking, word: u64) -> Whole
     }
 }
 
-// The whole number nearest to a word's size with its sign.
+// The whole number of a word's size with its sign.
 fn take_number(rule: Taking, size: Size) -> Whole
     requires { ⌜ (2 ^ 63 ≤ size .m) × (mag (size .h) ≤ 254) × WholeWhereLarge (size .h) (size .m) ⌝ }
     ensures { λ a. ⌜ TakesSize rule (size .negative) (size .h) (size .m) a ⌝ }
 {
-    // Below a half it is zero, and something is left beside it.
     if size.h < -1 {
-        return by_rule(rule, false, 0);
+        return below_half(rule);
     }
     take_size(rule, size.negative, (size.h + 1) as u32, size.m)
 }
 
-// The same of m * 2^(k - 64), m having its top bit set: from a half up.
+// Zero is the nearest, and something is left beside it.
+fn below_half(rule: Taking) -> Whole
+    ensures { λ a. ⌜ a ≡ byRule rule false (pos 0) ⌝ }
+{
+    match rule {
+        Taking::Nearest => Whole::Is(0),
+        Taking::Strict => Whole::Refused(Refusal::Inexact),
+    }
+}
+
+// From a half up: the whole number of m * 2^(k - 64) with its sign, m having its top bit set.
 fn take_size(rule: Taking, negative: bool, k: u32, m: u64) -> Whole
     requires { ⌜ (2 ^ 63 ≤ m) × WholeWhereLarge (pos k -ℤ pos 1) m ⌝ }
     ensures { λ a. ⌜ TakesSize rule negative (pos k -ℤ pos 1) m a ⌝ }
@@ -56,12 +66,20 @@ fn take_size(rule: Taking, negative: bool, k: u32, m: u64) -> Whole
         return take_far(negative, k, m);
     }
     // The lowest 64 - k bits are the fraction. A word that has one is below 2^55, so the nearest whole number stays inside signed 64 bits.
+    let whole = (m >> 1) >> (63 - k);
     let fraction = m << k;
-    let size = nearest((m >> 1) >> (63 - k), fraction);
-    by_rule(rule, fraction == 0, with_sign(negative, size))
+    match rule {
+        Taking::Nearest => Whole::Is(with_sign(negative, nearest(whole, fraction))),
+        Taking::Strict => {
+            if fraction == 0 {
+                return Whole::Is(with_sign(negative, whole));
+            }
+            Whole::Refused(Refusal::Inexact)
+        }
+    }
 }
 
-// The same from 2^63 on, where only -2^63 itself falls inside signed 64 bits. No fraction is left, so the rule doesn't matter.
+// From 2^63 on only -2^63 itself falls inside signed 64 bits. No fraction is left, so the rule doesn't matter.
 fn take_far(negative: bool, k: u32, m: u64) -> Whole
     requires { ⌜ (2 ^ 63 ≤ m) × (63 < k) ⌝ }
     ensures { λ a. ⌜ TakesByEitherRule negative (pos k -ℤ pos 1) m a ⌝ }
@@ -98,19 +116,4 @@ fn with_sign(negative: bool, size: u64) -> i64
         return 0 - size as i64;
     }
     size as i64
-}
-
-// What the rule answers where the nearest whole number is x, and the value is exactly x or has a fraction beside it.
-fn by_rule(rule: Taking, exactly: bool, x: i64) -> Whole
-    ensures { λ a. ⌜ a ≡ byRule rule exactly x ⌝ }
-{
-    match rule {
-        Taking::Nearest => Whole::Is(x),
-        Taking::Strict => {
-            if exactly {
-                return Whole::Is(x);
-            }
-            Whole::Refused(Refusal::Inexact)
-        }
-    }
 }

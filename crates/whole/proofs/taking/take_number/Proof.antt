@@ -63,13 +63,13 @@ module _ (k : tie.After-struct-told) where
     lowered : pos (natAbs (toZ w32 (ofZ w32 (toZ w32 (ofZ w32 (size .h)) +ℤ pos 1)))) -ℤ pos 1 ≡ size .h
     lowered = ap (λ (z : ℤ). pos (natAbs z) -ℤ pos 1) held ∙ sym (up .back)
 
-by-rule-requires : tie.Need-by-rule-requires
-by-rule-requires c κs = search needs
+below-half-requires : tie.Need-below-half-requires
+below-half-requires c κs = search needs
 
 returns : tie.Need-returns
 returns c = let k = c .before .before in
     let x = under (size k .h) (tested k (c .before .if1 .taken)) in
-    subst₂ (λ (z : ℤ) (a : Whole). TakesSize (k .before .before .args .rule) (size k .negative) z (size k .m) a) (sym (x .1)) (sym (c .by-rule .ensures))
+    subst₂ (λ (z : ℤ) (a : Whole). TakesSize (k .before .before .args .rule) (size k .negative) z (size k .m) a) (sym (x .1)) (sym (c .below-half .ensures))
     (takes-under-half (k .before .before .args .rule) (size k .negative) (size k .m) (k .before .before .pre .0) (k .struct-told .given .1 .1 .0 .1) (x .0))
 
 add-take-size : tie.Need-add-take-size
@@ -90,4 +90,4 @@ returns-2 c = let e = c .before .before .before in
     subst (λ (z : ℤ). TakesSize (k .before .before .args .rule) (size k .negative) z (size k .m) (c .take-size .result)) (lowered k (e .if1 .left)) (c .take-size .ensures)
 
 pub take-number-spec : {M : Type 1} → statement M
-take-number-spec = tie.close (tie.spec by-rule-requires returns add-take-size cast-take-size take-size-requires returns-2)
+take-number-spec = tie.close (tie.spec below-half-requires returns add-take-size cast-take-size take-size-requires returns-2)

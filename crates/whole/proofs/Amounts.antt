@@ -14,10 +14,18 @@ use Rattle.bounds.proofs.Powers.{pow-sum}
 use Rattle.word.proofs.Signed.{difference}
 
 -- from a half up: h is k - 1
+raised : (k : ℕ) → pos k -ℤ pos 1 -ℤ pos 63 +ℤ pos 307 ≡ pos (k + 243)
+raised k =
+    sub-add (pos k -ℤ pos 1) (pos 63) (pos 307) ∙ ap (λ (z : ℤ). z -ℤ pos 63) (sub-add (pos k) (pos 1) (pos 307) ∙ difference (k + 307) 1 (omega arith))
+    ∙ difference (k + 307 - 1) 63 (omega arith) ∙ ap pos (omega arith)
+
 pub amount : (k m v : ℕ) → IsSize m (pos k -ℤ pos 1 -ℤ pos 63) v → v ≡ m * 2 ^ (k + 243)
 unfolding IsSize num den
-amount k m v h =
-    sym (subst (λ (z : ℤ). m * num z ≡ v * den z) (sub-add (pos k -ℤ pos 1) (pos 63) (pos 307) ∙ ap (λ (z : ℤ). z -ℤ pos 63) (sub-add (pos k) (pos 1) (pos 307) ∙ difference (k + 307) 1 (omega arith)) ∙ difference (k + 307 - 1) 63 (omega arith) ∙ ap pos (omega arith)) h ∙ mul-one v)
+amount k m v h = sym (subst (λ (z : ℤ). m * num z ≡ v * den z) (raised k) h ∙ mul-one v)
+
+pub amounts-to : (k m : ℕ) → IsSize m (pos k -ℤ pos 1 -ℤ pos 63) (m * 2 ^ (k + 243))
+unfolding IsSize num den
+amounts-to k m = subst (λ (z : ℤ). m * num z ≡ m * 2 ^ (k + 243) * den z) (sym (raised k)) (sym (mul-one (m * 2 ^ (k + 243))))
 
 -- -(i + 1) less p
 less : (i p : ℕ) → negsuc i -ℤ pos p ≡ negsuc (i + p)
@@ -42,18 +50,13 @@ pub under-half : (i m v : ℕ) → 2 ^ 63 ≤ m → m < 2 ^ 64 → IsSize m (neg
 unfolding IsSize
 under-half i m v low high h = by (2 ^ 307) (pow-pos 307) (small m (suc i + 63) 307 v (subst (λ (z : ℤ). m * num (z +ℤ pos 307) ≡ v * den (z +ℤ pos 307)) (less (suc i) 63) h))
   where
-    P : ℕ
-    P = 2 ^ (suc i + 63)
-
-    room : m < P
-    unfolding P
+    room : m < 2 ^ (suc i + 63)
     room = lt-of-lt-of-le high (pow-mono {i = 64} {j = suc i + 63} (omega arith))
 
     by : (u : ℕ) → 0 < u → v * 2 ^ suc (suc i + 63) ≡ m * u → (0 < v) × (2 * v < u)
-    by u some q = (positive v q, lt-of-mul-lt-mul-right P (subst (λ (x : ℕ). x < u * P) (sym doubled) (subst (λ (x : ℕ). m * u < x) (mul-comm P u) (mul-lt-mul-of-pos-right room some))))
+    by u some q = (positive v q, lt-of-mul-lt-mul-right (2 ^ (suc i + 63)) (subst (λ (x : ℕ). x < u * 2 ^ (suc i + 63)) (sym doubled) (subst (λ (x : ℕ). m * u < x) (mul-comm (2 ^ (suc i + 63)) u) (mul-lt-mul-of-pos-right room some))))
       where
-        doubled : 2 * v * P ≡ m * u
-        unfolding P
+        doubled : 2 * v * 2 ^ (suc i + 63) ≡ m * u
         doubled = omega (arith, q, ap (λ (x : ℕ). v * x) (two-pow-succ (suc i + 63)))
 
         positive : (v : ℕ) → v * 2 ^ suc (suc i + 63) ≡ m * u → 0 < v

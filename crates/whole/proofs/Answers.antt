@@ -1,5 +1,5 @@
 -- What is answered for a value, once the whole number nearest to it is known: the range, and then the rule. Assumes nothing.
-use mathlib.Core.Path.{_≡_, refl, sym, ap, subst}
+use mathlib.Core.Path.{_≡_, refl, ap}
 use mathlib.Core.Bool.{Bool, true, false}
 use Prim.Native.Nat.{ℕ, zero, suc, _*_, _^_, _≤_, _<_}
 use native.Mathlib.Nat.{le-of-lt}
@@ -15,7 +15,7 @@ use Rattle.word.specs.Reads.{signedSize}
 use Rattle.whole.specs.declared.taking.Taking.{Taking}
 use Rattle.whole.specs.declared.taking.Whole.{Whole}
 use Rattle.whole.specs.Wholes.{IsNearestWhole, overTest, inexactTest, IsTakenWhole}
-use Rattle.whole.specs.Parts.{byRule, IsAnswered}
+use Rattle.whole.specs.Parts.{byRule}
 
 -- ---- the range: sizes below 2^63, and -2^63
 pub inside : (s : Bool) (i : ℕ) → i < 2 ^ 63 → overTest (signedSize s i) ≡ Verdict.Through
@@ -48,9 +48,3 @@ taken-inside Taking.Strict z x false near h q = (x, near, refused {q = Refusal.I
 pub taken-over : (rule : Taking) (z x : ℤ) → IsNearestWhole z x → overTest x ≡ Verdict.Refused Refusal.Over → IsTakenWhole rule (real z) (Whole.Refused Refusal.Over)
 unfolding IsTakenWhole
 taken-over rule z x near h = (x, near, refused (ap (λ (v : Verdict). v then inexactTest rule z x) h) refl)
-
--- the range and the rule together
-pub taken : (rule : Taking) (z x : ℤ) (b : Bool) (a : Whole) → IsNearestWhole z x → b ≡ eqb (natAbs x * 2 ^ 307) (natAbs z) → IsAnswered rule b x a → IsTakenWhole rule (real z) a
-unfolding IsAnswered IsTakenWhole
-taken rule z x b a near q (through h e) = subst (IsTakenWhole rule (real z)) (sym e) (taken-inside rule z x b near h q)
-taken rule z x b a near q (refused h e) = (x, near, refused (ap (λ (v : Verdict). v then inexactTest rule z x) h) e)

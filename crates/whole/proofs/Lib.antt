@@ -35,5 +35,7 @@ pub mod LimitWords
 pub mod LimitWriting
 -- from width 5 up every word that is at least the limit in size is an even whole number
 pub mod LimitEvens
+-- so from 2^55 on every word of any width is one
+pub mod LimitLarge
 -- so a whole number past the limit is rounded to an even one
 pub mod LimitRounded

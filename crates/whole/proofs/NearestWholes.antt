@@ -77,19 +77,19 @@ module _ (u : ℕ) (some : 0 < u) where
       at-most-half = omega (arith, x .up-to, x .from)
 
       pub none-nearer : Near
+      unfolding distance
       none-nearer j = by (beside i j)
         where
           by : Beside i j → distance a (i * u) ≤ distance a (j * u)
-          unfolding distance
           by (before h) = omega (arith, x .up-to, x .from, beyond j i h)
           by (at q) = le-of-eq (ap (λ (k : ℕ). distance a (k * u)) (sym q))
           by (after h) = omega (arith, x .up-to, x .from, beyond i j h)
 
       pub tie-even : Even
+      unfolding distance
       tie-even j q = by (beside i j)
         where
           by : Beside i j → (j ≡ i) ⊎ (i % 2 ≡ 0)
-          unfolding distance
           by (before h) = inr (x .tie-below (omega (arith, q, x .up-to, x .from, beyond j i h)))
           by (at e) = inl e
           by (after h) = inr (x .tie-above (omega (arith, q, x .up-to, x .from, beyond i j h)))
@@ -147,19 +147,20 @@ module _ (u : ℕ) (some : 0 < u) where
     from-zero = omega (arith, zero-mul u)
 
     pub gap-near : gap s a s (i * u) ≤ gap s a t (j * u)
+    unfolding gap
     gap-near = by s t
       where
         across : distance a (i * u) ≤ a + j * u
         across = omega (arith, none-nearer a i x 0, from-zero)
 
         by : (s t : Bool) → gap s a s (i * u) ≤ gap s a t (j * u)
-        unfolding gap
         by false false = none-nearer a i x j
         by false true = across
         by true false = across
         by true true = none-nearer a i x j
 
     pub gap-even : gap s a s (i * u) ≡ gap s a t (j * u) → (signedSize t j ≡ signedSize s i) ⊎ (i % 2 ≡ 0)
+    unfolding gap
     gap-even = by s t
       where
         same : (s : Bool) → distance a (i * u) ≡ distance a (j * u) → (signedSize s j ≡ signedSize s i) ⊎ (i % 2 ≡ 0)
@@ -176,7 +177,6 @@ module _ (u : ℕ) (some : 0 < u) where
             ⊎-elim (λ (e : 0 ≡ i). inl (ap (signedSize t) none ∙ no-sign t ∙ sym (no-sign s) ∙ ap (signedSize s) e)) inr (tie-even a i x 0 tie)
 
         by : (s t : Bool) → gap s a s (i * u) ≡ gap s a t (j * u) → (signedSize t j ≡ signedSize s i) ⊎ (i % 2 ≡ 0)
-        unfolding gap
         by false false q = same false q
         by false true q = across false true q
         by true false q = across true false q
@@ -208,10 +208,10 @@ module _ (z x : ℤ) (is : IsNearestWhole z x) where
   s = isNegative z
 
   pub its-sign : x ≡ signedSize s (natAbs x)
+  unfolding isNegative signedSize gap
   its-sign = by z x (is .nearest (pos 0))
     where
       by : (z x : ℤ) → offBy z x ≤ offBy z (pos 0) → x ≡ signedSize (isNegative z) (natAbs x)
-      unfolding isNegative signedSize gap
       by (pos a) (pos j) h = refl
       by (pos a) (negsuc j) h = absurd (farther (2 ^ 307) a j one (subst₂ (λ (c d : ℕ). c ≤ d) (off-by false a true (suc j)) (off-by false a false 0) h))
       by (negsuc a) (pos zero) h = refl

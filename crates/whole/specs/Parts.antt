@@ -1,15 +1,14 @@
 -- Serves private functions only: what the parts of taking out answer, which are the whole number nearest to a size, its range, its sign and the rule.
 use mathlib.Core.Path.{_≡_}
 use mathlib.Core.Bool.{Bool, cond}
-use Prim.Native.Nat.{ℕ, _+_, _*_, _%_, _≤_}
+use Prim.Native.Nat.{ℕ, _+_, _*_, _%_, _^_, _≤_}
 use lib.IntN.{ℤ, pos, _-ℤ_}
 use Rattle.bounds.specs.declared.refusal.Refusal.{Refusal}
-use Rattle.bounds.specs.Refusals.{Decided}
 use Rattle.word.specs.Takum.{Takum, real}
 use Rattle.word.specs.Reads.{IsSize, signedSize}
 use Rattle.whole.specs.declared.taking.Taking.{Taking}
 use Rattle.whole.specs.declared.taking.Whole.{Whole}
-use Rattle.whole.specs.Wholes.{overTest, IsTakenWhole}
+use Rattle.whole.specs.Wholes.{IsTakenWhole}
 
 -- i is the whole number nearest to the size a, u being one: it is at most a half off, and where it is a half off, even
 pub record NearestSize (u a i : ℕ) : Type 0 where
@@ -23,10 +22,13 @@ unfoldable pub byRule : Taking → Bool → ℤ → Whole
 byRule Taking.Nearest exactly x = Whole.Is x
 byRule Taking.Strict exactly x = cond exactly (Whole.Is x) (Whole.Refused Refusal.Inexact)
 
--- what is answered for it: OVER, and then what the rule says
-unfoldable pub IsAnswered : Taking → Bool → ℤ → Whole → Type 0
-IsAnswered rule exactly x a = Decided (overTest x) (λ q. a ≡ Whole.Refused q) (a ≡ byRule rule exactly x)
-
 -- what is taken out of every word whose value has this sign and the size m * 2^(h - 63)
 unfoldable pub TakesSize : Taking → Bool → ℤ → ℕ → Whole → Type 0
 TakesSize rule negative h m a = (t : Takum) (v : ℕ) → t ≡ real (signedSize negative v) → IsSize m (h -ℤ pos 63) v → IsTakenWhole rule t a
+
+unfoldable pub TakesByEitherRule : Bool → ℤ → ℕ → Whole → Type 0
+TakesByEitherRule negative h m a = (rule : Taking) → TakesSize rule negative h m a
+
+-- from 2^55 on the size m * 2^(h - 63) is a whole number, as a word's is; it is counted in 2^-307 here, as in `IsSize`
+unfoldable pub WholeWhereLarge : ℤ → ℕ → Type 0
+WholeWhereLarge h m = (v : ℕ) → IsSize m (h -ℤ pos 63) v → 2 ^ 55 * 2 ^ 307 ≤ v → (j : ℕ) × (v ≡ j * 2 ^ 307)

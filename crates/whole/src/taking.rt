@@ -10,7 +10,7 @@ ghost use lib.IntN.{pos, _-ℤ_};
 ghost use lib.Signed.{mag};
 ghost use Rattle.word.specs.Reads.{signedSize};
 ghost use Rattle.whole.specs.Wholes.{TakesWhole};
-ghost use Rattle.whole.specs.Parts.{NearestSize, IsAnswered, byRule, TakesSize};
+ghost use Rattle.whole.specs.Parts.{NearestSize, byRule, TakesSize, TakesByEitherRule, WholeWhereLarge};
 
 // Nearest rounds, halves to the even number; strict refuses a value that isn't whole.
 pub enum Taking {
@@ -28,16 +28,16 @@ pub fn take_whole(width: Width, rule: Taking, word: u64) -> Whole
     ensures { λ a. ⌜ TakesWhole (width .bits) rule word a ⌝ }
 {
     match read_size(width, word) {
-        WordSize::Zero => by_rule(rule, true, 0),
+        WordSize::Zero => Whole::Is(0),
         WordSize::Nar => Whole::Refused(Refusal::Nar),
         WordSize::Number(size) => take_number(rule, size),
         WordSize::Refused(q) => Whole::Refused(q),
     }
 }
 
-// The whole number nearest to a size with its sign.
+// The whole number nearest to a word's size with its sign.
 fn take_number(rule: Taking, size: Size) -> Whole
-    requires { ⌜ (2 ^ 63 ≤ size .m) × (mag (size .h) ≤ 254) ⌝ }
+    requires { ⌜ (2 ^ 63 ≤ size .m) × (mag (size .h) ≤ 254) × WholeWhereLarge (size .h) (size .m) ⌝ }
     ensures { λ a. ⌜ TakesSize rule (size .negative) (size .h) (size .m) a ⌝ }
 {
     // Below a half it is zero, and something is left beside it.
@@ -49,20 +49,33 @@ fn take_number(rule: Taking, size: Size) -> Whole
 
 // The same of m * 2^(k - 64), m having its top bit set: from a half up.
 fn take_size(rule: Taking, negative: bool, k: u32, m: u64) -> Whole
-    requires { ⌜ 2 ^ 63 ≤ m ⌝ }
+    requires { ⌜ (2 ^ 63 ≤ m) × WholeWhereLarge (pos k -ℤ pos 1) m ⌝ }
     ensures { λ a. ⌜ TakesSize rule negative (pos k -ℤ pos 1) m a ⌝ }
+{
+    if 63 < k {
+        return take_far(negative, k, m);
+    }
+    // The lowest 64 - k bits are the fraction. A word that has one is below 2^55, so the nearest whole number stays inside signed 64 bits.
+    let fraction = m << k;
+    let size = nearest((m >> 1) >> (63 - k), fraction);
+    by_rule(rule, fraction == 0, with_sign(negative, size))
+}
+
+// The same from 2^63 on, where only -2^63 itself falls inside signed 64 bits. No fraction is left, so the rule doesn't matter.
+fn take_far(negative: bool, k: u32, m: u64) -> Whole
+    requires { ⌜ (2 ^ 63 ≤ m) × (63 < k) ⌝ }
+    ensures { λ a. ⌜ TakesByEitherRule negative (pos k -ℤ pos 1) m a ⌝ }
 {
     if 64 < k {
         return Whole::Refused(Refusal::Over);
     }
-    // From 2^63 on nothing is left beside a whole number.
-    if k == 64 {
-        return in_range(rule, true, negative, m);
+    if negative {
+        if m == 1 << 63 {
+            return Whole::Is(-0x8000_0000_0000_0000);
+        }
+        return Whole::Refused(Refusal::Over);
     }
-    // The lowest 64 - k bits are the fraction.
-    let fraction = m << k;
-    let size = nearest((m >> 1) >> (63 - k), fraction);
-    in_range(rule, fraction == 0, negative, size)
+    Whole::Refused(Refusal::Over)
 }
 
 // Whole or whole + 1, whichever is nearer to whole + fraction * 2^-64, and at a half the even one. One test decides, since nobody can foretell which
@@ -75,23 +88,6 @@ fn nearest(whole: u64, fraction: u64) -> u64
         return whole + 1;
     }
     whole
-}
-
-// A whole number by its sign and its size: OVER is judged on the rounded size, and comes before what the rule says. Of the sizes from 2^63 on only -2^63
-// falls inside signed 64 bits.
-fn in_range(rule: Taking, exactly: bool, negative: bool, size: u64) -> Whole
-    ensures { λ a. ⌜ IsAnswered rule exactly (signedSize negative size) a ⌝ }
-{
-    if size < 1 << 63 {
-        return by_rule(rule, exactly, with_sign(negative, size));
-    }
-    if negative {
-        if size == 1 << 63 {
-            return by_rule(rule, exactly, -0x8000_0000_0000_0000);
-        }
-        return Whole::Refused(Refusal::Over);
-    }
-    Whole::Refused(Refusal::Over)
 }
 
 fn with_sign(negative: bool, size: u64) -> i64

@@ -100,7 +100,7 @@ signed-one true true zero w h q = absurd (lt-irrefl 0 h)
 signed-one true true (suc v) zero h q = absurd (pos-ne-negsuc 0 v (sym q))
 signed-one true true (suc v) (suc w) h q = (refl, ap natAbs q)
 
-value-one : (m : ℕ) (k : ℤ) (v w : ℕ) → IsSize m k v → IsSize m k w → v ≡ w
+pub value-one : (m : ℕ) (k : ℤ) (v w : ℕ) → IsSize m k v → IsSize m k w → v ≡ w
 unfolding IsSize
 value-one m k v w h g = eq-of-mul-eq-mul-right (den (k +ℤ pos 307)) (subst (λ (x : ℕ). zero < x) (sym (den-down (k +ℤ pos 307))) (pow-pos (down (k +ℤ pos 307)))) v w (sym h ∙ g)
 

@@ -1,5 +1,5 @@
--- `take_whole` meets its contract: the refusals, zero and NaR, and the whole part of any other word's number. Assumes nothing.
-use mathlib.Core.Path.{_≡_, refl, sym, _∙_, subst, subst₂}
+-- `take_whole` meets its contract: the refusals, zero and NaR, and the whole number nearest to any other. Assumes nothing.
+use mathlib.Core.Path.{_≡_, refl, sym, subst}
 use lib.IntN.{pos}
 use borrow.Author.Needs.{needs}
 use Rattle.bounds.specs.declared.refusal.Refusal.{Refusal}
@@ -7,12 +7,14 @@ use Rattle.bounds.specs.Refusals.{through, refused}
 use Rattle.sizes.specs.declared.size.WordSize.{WordSize}
 use Rattle.word.specs.Takum.{Takum}
 use Rattle.word.specs.Reads.{signedSize}
-use Rattle.sizes.proofs.Normal.{TellsWord, tells}
+use Rattle.bounds.proofs.Verdicts.{word-through}
+use Rattle.sizes.proofs.Normal.{TellsWord, tells, exponent-small}
 use Rattle.write.specs.Writes.{isNegative}
 use Rattle.whole.specs.declared.taking.Whole.{Whole}
 use Rattle.whole.specs.Wholes.{overTest, IsTakenWhole, TakesWhole}
 use Rattle.whole.specs.Parts.{TakesSize}
-use Rattle.whole.proofs.WholeValues.{valueOf, exactly, taken-as-itself}
+use Rattle.whole.proofs.LimitLarge.{whole-where-large}
+use Rattle.whole.proofs.WholeValues.{valueOf, taken-as-itself}
 use Rattle.whole.proofs.taking.take_whole.Statement.{statement}
 use Rattle.whole.proofs.taking.take_whole.Tie as tie
 
@@ -26,9 +28,6 @@ read-size-requires c κs = search needs
 enum-told : tie.Need-enum-told
 enum-told c = search needs
 
-by-rule-requires : tie.Need-by-rule-requires
-by-rule-requires c κs = search needs
-
 enum-told-2 : tie.Need-enum-told-2
 enum-told-2 c = search needs
 
@@ -37,16 +36,17 @@ enum-known-size c = search needs
 
 take-number-requires : tie.Need-take-number-requires
 unfolding TellsWord
-take-number-requires c κs = told (c .before .before .before) (c .before .size .given .1) .1 .low
+take-number-requires c κs = let x = told (c .before .before .before) (c .before .size .given .1) in
+    (x .1 .low, exponent-small _ _ (word-through _ _ (x .0)) _ (x .1), whole-where-large _ _ _ _ _ (word-through _ _ (x .0)) (x .1))
 
 enum-known-q : tie.Need-enum-known-q
 enum-known-q c = search needs
 
 returns : tie.Need-returns
 unfolding TakesWhole TellsWord valueOf signedSize isNegative overTest
-returns c = let rule = c .before .before .before .before .args .rule in
-    let x = told (c .before .before .before) (c .before .enum-told .given .1) in
-    through (x .0) (subst₂ (IsTakenWhole rule) (sym (x .1)) (sym (c .by-rule .ensures ∙ exactly rule (pos 0))) (taken-as-itself rule (pos 0) refl))
+returns c = let rule = c .before .before .before .args .rule in
+    let x = told (c .before .before) (c .enum-told .given .1) in
+    through (x .0) (subst (λ (t : Takum). IsTakenWhole rule t (Whole.Is (pos 0))) (sym (x .1)) (taken-as-itself rule (pos 0) refl))
 
 returns-2 : tie.Need-returns-2
 unfolding TakesWhole TellsWord IsTakenWhole
@@ -68,7 +68,6 @@ take-whole-spec =
     (tie.spec
     read-size-requires
     enum-told
-    by-rule-requires
     enum-told-2
     enum-known-size
     take-number-requires

@@ -217,7 +217,7 @@ TAKUM_MUST_USE takum_word_answer takum_move(uint32_t from, uint32_t to, takum_ru
 TAKUM_MUST_USE takum_word_answer takum_write_whole(uint32_t n, takum_rule rule, int64_t x) TAKUM_NOEXCEPT;
 
 /* The whole number of a word, the nearest or strictly its own. NAR for NaR; OVER where the nearest whole number is below -2^63 or above 2^63 - 1; and,
- * by the strict rule, INEXACT where the value isn't whole. OVER is judged on the rounded number, but near those ends nothing is rounded: from 2^54 on
+ * by the strict rule, INEXACT where the value isn't whole. OVER is judged on the rounded number, but near those ends nothing is rounded: from 2^55 on
  * every word, of any width, is a whole number. */
 TAKUM_MUST_USE takum_whole_answer takum_take_whole(uint32_t n, takum_taking taking, uint64_t word) TAKUM_NOEXCEPT;
 

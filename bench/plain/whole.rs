@@ -19,7 +19,7 @@ pub fn take_whole(n: u32, strict: bool, word: u64) -> Result<i64, u32> {
     if h < -1 {
         return if strict && string != 0 { Err(INEXACT) } else { Ok(0) };
     }
-    // From 2^54 on every word is a whole number, so nothing is rounded up to 2^63.
+    // From 2^55 on every word is a whole number, so nothing is rounded up to 2^63.
     if h > 62 {
         return if negative && h == 63 && m == TOP { Ok(i64::MIN) } else { Err(OVER) };
     }

@@ -13,7 +13,8 @@ pub fn agree_everywhere(offers: &[Offer], words: &[u64], wholes: &[i64], floats:
         }
         agree_on("whole number in", WRITE_WHOLE, n, strict, wholes.iter().step_by(16).chain(&values::EDGE_WHOLES));
         agree_on("binary64 in", WRITE_BINARY64, n, strict, floats.iter().step_by(16).chain(&values::EDGE_FLOATS));
-        let some: Vec<u64> = words.iter().step_by(16).map(|&w| perhaps_stray(n, w)).chain(values::edge_words(n)).collect();
+        let drawn = words.iter().step_by(16).map(|&w| perhaps_stray(n, w));
+        let some: Vec<u64> = drawn.chain(values::edge_words(n)).chain(values::half_words(n)).collect();
         agree_on("whole number out", TAKE_WHOLE, n, strict, some.iter());
         agree_on("binary64 out", TAKE_BINARY64, n, strict, some.iter());
     }

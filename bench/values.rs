@@ -131,3 +131,15 @@ pub fn edge_words(n: u32) -> Vec<u64> {
     }
     words
 }
+
+// The words of halves and those beside them, of both signs: of i and a half for each i up to 63, and about each power of two up to 2^55, since the last
+// ones lie below 2^54. Where a width has no such word, the nearest stands for it.
+pub fn half_words(n: u32) -> Vec<u64> {
+    if !(2..=64).contains(&n) {
+        return vec![];
+    }
+    let all = u64::MAX >> (64 - n);
+    let wholes = (0..64).chain((6..=55).flat_map(|k| (1u64 << k) - 2..(1 << k) + 2));
+    let halves = wholes.flat_map(|i| [false, true].map(|negative| plain::write(n, false, negative, 2 * i + 1, -1).unwrap()));
+    halves.flat_map(|word| [word.wrapping_sub(1) & all, word, word.wrapping_add(1) & all]).collect()
+}

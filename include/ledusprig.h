@@ -117,9 +117,10 @@ typedef enum takum_rule TAKUM_32_BITS { TAKUM_ROUNDED = 0, TAKUM_STRICT = 1 } ta
 
 /* The rule of taking a whole number. Any number but 0 is strict.
  *
- * - CUT: the whole part, the fraction dropped toward zero.
+ * - NEAREST: the whole number nearest to the value. A half, which is equally near to two of them, goes to the even one: 2.5 gives 2, 3.5 gives 4, -2.5
+ *   gives -2.
  * - STRICT: exactly the value, or INEXACT. */
-typedef enum takum_taking TAKUM_32_BITS { TAKUM_TAKE_CUT = 0, TAKUM_TAKE_STRICT = 1 } takum_taking;
+typedef enum takum_taking TAKUM_32_BITS { TAKUM_NEAREST = 0, TAKUM_TAKE_STRICT = 1 } takum_taking;
 
 /* Both are handed over as 32 bits. A C compiler that is told -fshort-enums makes them shorter, and then this is no type. */
 typedef char takum_needs_no_short_enums[sizeof(takum_rule) == 4 && sizeof(takum_taking) == 4 ? 1 : -1];
@@ -215,8 +216,9 @@ TAKUM_MUST_USE takum_word_answer takum_move(uint32_t from, uint32_t to, takum_ru
 /* The word for a whole number. INEXACT by the strict rule. */
 TAKUM_MUST_USE takum_word_answer takum_write_whole(uint32_t n, takum_rule rule, int64_t x) TAKUM_NOEXCEPT;
 
-/* The whole number of a word, cut or strict. NAR for NaR, OVER where its whole part is below -2^63 or above 2^63 - 1, and, by the
- * strict rule, INEXACT where the value isn't whole. */
+/* The whole number of a word, the nearest or strictly its own. NAR for NaR; OVER where the nearest whole number is below -2^63 or above 2^63 - 1; and,
+ * by the strict rule, INEXACT where the value isn't whole. OVER is judged on the rounded number, but near those ends nothing is rounded: from 2^55 on
+ * every word, of any width, is a whole number. */
 TAKUM_MUST_USE takum_whole_answer takum_take_whole(uint32_t n, takum_taking taking, uint64_t word) TAKUM_NOEXCEPT;
 
 /* The word for a double (binary64): NaN and both infinities give NaR, both zeros give zero. INEXACT by the strict rule. A signalling NaN raises the

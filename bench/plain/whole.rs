@@ -7,24 +7,28 @@ pub fn write_whole(n: u32, strict: bool, x: i64) -> Result<u64, u32> {
     write(n, strict, x < 0, x.unsigned_abs(), 0)
 }
 
-// The whole part of a word's value, by the strict rule only where that is all of it.
+// The whole number nearest to a word's value, halves to the even one; by the strict rule only where it is the value.
 #[inline]
 pub fn take_whole(n: u32, strict: bool, word: u64) -> Result<i64, u32> {
     let string = string_of(n, word)?;
     if string == TOP {
         return Err(NAR);
     }
-    // The fields of zero's string give a characteristic below 0, as those of every size below one.
     let (negative, h, m) = read(string);
-    if h < 0 {
+    // Below a half; the fields of zero's string give a characteristic far below -1, too.
+    if h < -1 {
         return if strict && string != 0 { Err(INEXACT) } else { Ok(0) };
     }
+    // From 2^55 on every word is a whole number, so nothing is rounded up to 2^63.
     if h > 62 {
         return if negative && h == 63 && m == TOP { Ok(i64::MIN) } else { Err(OVER) };
     }
-    if strict && m << h << 1 != 0 {
+    let whole = m >> 1 >> (62 - h);
+    let below = m << (h + 1);
+    if strict && below != 0 {
         return Err(INEXACT);
     }
-    let size = (m >> (63 - h)) as i64;
+    // Up past half, and at half from an odd number. Neither this nor the sign becomes a branch, since nobody can foretell them.
+    let size = (whole + (below > TOP - (whole & 1)) as u64) as i64;
     Ok(if negative { -size } else { size })
 }

@@ -11,7 +11,7 @@ const HELP: &str = "Usage: takum QUESTION
     write WIDTH RULE NUMBER           the word for a number, as -1.5 or 3*2^-1
     write-double WIDTH RULE NUMBER    the word for the double nearest to a number, as 0.1 or nan
     read WIDTH WORD                   the value of a word
-    take-whole WIDTH cut|strict WORD  the whole number of a word
+    take-whole WIDTH TAKING WORD      the whole number of a word
     take-double WIDTH WORD            the double for a word
     move FROM TO RULE WORD            the word of width TO for the value of a word of width FROM
     compare WIDTH WORD WORD           the order of two words
@@ -21,9 +21,9 @@ const HELP: &str = "Usage: takum QUESTION
     nar WIDTH, zero WIDTH             the words that have no sign
     help                              this text
 
-A WIDTH is a number of bits, 2 to 64. A RULE is rounded (the nearest word) or strict (exactly the value, or a refusal). A WORD is digits without a
-sign, in hex after 0x, in binary after 0b; the lister's words are in hex and need 0x before them. A value with ~ before it is shown by some of its
-digits only; `read` tells it exactly.
+A WIDTH is a number of bits, 2 to 64. A RULE is rounded (the nearest word) or strict (exactly the value, or a refusal). A TAKING is nearest (the
+nearest whole number, halves to the even one) or strict. A WORD is digits without a sign, in hex after 0x, in binary after 0b; the lister's words
+are in hex and need 0x before them. A value with ~ before it is shown by some of its digits only; `read` tells it exactly.
 The status is 0 where the question was answered, 1 where it was refused, 2 where it can't be understood, 3 where the answer can't be put out.";
 
 /// Why there is no answer.
@@ -90,7 +90,7 @@ fn answer(given: &[&str]) -> Answer {
         }
         ["read", n, word] => Ok(shown(takum(n, word)?)),
         ["take-whole", n, taking, word] => {
-            let taking = choice(taking, [("cut", Taking::Cut), ("strict", Taking::Strict)])?;
+            let taking = choice(taking, [("nearest", Taking::Nearest), ("strict", Taking::Strict)])?;
             Ok(takum(n, word)?.take_whole(taking)?.to_string())
         }
         ["take-double", n, word] => Ok(format!("{:?}", f64::from(takum(n, word)?))),

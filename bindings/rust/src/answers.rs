@@ -20,10 +20,18 @@ pub enum Rule {
 }
 
 /// How a word becomes a whole number. The numbers are the archive's.
+///
+/// ```
+/// use ledusprig::{Refusal, Rule, Taking, Width};
+///
+/// let taken = |x: f64, taking: Taking| Width::W16.write_binary64(Rule::Strict, x)?.take_whole(taking);
+/// assert_eq!([2.5, 3.5, -2.5].map(|x| taken(x, Taking::Nearest)), [Ok(2), Ok(4), Ok(-2)]);
+/// assert_eq!(taken(2.5, Taking::Strict), Err(Refusal::Inexact));
+/// ```
 #[derive(Clone, Copy, Debug, PartialEq, Eq, Hash)]
 pub enum Taking {
-    /// The whole part, the fraction dropped toward zero.
-    Cut = 0,
+    /// The whole number nearest to the value; of two that are equally near the even one.
+    Nearest = 0,
     /// The value itself, or [`Refusal::Inexact`](crate::Refusal::Inexact) where it isn't whole.
     Strict = 1,
 }

@@ -81,7 +81,7 @@ pub fn write_whole(n: u32, rule: Rule, x: i64) -> Result<u64, Refusal> {
     word_of(unsafe { face::takum_write_whole(n, rule as u32, x) })
 }
 
-/// The whole number of a word; `Nar` for NaR, `Over` outside signed 64 bits.
+/// The whole number of a word; `Nar` for NaR, `Over` where the whole number nearest to its value falls outside signed 64 bits.
 pub fn take_whole(n: u32, taking: Taking, word: u64) -> Result<i64, Refusal> {
     let answer = unsafe { face::takum_take_whole(n, taking as u32, word) };
     Refusal::unless(answer.refusal, answer.whole)

@@ -1,5 +1,7 @@
-//! The conversions by the standard traits answer what the calls answer.
+//! The conversions by the standard traits answer what the calls answer; a whole number that is rounded has to be asked for by a call.
 use ledusprig::{Refusal, Rule, Taking, Takum, Width};
+
+const TWO_TO_63: f64 = 9_223_372_036_854_775_808.0;
 
 #[test]
 fn a_number_becomes_a_width_as_by_new() {
@@ -32,6 +34,20 @@ fn whole_numbers_go_in_and_out_strictly() {
         }
     }
     assert_eq!(Takum::try_from((Width::W16, 515_i64)), Err(Refusal::Inexact));
+}
+
+/// The double of a 16-bit word is exactly its value, so that its nearest whole number is the word's.
+#[test]
+fn whole_numbers_go_out_by_nearest_where_it_is_asked_for() {
+    for word in 0..=0xFFFF {
+        let takum = Takum::new(Width::W16, word).unwrap();
+        let nearest = match f64::from(takum).round_ties_even() {
+            number if number.is_nan() => Err(Refusal::Nar),
+            number if (-TWO_TO_63..TWO_TO_63).contains(&number) => Ok(number as i64),
+            _ => Err(Refusal::Over),
+        };
+        assert_eq!(takum.take_whole(Taking::Nearest), nearest);
+    }
 }
 
 #[test]

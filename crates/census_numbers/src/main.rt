@@ -3,6 +3,7 @@ mod answers;
 mod around;
 mod binaries;
 mod drawn;
+mod halves;
 mod numbers;
 mod outs;
 mod parts;
@@ -27,6 +28,7 @@ fn main() {
     print_binaries();
     print_bad_widths(b"unnumbered");
     print_everywhere(b"unread", Part::Strays);
+    print_part(b"half", Part::Line(Subject::Half), 17, Width::GREATEST);
 }
 
 // Parts 13 to 17.

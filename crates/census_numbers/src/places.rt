@@ -1,6 +1,7 @@
 // What each subject takes in at a place: from the sequence where it draws, and else by the place's own number.
 use crate::binaries::take_binary64_draw;
 use crate::binaries::take_two;
+use crate::halves::take_half;
 use crate::outs::take_out_edge;
 use crate::outs::take_out_full;
 use crate::outs::take_out_power;
@@ -26,5 +27,6 @@ pub(crate) fn take_place(subject: Subject, run: Run, n: u32, place: u64) -> Run
         Subject::Tally => take_tally(run, n),
         Subject::Binary => take_binary64_draw(run, n),
         Subject::Twos => undrawn(run, take_two(run.digest, n, place)),
+        Subject::Half => undrawn(run, take_half(run.digest, n, place)),
     }
 }

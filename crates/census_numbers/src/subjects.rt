@@ -15,6 +15,7 @@ pub(crate) enum Subject {
     Tally,
     Binary,
     Twos,
+    Half,
 }
 
 // The powers of part 21 begin at 2^1.
@@ -36,6 +37,7 @@ pub(crate) fn end_of(subject: Subject, n: u32) -> u64 {
         Subject::Tally => 512,
         Subject::Binary => DRAWN,
         Subject::Twos => 514,
+        Subject::Half => 264,
     }
 }
 

@@ -32,8 +32,8 @@ pub(crate) fn take_binary64_in(digest: u64, n: u32, pattern: u64) -> u64 {
 // The ways out of a word.
 pub(crate) fn take_out(digest: u64, n: u32, word: u64) -> u64 {
     let width = Width { bits: n };
-    let after_cut = take_whole_out(digest, take_whole(width, Taking::Cut, word));
-    let after_strict = take_whole_out(after_cut, take_whole(width, Taking::Strict, word));
+    let after_nearest = take_whole_out(digest, take_whole(width, Taking::Nearest, word));
+    let after_strict = take_whole_out(after_nearest, take_whole(width, Taking::Strict, word));
     take_binary64_out(after_strict, take_binary64(width, word))
 }
 

@@ -1,4 +1,4 @@
-// Figures of paper 01: those that are run and compared, one line each.
+// Figures of papers 01 and 02: those that are run and compared, one line each.
 mod lines;
 mod numbers;
 mod text;
@@ -26,6 +26,8 @@ fn main() {
     print_tally();
     print_whole_numbers();
     print_ends_of_64_bits();
+    print_halves();
+    print_last_halves();
     print_binary64();
 }
 
@@ -122,13 +124,13 @@ fn print_carry() {
 // The tally of the letter: 515 goes out as 516, is refused when strict, and stays at 32 bits.
 fn print_tally() {
     print_whole_in(16, Rule::Rounded, 515);
-    print_whole_out(16, Taking::Cut, 0x5a02);
+    print_whole_out(16, Taking::Nearest, 0x5a02);
     print_whole_in(16, Rule::Strict, 515);
     print_whole_in(32, Rule::Strict, 515);
     print_whole_out(32, Taking::Strict, 0x5a01_8000);
 }
 
-// At 16 bits every whole number up to the limit has a word, and the next one has none; -0.5 cut is 0.
+// At 16 bits every whole number up to the limit has a word, and the next one has none; -0.5 goes out as 0.
 fn print_whole_numbers() {
     print_whole_in(16, Rule::Strict, 512);
     print_whole_in(16, Rule::Strict, 513);
@@ -136,12 +138,12 @@ fn print_whole_numbers() {
     print_whole_in(16, Rule::Strict, -513);
     print_whole_in(16, Rule::Rounded, 1023);
     print_whole_in(8, Rule::Rounded, 10);
-    print_whole_out(16, Taking::Cut, 0xc800);
+    print_whole_out(16, Taking::Nearest, 0xc800);
     print_whole_out(16, Taking::Strict, 0xc800);
-    print_whole_out(16, Taking::Cut, 0xbc00);
-    print_whole_out(16, Taking::Cut, 0x8000);
-    print_whole_out(16, Taking::Cut, 0x10000);
-    print_whole_out(65, Taking::Cut, 0);
+    print_whole_out(16, Taking::Nearest, 0xbc00);
+    print_whole_out(16, Taking::Nearest, 0x8000);
+    print_whole_out(16, Taking::Nearest, 0x10000);
+    print_whole_out(65, Taking::Nearest, 0);
 }
 
 // -2^63 goes in and out; 2^63 has a word at every width from 4 on, and is over.
@@ -151,7 +153,38 @@ fn print_ends_of_64_bits() {
     print_whole_in(64, Rule::Rounded, 0x7fff_ffff_ffff_ffff);
     print_whole_out(16, Taking::Strict, 0x9000);
     print_whole_out(16, Taking::Strict, 0x7000);
-    print_whole_out(16, Taking::Cut, 0x7000);
+    print_whole_out(16, Taking::Nearest, 0x7000);
+}
+
+// 2.5 goes to 2, 3.5 to 4 and -2.5 to -2, the even ones; the words beside a half go to the nearer number.
+fn print_halves() {
+    print_word(16, 0x4900);
+    print_whole_out(16, Taking::Nearest, 0x4900);
+    print_whole_out(16, Taking::Strict, 0x4900);
+    print_whole_out(16, Taking::Nearest, 0x48ff);
+    print_whole_out(16, Taking::Nearest, 0x4901);
+    print_word(16, 0x4b00);
+    print_whole_out(16, Taking::Nearest, 0x4b00);
+    print_word(16, 0xb700);
+    print_whole_out(16, Taking::Nearest, 0xb700);
+    print_whole_out(16, Taking::Strict, 0xb700);
+    print_whole_out(16, Taking::Nearest, 0xb6ff);
+    print_whole_out(16, Taking::Nearest, 0x3800);
+    print_whole_out(16, Taking::Nearest, 0x3801);
+    print_whole_out(16, Taking::Nearest, 0xc7ff);
+    print_whole_out(16, Taking::Nearest, 0x4400);
+}
+
+// The last words with a half lie below 2^54, where rounding carries into the next power of two. From there on every word is a whole number: the last
+// one below 2^63 goes out, the first one below -2^63 is over.
+fn print_last_halves() {
+    print_word(64, 0x6dbf_ffff_ffff_ffff);
+    print_whole_out(64, Taking::Nearest, 0x6dbf_ffff_ffff_ffff);
+    print_whole_out(64, Taking::Strict, 0x6dbf_ffff_ffff_ffff);
+    print_whole_out(64, Taking::Nearest, 0x6dbf_ffff_ffff_fffd);
+    print_whole_out(64, Taking::Nearest, 0x9240_0000_0000_0001);
+    print_whole_out(64, Taking::Nearest, 0x6fff_ffff_ffff_ffff);
+    print_whole_out(64, Taking::Nearest, 0x8fff_ffff_ffff_ffff);
 }
 
 // 1.5 and zero, negative zero, 2^-1074, the greatest number, infinity and NaN.

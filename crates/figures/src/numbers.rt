@@ -37,7 +37,7 @@ pub(crate) fn print_whole_out(n: u32, rule: Taking, word: u64) {
 
 fn print_taking(rule: Taking) {
     match rule {
-        Taking::Cut => print_bytes(b" cut"),
+        Taking::Nearest => print_bytes(b" nearest"),
         Taking::Strict => print_bytes(b" strict"),
     }
 }

@@ -31,13 +31,13 @@ use Rattle.ledusprig.specs.declared.handed.columns.HandedColumn.{HandedC
 use Rattle.ledusprig.specs.declared.handed.columns.HandedBlock.{HandedBlock}
 use Rattle.ledusprig.specs.declared.handed.columns.HandedWriting.{HandedWriting}
 
--- the rule that a number stands for: 0 rounds or cuts, and every other number is strict
+-- the rule that a number stands for: 0 rounds, and every other number is strict
 abbrev pub ruleOf : ℕ → Rule
 ruleOf zero = Rule.Rounded
 ruleOf (suc other) = Rule.Strict
 
 abbrev pub takingOf : ℕ → Taking
-takingOf zero = Taking.Cut
+takingOf zero = Taking.Nearest
 takingOf (suc other) = Taking.Strict
 
 -- how each answer is handed over

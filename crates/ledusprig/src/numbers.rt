@@ -32,7 +32,7 @@ pub extern "C" fn takum_take_whole(n: u32, taking: u32, word: u64) -> HandedWhol
     ensures { λ r. ⌜ HandsOver wholeHanded (TakesWhole n (takingOf taking) word) r ⌝ }
 {
     if taking == 0 {
-        return hand_whole(take_whole(Width { bits: n }, Taking::Cut, word));
+        return hand_whole(take_whole(Width { bits: n }, Taking::Nearest, word));
     }
     hand_whole(take_whole(Width { bits: n }, Taking::Strict, word))
 }

@@ -54,7 +54,7 @@ field-one n t u (d, p, e) (d', q, f) = e ∙ ap (λ (x : List ℕ). x ++ (space 
 word-one : (n w : ℕ) (t u : List ℕ) → IsWordText n w t → IsWordText n w u → t ≡ u
 unfolding IsWordText
 word-one n w t u (a, d, x, p, e) (b, d', y, q, f) =
-    e ∙ ap (λ (x : List ℕ). hexOf n w ++ (space ∷ []) ++ x ++ (newline ∷ [])) (shown-one b d d' (subst (λ (a : Whole). IsShown a d) (takes-whole-one n Taking.Cut w a b x y) p) q) ∙ sym f
+    e ∙ ap (λ (x : List ℕ). hexOf n w ++ (space ∷ []) ++ x ++ (newline ∷ [])) (shown-one b d d' (subst (λ (a : Whole). IsShown a d) (takes-whole-one n Taking.Nearest w a b x y) p) q) ∙ sym f
 
 line-one : (number position n w : ℕ) (t u : List ℕ) → IsLine number position n w t → IsLine number position n w u → t ≡ u
 unfolding IsLine

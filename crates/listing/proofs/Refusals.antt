@@ -14,9 +14,10 @@ use Rattle.whole.specs.Wholes.{IsTakenWhole, TakesWhole}
 use Rattle.whole.proofs.Refused.{refused-only-for, meaning-taken, NaR-is-refused}
 use Rattle.listing.specs.Text.{nar, over, refusalText}
 
-is-cut : Taking → Type 0
-is-cut Taking.Cut = Unit {0}
-is-cut Taking.Strict = ⊥
+-- the two rules told apart: by nearest a number is rounded, strictly it is not
+rounds : Taking → Type 0
+rounds Taking.Nearest = Unit {0}
+rounds Taking.Strict = ⊥
 
 pub refusal-short : (q : Refusal) → length (refusalText q) ≤ 4
 unfolding refusalText nar over
@@ -27,8 +28,8 @@ refusal-short q = by (eqb (numberOf q) 5)
     by false = lit≤ tt
 
 -- ---- a word is refused only as NAR, or as OVER
-pub refused-only-nar-or-over : (n w : ℕ) (q : Refusal) → IsWord n w → TakesWhole n Taking.Cut w (Whole.Refused q) → (q ≡ Refusal.Nar) ⊎ (q ≡ Refusal.Over)
-unfolding IsTakenWhole is-cut
+pub refused-only-nar-or-over : (n w : ℕ) (q : Refusal) → IsWord n w → TakesWhole n Taking.Nearest w (Whole.Refused q) → (q ≡ Refusal.Nar) ⊎ (q ≡ Refusal.Over)
+unfolding IsTakenWhole rounds
 refused-only-nar-or-over n w q i x = by (takum n w) refl
   where
     refusal-of : Whole → Refusal
@@ -36,10 +37,10 @@ refused-only-nar-or-over n w q i x = by (takum n w) refl
     refusal-of (Whole.Refused q) = q
 
     by : (t : Takum) → takum n w ≡ t → (q ≡ Refusal.Nar) ⊎ (q ≡ Refusal.Over)
-    by NaR e = inl (ap refusal-of (NaR-is-refused n Taking.Cut w (Whole.Refused q) i x e))
-    by (real z) e = let t = meaning-taken n Taking.Cut w (Whole.Refused q) i x (real z) e in
-        only-over (refused-only-for Taking.Cut z (t .0) (t .1) (Whole.Refused q) t q refl)
+    by NaR e = inl (ap refusal-of (NaR-is-refused n Taking.Nearest w (Whole.Refused q) i x e))
+    by (real z) e = let t = meaning-taken n Taking.Nearest w (Whole.Refused q) i x (real z) e in
+        only-over (refused-only-for Taking.Nearest z (t .0) (t .1) (Whole.Refused q) t q refl)
       where
-        only-over : {A B C : Type 0} → ((q ≡ Refusal.Over) × A) ⊎ (B × (Taking.Cut ≡ Taking.Strict) × C) → (q ≡ Refusal.Nar) ⊎ (q ≡ Refusal.Over)
+        only-over : {A B C : Type 0} → ((q ≡ Refusal.Over) × A) ⊎ (B × (Taking.Nearest ≡ Taking.Strict) × C) → (q ≡ Refusal.Nar) ⊎ (q ≡ Refusal.Over)
         only-over (inl y) = inr (y .0)
-        only-over (inr y) = absurd (subst is-cut (y .1) tt)
+        only-over (inr y) = absurd (subst rounds (y .1) tt)

@@ -1,4 +1,4 @@
--- The text of a line (paper 01, "The lister"), as a list of bytes.
+-- The text of a line (paper 01, "The lister"; its whole number by paper 02, Wish 2), as a list of bytes.
 use mathlib.Core.Path.{_≡_}
 use mathlib.Core.Bool.{cond}
 use mathlib.Core.List.{List, [], _∷_, _++_}
@@ -46,7 +46,7 @@ over = 0x6f ∷ 0x76 ∷ 0x65 ∷ 0x72 ∷ []
 unfoldable pub refusalText : Refusal → List ℕ
 refusalText q = cond (eqb (numberOf q) 5) over nar
 
--- the cut whole number, or the word that stands for its refusal
+-- the nearest whole number, or the word that stands for its refusal
 unfoldable pub IsShown : Whole → List ℕ → Type 0
 IsShown (Whole.Is x) t = IsSigned x t
 IsShown (Whole.Refused q) t = t ≡ refusalText q
@@ -57,7 +57,7 @@ IsField n t = (d : List ℕ) × IsDecimal n d × (t ≡ d ++ (space ∷ []))
 
 -- a word of n bits, a space, its whole number and the end of the line
 unfoldable pub IsWordText : ℕ → ℕ → List ℕ → Type 0
-IsWordText n w t = (a : Whole) × (d : List ℕ) × TakesWhole n Taking.Cut w a × IsShown a d × (t ≡ hexOf n w ++ (space ∷ []) ++ d ++ (newline ∷ []))
+IsWordText n w t = (a : Whole) × (d : List ℕ) × TakesWhole n Taking.Nearest w a × IsShown a d × (t ≡ hexOf n w ++ (space ∷ []) ++ d ++ (newline ∷ []))
 
 -- a line: block number, position, word and whole number, one space between
 unfoldable pub IsLine : ℕ → ℕ → ℕ → ℕ → List ℕ → Type 0

@@ -40,12 +40,12 @@ fn put_field(out: &mut [u8], at: usize, n: u64) -> usize
     put_byte(out, next, 0x20)
 }
 
-// The word in hex, its whole number, and the end of the line.
+// The word in hex, its whole number, rounded, and the end of the line.
 fn put_word(out: &mut [u8], at: usize, width: u32, word: u64) -> usize
     requires { ⌜ (width ≤ 64) × (at + 39 ≤ length (now out)) ⌝ }
     ensures { λ r. ⌜ PutsSome (IsWordText width word) (now (out .entry)) at (now (out .exit)) r × (r ≤ at + 39) ⌝ }
 {
-    let shown = take_whole(Width { bits: width }, Taking::Cut, word);
+    let shown = take_whole(Width { bits: width }, Taking::Nearest, word);
     let hex = put_digits(out, at, word, 16, (width / 4) as usize);
     let next = put_byte(out, hex, 0x20);
     let last = put_shown(out, next, shown);

@@ -141,7 +141,7 @@ void of_write_whole(given *from, answer *to) {
 
 void of_take_whole(given *from, answer *to) {
     uint32_t n = take_width(from);
-    takum_taking taking = take_choice(from, "cut", "strict") ? (takum_taking)strict_in_turn() : TAKUM_TAKE_CUT;
+    takum_taking taking = take_choice(from, "nearest", "strict") ? (takum_taking)strict_in_turn() : TAKUM_NEAREST;
     takum_whole_answer got = takum_take_whole(n, taking, take_number(from));
     if (!put_refusal(to, got.refusal, got.whole == 0)) {
         put_signed(to, "whole ", got.whole);

@@ -131,7 +131,7 @@ pub fn write_whole(given: &mut Given, to: &mut String) {
 
 pub fn take_whole(given: &mut Given, to: &mut String) {
     let n = given.width();
-    let taking = given.choice(("cut", Taking::Cut), ("strict", Taking::Strict));
+    let taking = given.choice(("nearest", Taking::Nearest), ("strict", Taking::Strict));
     let word = given.number();
     let typed = takum(n, word).and_then(|takum| takum.take_whole(taking));
     let typed = same_by_conversion(to, taking == Taking::Strict, typed, || i64::try_from(takum(n, word)?));

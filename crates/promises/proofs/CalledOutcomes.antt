@@ -26,8 +26,8 @@ use Rattle.round.specs.Writes.{IsExact}
 use Rattle.write.specs.Writes.{isNegative}
 use Rattle.word.proofs.Units.{unit-some}
 use Rattle.round.proofs.Rounding.{rounded-one, exact-rounded}
-use Rattle.whole.specs.Wholes.{IsWholePart}
-use Rattle.whole.proofs.WholeParts.{one-whole-part}
+use Rattle.whole.specs.Wholes.{IsNearestWhole}
+use Rattle.whole.proofs.NearestWholes.{one-nearest-whole}
 use Rattle.binary64.specs.Nearest.{NearestBinary64}
 use Rattle.sheet.specs.Layout as block
 use Rattle.sheet.proofs.SameContent.{same-bytes}
@@ -163,16 +163,16 @@ binary64-written-called-one n strict (fin s m e) = value-one n strict s (m * up 
 -- ---- taking
 pub whole-called-one : (n : ℕ) (strict : Bool) (w : ℕ) (r s : HandedWhole) → HandsWhole n strict w r → HandsWhole n strict w s → r ≡ s
 unfolding HandsWhole
-whole-called-one n strict w r s = follows-one (width n ∷ stray n w ∷ nar n w ∷ over n w ∷ inexact strict (λ x. IsWhole n x w) ∷ []) (λ e z z'. same e (both z z')) (λ none (e, x) (e', y). same (both e e') (part (x .0) (y .0)))
+whole-called-one n strict w r s = follows-one (width n ∷ stray n w ∷ nar n w ∷ over n w ∷ inexact strict (λ x. IsWhole n x w) ∷ []) (λ e z z'. same e (both z z')) (λ none (e, x) (e', y). same (both e e') (whole (x .0) (y .0)))
   where
     same : r .refusal ≡ s .refusal → r .whole ≡ s .whole → r ≡ s
     same e f = λ i. record { refusal = e i; whole = f i }
 
-    Part : ℤ → Type 0
-    Part x = (z : ℤ) × (takum n w ≡ real z) × IsWholePart z x
+    Nearest : ℤ → Type 0
+    Nearest x = (z : ℤ) × (takum n w ≡ real z) × IsNearestWhole z x
 
-    part : Part (r .whole) → Part (s .whole) → r .whole ≡ s .whole
-    part (z, h, x) (z', h', y) = one-whole-part z' (r .whole) (s .whole) (subst (λ (k : ℤ). IsWholePart k (r .whole)) (real-inj (sym h ∙ h')) x) y
+    whole : Nearest (r .whole) → Nearest (s .whole) → r .whole ≡ s .whole
+    whole (z, h, x) (z', h', y) = one-nearest-whole z' (r .whole) (s .whole) (subst (λ (k : ℤ). IsNearestWhole k (r .whole)) (real-inj (sym h ∙ h')) x) y
 
 pub number-called-one : (n w : ℕ) (r s : HandedNumber) → HandsNumber n w r → HandsNumber n w s → r ≡ s
 unfolding HandsNumber OneNumberIsTheNearest

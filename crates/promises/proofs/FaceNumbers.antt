@@ -19,7 +19,7 @@ use Rattle.word.proofs.Values.{not-NaR}
 use Rattle.round.specs.Writes.{IsExact, IsWritten}
 use Rattle.write.specs.Writes.{IsMoved, isNegative, Writes, Moves}
 use Rattle.whole.specs.declared.taking.Whole.{Whole}
-use Rattle.whole.specs.Wholes.{IsWholePart, WritesWhole, TakesWhole}
+use Rattle.whole.specs.Wholes.{IsNearestWhole, WritesWhole, TakesWhole}
 use Rattle.whole.proofs.InAndOut.{strictly-taken}
 use Rattle.whole.proofs.TakenOut.{taken-out}
 use Rattle.whole.proofs.WholeValues.{valueOf}
@@ -116,10 +116,10 @@ take-whole-hands n strict w =
     lines = width n ∷ stray n w ∷ nar n w ∷ over n w ∷ inexact strict (λ x. IsWhole n x w) ∷ []
 
     Taken : ℤ → Type 0
-    Taken x = ((z : ℤ) × (takum n w ≡ real z) × IsWholePart z x) × (strict ≡ true → IsWhole n x w)
+    Taken x = ((z : ℤ) × (takum n w ≡ real z) × IsNearestWhole z x) × (strict ≡ true → IsWhole n x w)
 
     by : (a : Whole) → TakesWhole n (takingOf (numbered strict)) w a → ((q : Refusal) → a ≡ Whole.Refused q → ⊥) → (wholeHanded a .refusal ≡ 0) × Taken (wholeHanded a .whole)
-    by (Whole.Is x) y none = let k = taken-out n (takingOf (numbered strict)) w x y in (refl, ((k .z, k .means, k .part), taken-strictly strict n w x y))
+    by (Whole.Is x) y none = let k = taken-out n (takingOf (numbered strict)) w x y in (refl, ((k .z, k .means, k .near), taken-strictly strict n w x y))
     by (Whole.Refused q) y none = absurd (none q refl)
 
 -- no number goes out exactly where the word is NaR

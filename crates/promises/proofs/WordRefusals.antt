@@ -39,9 +39,9 @@ use Rattle.bounds.proofs.Powers.{twice}
 use Rattle.write.proofs.Moves.{moved-to-the-same, strict-keeps}
 use Rattle.whole.specs.declared.taking.Taking.{Taking}
 use Rattle.whole.specs.declared.taking.Whole.{Whole}
-use Rattle.whole.specs.Wholes.{IsWholePart, overTest, inexactTest, IsTakenWhole, WritesWhole, TakesWhole}
+use Rattle.whole.specs.Wholes.{IsNearestWhole, overTest, inexactTest, IsTakenWhole, WritesWhole, TakesWhole}
 use Rattle.whole.proofs.Refused.{whole-size}
-use Rattle.whole.proofs.WholeParts.{one-whole-part}
+use Rattle.whole.proofs.NearestWholes.{one-nearest-whole}
 use Rattle.whole.proofs.WholeValues.{valueOf, exact-value}
 use Rattle.binary64.specs.declared.taking.Binary64.{Binary64}
 use Rattle.binary64.specs.Takes as taken
@@ -186,26 +186,26 @@ outside-tells (negsuc i) = by (decLt i (2 ^ 63))
     by (yes l) = fails (rw (le-leb (suc i) (2 ^ 63) l)) (λ h. omega (arith, h, l))
     by (no f) = holds (rw (lt-leb (suc i) (2 ^ 63) (omega (arith, not-more f)))) (not-more f)
 
-module _ (n w : ℕ) (i : IsWord n w) (z x : ℤ) (means : takum n w ≡ real z) (part : IsWholePart z x) where
-  over-tells : Tells (overTest x) Refusal.Over ((z x : ℤ) × (takum n w ≡ real z) × IsWholePart z x × OutsideSigned64 x)
-  over-tells = retold (λ h. (z, x, means, part, h)) (λ (z', x', means', part', h). subst OutsideSigned64 (one-whole-part z x' x (subst (λ (y : ℤ). IsWholePart y x') (real-inj (sym means' ∙ means)) part') part) h) (outside-tells x)
+module _ (n w : ℕ) (i : IsWord n w) (z x : ℤ) (means : takum n w ≡ real z) (near : IsNearestWhole z x) where
+  over-tells : Tells (overTest x) Refusal.Over ((z x : ℤ) × (takum n w ≡ real z) × IsNearestWhole z x × OutsideSigned64 x)
+  over-tells = retold (λ h. (z, x, means, near, h)) (λ (z', x', means', near', h). subst OutsideSigned64 (one-nearest-whole z x' x (subst (λ (y : ℤ). IsNearestWhole y x') (real-inj (sym means' ∙ means)) near') near) h) (outside-tells x)
 
-  -- the value is a whole number's exactly where it is its whole part's
+  -- the value is a whole number's exactly where it is that of the nearest one
   whole-value : (y : ℤ) → IsWhole n y w → natAbs x * 2 ^ 307 ≡ natAbs z
   unfolding IsWhole valueOf
-  whole-value y h = whole-size z x y part (real-inj (sym means ∙ h .means))
+  whole-value y h = whole-size z x y near (real-inj (sym means ∙ h .means))
 
-  its-whole-part : natAbs x * 2 ^ 307 ≡ natAbs z → IsWhole n x w
+  its-nearest : natAbs x * 2 ^ 307 ≡ natAbs z → IsWhole n x w
   unfolding IsWhole valueOf
-  its-whole-part q = record { word = i; means = means ∙ ap real (exact-value z x part q) }
+  its-nearest q = record { word = i; means = means ∙ ap real (exact-value z x near q) }
 
   inexact-tells : (rule : Taking) → Tells (inexactTest rule z x) Refusal.Inexact ((rule ≡ Taking.Strict) × ((y : ℤ) → IsWhole n y w → ⊥))
   unfolding inexactTest
-  inexact-tells Taking.Cut = fails refl (λ h. let q = h .0 in let e : _≡_ {A = ℕ} 0 1 = cc in omega arith)
+  inexact-tells Taking.Nearest = fails refl (λ h. let q = h .0 in let e : _≡_ {A = ℕ} 0 1 = cc in omega arith)
   inexact-tells Taking.Strict = by (eqb (natAbs x * 2 ^ 307) (natAbs z)) refl
     where
       by : (b : Bool) → eqb (natAbs x * 2 ^ 307) (natAbs z) ≡ b → Tells (cond b Verdict.Through (Verdict.Refused Refusal.Inexact)) Refusal.Inexact ((Taking.Strict ≡ Taking.Strict) × ((y : ℤ) → IsWhole n y w → ⊥))
-      by true e = fails refl (λ h. h .1 x (its-whole-part (eqb-true _ _ e)))
+      by true e = fails refl (λ h. h .1 x (its-nearest (eqb-true _ _ e)))
       by false e = holds refl (refl, λ y h. eqb-false _ _ e (whole-value y h))
 
 pub take-whole-follows : (n : ℕ) (rule : Taking) (w : ℕ) (a : Whole) → TakesWhole n rule w a → Follows Whole.Refused a (width n ∷ stray n w ∷ nar n w ∷ over n w ∷ noWhole rule n w ∷ [])
@@ -214,7 +214,7 @@ take-whole-follows n rule w a x = follow Refusal.Width (width-tells n) (parts x)
   where
     by : (t : Takum) → takum n w ≡ t → IsWord n w → IsTakenWhole rule t a → Follows Whole.Refused a (nar n w ∷ over n w ∷ noWhole rule n w ∷ [])
     by NaR q i y = inl (q, record { q = Refusal.Nar; is = y; known = refl })
-    by (real z) q i (x, part, d) = inr (
+    by (real z) q i (x, near, d) = inr (
       λ h. not-NaR z (sym q ∙ h),
-      follow Refusal.Over (over-tells n w i z x q part) (parts d) (λ e y. follow Refusal.Inexact (inexact-tells n w i z x q part rule) y (λ e' h p k. let e : _≡_ {A = ℕ} 0 1 = cc in omega arith)),
+      follow Refusal.Over (over-tells n w i z x q near) (parts d) (λ e y. follow Refusal.Inexact (inexact-tells n w i z x q near rule) y (λ e' h p k. let e : _≡_ {A = ℕ} 0 1 = cc in omega arith)),
     )

@@ -16,7 +16,7 @@ use Rattle.word.specs.Orders.{order, opposite}
 use Rattle.nearest.specs.Nearest.{HasValue}
 use Rattle.round.specs.Writes.{IsRounded, IsExact}
 use Rattle.write.specs.Writes.{isNegative}
-use Rattle.whole.specs.Wholes.{IsWholePart}
+use Rattle.whole.specs.Wholes.{IsNearestWhole}
 use Rattle.binary64.specs.Nearest.{NearestBinary64}
 use Rattle.sheet.specs.Layout as block
 use Rattle.sheet.specs.Writes.{IsBlockOf}
@@ -56,7 +56,7 @@ unfoldable pub RefusalNumbersAre1To11 : Type 0
 RefusalNumbersAre1To11 = (q : Refusal) → (1 ≤ numberOf q) × (numberOf q ≤ 11)
 
 -- ---- the rule
--- a rule's number: 0 rounds, or cuts a number to its whole part, and every other number is strict
+-- a rule's number: 0 rounds, and every other number is strict
 unfoldable pub isStrict : ℕ → Bool
 isStrict zero = false
 isStrict (suc other) = true
@@ -145,10 +145,10 @@ HandsBinary64Written n strict (inf s) r = HandsWord (width n ∷ []) (IsNaR n) r
 HandsBinary64Written n strict (fin s m e) r = HandsValue n strict s (m * up e * 2 ^ 307) (down e) r
 
 -- ---- takum_take_whole and takum_take_binary64
--- the whole part of the word's value; strict, exactly the value
+-- the whole number nearest to the word's value; strict, exactly the value
 unfoldable pub HandsWhole : ℕ → Bool → ℕ → HandedWhole → Type 0
 HandsWhole n strict w r = Hands (r .refusal) (width n ∷ stray n w ∷ nar n w ∷ over n w ∷ inexact strict (λ x. IsWhole n x w) ∷ []) (r .whole ≡ pos 0)
-    (((z : ℤ) × (takum n w ≡ real z) × IsWholePart z (r .whole)) × (strict ≡ true → IsWhole n (r .whole) w))
+    (((z : ℤ) × (takum n w ≡ real z) × IsNearestWhole z (r .whole)) × (strict ≡ true → IsWhole n (r .whole) w))
 
 -- the nearest binary64 to the word's value, ties to even; where the word is NaR, and only there, `real` is false beside refusal 0, and the number is a NaN
 unfoldable pub HandsNumber : ℕ → ℕ → HandedNumber → Type 0

@@ -1,4 +1,4 @@
--- The figures of paper 01 that are marked P, all of them, as one table under one claim.
+-- The figures of paper 01 that are marked P, all of them, and those of paper 02 that a proved call answers, as one table under one claim.
 use mathlib.Core.Path.{_≡_}
 use mathlib.Core.Bool.{true, false}
 use mathlib.Core.List.{List, [], _∷_}
@@ -11,10 +11,12 @@ use Rattle.word.specs.Reads.{IsSize, signedSize, IsReading, Reads}
 use Rattle.round.specs.declared.value.Rule.{Rule}
 use Rattle.write.specs.declared.value.Value.{Value}
 use Rattle.write.specs.Writes.{Writes}
-use Rattle.whole.specs.Wholes.{WritesWhole}
+use Rattle.whole.specs.declared.taking.Taking.{Taking}
+use Rattle.whole.specs.declared.taking.Whole.{Whole}
+use Rattle.whole.specs.Wholes.{WritesWhole, TakesWhole}
 use Rattle.promises.specs.Demands.{RefusedAs}
 
--- -k, for the exponents below 0
+-- -k, for exponents and numbers below 0
 unfoldable pub below : ℕ → ℤ
 below k = negℤ (pos k)
 
@@ -31,13 +33,15 @@ IsSaid (minus M k) t = (z : ℕ) × IsSize M k z × (t ≡ real (signedSize true
 IsSaid nar t = t ≡ NaR
 
 -- reads n w x: the word w of n bits is x; writes n rule M w: the value M, written in n bits by the rule, is the word w; refuses n rule M number:
--- it is the refusal with this number; writesWhole and refusesWhole: the same of M as a whole number, which is the call a tally goes through
+-- it is the refusal with this number; writesWhole and refusesWhole: the same of M as a whole number, which is the call a tally goes through; takes n
+-- rule w x: the word w of n bits goes out as the whole number x by the rule
 pub data Figure : Type 0 where
   reads : ℕ → ℕ → Said → Figure
   writes : ℕ → Rule → ℕ → ℕ → Figure
   refuses : ℕ → Rule → ℕ → ℕ → Figure
   writesWhole : ℕ → Rule → ℕ → ℕ → Figure
   refusesWhole : ℕ → Rule → ℕ → ℕ → Figure
+  takes : ℕ → Taking → ℕ → ℤ → Figure
 
 unfoldable pub whole : ℕ → Value
 whole M = record { negative = false; m = M; k = pos 0 }
@@ -66,6 +70,18 @@ figures =
     ∷ writesWhole 16 Rule.Rounded 513 0x5A00
     ∷ refusesWhole 16 Rule.Strict 513 4
     ∷ writesWhole 16 Rule.Rounded 1023 0x5B00
+    -- paper 02, Wish 2: 2.5, 3.5, -2.5, 0.5, -0.5, 1.5 and -1.5 by nearest
+    ∷ reads 16 0x4900 (plus 5 (below 1))
+    ∷ takes 16 Taking.Nearest 0x4900 (pos 2)
+    ∷ reads 16 0x4B00 (plus 7 (below 1))
+    ∷ takes 16 Taking.Nearest 0x4B00 (pos 4)
+    ∷ reads 16 0xB700 (minus 5 (below 1))
+    ∷ takes 16 Taking.Nearest 0xB700 (below 2)
+    ∷ takes 16 Taking.Nearest 0x3800 (pos 0)
+    ∷ reads 16 0xC800 (minus 1 (below 1))
+    ∷ takes 16 Taking.Nearest 0xC800 (pos 0)
+    ∷ takes 16 Taking.Nearest 0x4400 (pos 2)
+    ∷ takes 16 Taking.Nearest 0xBC00 (below 2)
     ∷ []
 
 -- whatever reading or answer the contract allows is the figure's
@@ -75,6 +91,7 @@ FigureHolds (writes n rule M w) = (a : Answer) → Writes n rule (whole M) a →
 FigureHolds (refuses n rule M number) = (a : Answer) → Writes n rule (whole M) a → RefusedAs Answer Answer.Refused number a
 FigureHolds (writesWhole n rule M w) = (a : Answer) → WritesWhole n rule (pos M) a → a ≡ Answer.Word w
 FigureHolds (refusesWhole n rule M number) = (a : Answer) → WritesWhole n rule (pos M) a → RefusedAs Answer Answer.Refused number a
+FigureHolds (takes n rule w x) = (a : Whole) → TakesWhole n rule w a → a ≡ Whole.Is x
 
 -- every figure of a list holds
 unfoldable pub AllHold : List Figure → Type 0

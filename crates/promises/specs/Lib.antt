@@ -14,6 +14,8 @@ pub mod Writing
 pub mod Hub
 -- whole numbers and binary64
 pub mod Numbers
+-- whole numbers by nearest
+pub mod Wholes
 -- the nearest binary64
 pub mod Nearest
 -- columns and blocks

@@ -31,7 +31,7 @@ use Rattle.round.specs.Writes.{IsExact, WritesShort, WritesSize, WritesLong}
 use Rattle.write.specs.Writes.{Writes, Moves}
 use Rattle.whole.specs.declared.taking.Taking.{Taking}
 use Rattle.whole.specs.declared.taking.Whole.{Whole}
-use Rattle.whole.specs.Wholes.{IsWholePart, WritesWhole, TakesWhole}
+use Rattle.whole.specs.Wholes.{IsNearestWhole, WritesWhole, TakesWhole}
 use Rattle.binary64.specs.declared.taking.Binary64.{Binary64}
 use Rattle.binary64.specs.Takes.{TakesBinary64}
 use Rattle.binary64.specs.Writes.{WritesBinary64}
@@ -79,7 +79,7 @@ OutsideSigned64 (negsuc i) = 2 ^ 63 ≤ i
 
 -- 5 OVER: the whole number falls outside signed 64 bits
 abbrev pub over : ℕ → ℕ → Line
-over n w = line 5 ((z x : ℤ) × (takum n w ≡ real z) × IsWholePart z x × OutsideSigned64 x)
+over n w = line 5 ((z x : ℤ) × (takum n w ≡ real z) × IsNearestWhole z x × OutsideSigned64 x)
 
 -- 6 ROOM: the result slice is too short
 abbrev pub room : ℕ → ℕ → Line

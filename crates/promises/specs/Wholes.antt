@@ -1,0 +1,80 @@
+-- Whole numbers by nearest (paper 02, Wish 2), as statements about what the public contracts allow. A value is z * 2^-307.
+use mathlib.Core.Path.{_≡_}
+use mathlib.Core.List.{List, [], _∷_}
+use Prim.Native.Nat.{ℕ, _*_, _%_, _^_, _≤_, _<_}
+use lib.IntN.{ℤ, pos, negsuc, negℤ, natAbs, _+ℤ_}
+use lib.ListN.{length}
+use Rattle.bounds.specs.declared.refusal.Verdict.{Verdict}
+use Rattle.bounds.specs.declared.width.Limit.{Limit}
+use Rattle.bounds.specs.Refusals.{IsWord}
+use Rattle.bounds.specs.Widths.{GivesLimit}
+use Rattle.word.specs.Takum.{real, takum}
+use Rattle.word.specs.Orders.{negated}
+use Rattle.whole.specs.declared.taking.Taking.{Taking}
+use Rattle.whole.specs.declared.taking.Whole.{Whole}
+use Rattle.whole.specs.Wholes.{offBy, IsNearestWhole, overTest, TakesWhole}
+use Rattle.promises.specs.Demands.{RefusedAs}
+use Rattle.promises.specs.Numbers.{IsWhole}
+use Rattle.promises.specs.Refusals.{OutsideSigned64}
+
+-- ---- the nearest, ties to even
+-- the number that goes out is the nearest to the word's value, by either rule
+unfoldable pub TheNumberOutIsTheNearest : Type 0
+TheNumberOutIsTheNearest = (n w : ℕ) (rule : Taking) (x : ℤ) → TakesWhole n rule w (Whole.Is x) → (z : ℤ) × (takum n w ≡ real z) × IsNearestWhole z x
+
+-- every value has such a number, and only one
+unfoldable pub EveryValueHasANearestWholeNumber : Type 0
+EveryValueHasANearestWholeNumber = (z : ℤ) → (x : ℤ) × IsNearestWhole z x
+
+unfoldable pub OneWholeNumberIsTheNearest : Type 0
+OneWholeNumberIsTheNearest = (z x y : ℤ) → IsNearestWhole z x → IsNearestWhole z y → x ≡ y
+
+-- a whole value inside signed 64 bits goes out as itself, by either rule
+unfoldable pub AWholeValueGoesOutAsItself : Type 0
+AWholeValueGoesOutAsItself = (n w : ℕ) (x : ℤ) (rule : Taking) (a : Whole) → IsWhole n x w → overTest x ≡ Verdict.Through → TakesWhole n rule w a → a ≡ Whole.Is x
+
+-- ---- negation (that the order of words is never reversed is `TakingWholeNumbersKeepsOrder`, Numbers.antt)
+-- the negated word goes out as the negated number
+unfoldable pub TheNegatedWordGoesOutAsTheNegatedNumber : Type 0
+TheNegatedWordGoesOutAsTheNegatedNumber = (n w : ℕ) (rule : Taking) (x : ℤ) (a : Whole) → natAbs x < 2 ^ 63 → TakesWhole n rule w (Whole.Is x) → TakesWhole n rule (negated n w) a → a ≡ Whole.Is (negℤ x)
+
+-- but that of -2^63 is 2^63, which is OVER
+unfoldable pub TheNegatedWordOfTheLeastNumberIsOver : Type 0
+TheNegatedWordOfTheLeastNumberIsOver = (n w : ℕ) (rule : Taking) (a : Whole) → TakesWhole n rule w (Whole.Is (negℤ (pos (2 ^ 63)))) → TakesWhole n rule (negated n w) a → RefusedAs Whole Whole.Refused 5 a
+
+-- ---- the line in the ledger
+-- past the exact-count limit of any width no word goes out as an odd whole number, by either rule
+unfoldable pub NoWordPastTheLimitGoesOutOdd : Type 0
+NoWordPastTheLimitGoesOutOdd = (n l w : ℕ) (rule : Taking) (x : ℤ) → GivesLimit n (Limit.Count l) → l < natAbs x → TakesWhole n rule w (Whole.Is x) → natAbs x % 2 ≡ 0
+
+-- ---- what the trade can quote
+-- the number out differs from the value by at most a half
+unfoldable pub TheNumberOutIsOffByAtMostAHalf : Type 0
+TheNumberOutIsOffByAtMostAHalf = (n w : ℕ) (rule : Taking) (z x : ℤ) → takum n w ≡ real z → TakesWhole n rule w (Whole.Is x) → 2 * offBy z x ≤ 2 ^ 307
+
+-- a rack: the words of its joints, each of a width of its own, their values, and the numbers that went out
+pub data Rack (rule : Taking) : List ℕ → List ℤ → List ℤ → Type 0 where
+  empty : Rack rule [] [] []
+  joint : {words : List ℕ} {values numbers : List ℤ} (n w : ℕ) (z x : ℤ) → takum n w ≡ real z → TakesWhole n rule w (Whole.Is x) → Rack rule words values numbers → Rack rule (w ∷ words) (z ∷ values) (x ∷ numbers)
+
+unfoldable pub total : List ℤ → ℤ
+total [] = pos 0
+total (z ∷ zs) = z +ℤ total zs
+
+-- the sum of the numbers of k joints differs from the sum of their values by at most k halves
+unfoldable pub ARackIsOffByAtMostAHalfForEachJoint : Type 0
+ARackIsOffByAtMostAHalfForEachJoint = (rule : Taking) (words : List ℕ) (values numbers : List ℤ) → Rack rule words values numbers → 2 * offBy (total values) (total numbers) ≤ length words * 2 ^ 307
+
+-- ---- OVER is judged on the rounded number, and no rounding decides it
+-- Rounding could decide it only for a value that isn't whole and lies beside 2^63 or -2^63. From 2^55 on there is no such word: its value is a whole number.
+unfoldable pub From2To55OnEveryWordIsAWholeNumber : Type 0
+From2To55OnEveryWordIsAWholeNumber = (n w : ℕ) (z : ℤ) → IsWord n w → takum n w ≡ real z → 2 ^ 55 * 2 ^ 307 ≤ natAbs z → (x : ℤ) × IsWhole n x w
+
+-- below -2^63, or from 2^63 up
+unfoldable pub ValueOutsideSigned64 : ℤ → Type 0
+ValueOutsideSigned64 (pos a) = 2 ^ 63 * 2 ^ 307 ≤ a
+ValueOutsideSigned64 (negsuc a) = 2 ^ 63 * 2 ^ 307 ≤ a
+
+-- So the nearest whole number is outside exactly where the value is.
+unfoldable pub TheNumberIsOverExactlyWhereTheValueIs : Type 0
+TheNumberIsOverExactlyWhereTheValueIs = (n w : ℕ) (z x : ℤ) → IsWord n w → takum n w ≡ real z → IsNearestWhole z x → (OutsideSigned64 x → ValueOutsideSigned64 z) × (ValueOutsideSigned64 z → OutsideSigned64 x)

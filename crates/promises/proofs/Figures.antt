@@ -1,25 +1,34 @@
 -- The P figures hold, by one test that is computed over the whole table. Assumes nothing.
-use mathlib.Core.Path.{_≡_, refl, sym, ap, _∙_}
+use mathlib.Core.Path.{_≡_, refl, sym, ap, _∙_, subst}
 use mathlib.Core.Bool.{Bool, true, false, _&&_, _||_, cond}
 use mathlib.Core.List.{List, [], _∷_}
 use mathlib.Core.Logic.{_⊎_, inl, inr, ⊎-elim}
 use Prim.Native.Nat.{ℕ, zero, suc, _+_, _-_, _*_, _%_, _^_, _≤_, _<_}
 use native.Mathlib.Nat.{mul-one, zero-lt-suc, le-of-eq, lt-of-le-of-lt, lt-of-lt-of-le}
+use native.Mathlib.Omega.{arith}
 use lib.Dec.{T, eqb, leb, ltb, eqb→eq, leb→le, ltb→lt}
-use lib.IntN.{pos, natAbs, _+ℤ_}
+use lib.IntN.{ℤ, pos, natAbs, _+ℤ_}
 use Rattle.bounds.specs.declared.answer.Answer.{Answer}
 use Rattle.bounds.specs.declared.refusal.Refusal.{Refusal}
 use Rattle.word.specs.Takum.{Takum, real, NaR, power, regimeOf, characteristicOf, S, D, R, r, p, C, F, c, e, value, meaning, N, padded, takum}
 use Rattle.word.specs.Reads.{num, den, IsSize, signedSize}
 use Rattle.word.proofs.Heads.{both}
+use Rattle.word.proofs.Integers.{same-integer, same-integer-is}
 use Rattle.bounds.proofs.Verdicts.{width-fits, answered}
 use Rattle.round.specs.declared.value.Rule.{Rule}
 use Rattle.nearest.specs.Nearest.{HasValue}
 use Rattle.round.specs.Writes.{other, IsWritten}
 use Rattle.write.specs.Writes.{isNegative, Writes}
 use Rattle.round.proofs.Rounding.{tie-nearest, none-between, written-one}
-use Rattle.whole.specs.Wholes.{WritesWhole}
-use Rattle.promises.specs.Figures.{Said, plus, minus, nar, IsSaid, Figure, reads, writes, refuses, writesWhole, refusesWhole, whole, below, figures, FigureHolds, AllHold}
+use Rattle.whole.specs.declared.taking.Taking.{Taking}
+use Rattle.whole.specs.declared.taking.Whole.{Whole}
+use Rattle.whole.specs.Parts.{NearestSize, byRule}
+use Rattle.whole.specs.Wholes.{IsTakenWhole, WritesWhole, TakesWhole}
+use Rattle.whole.proofs.Answers.{inside, taken-inside}
+use Rattle.whole.proofs.NearestWholes.{nearest-whole}
+use Rattle.whole.proofs.Refused.{meaning-taken}
+use Rattle.whole.proofs.OneOutcome.{taken-one}
+use Rattle.promises.specs.Figures.{Said, plus, minus, nar, IsSaid, Figure, reads, writes, refuses, writesWhole, refusesWhole, takes, whole, below, figures, FigureHolds, AllHold}
 use Rattle.promises.specs.Demands.{RefusedAs, ReadingIsTheDefinition}
 use Rattle.promises.specs.Writing.{numerator, denominator, AWordsValueIsWrittenAsTheWord}
 use Rattle.promises.proofs.Tests.{same, same-is, is-word, word-is, has, has-is}
@@ -80,6 +89,19 @@ given n rule M w v = exactly n M w v || midway n rule M w v (size-of (takum n v)
 not-given : ℕ → Rule → ℕ → ℕ → ℕ → Bool
 not-given n rule M number v = apart n rule M number v (size-of (takum n v)) (size-of (takum n (suc v)))
 
+-- ---- taking: the number is at most a half off, at a half even, has the sign, and is far inside signed 64 bits
+half-off : ℕ → ℕ → Bool
+half-off a i = (leb (2 * a) (2 * scaled i + 2 ^ 307) && leb (2 * scaled i) (2 * a + 2 ^ 307)) && (eqb (i % 2) 0 || (ltb (2 * a) (2 * scaled i + 2 ^ 307) && ltb (2 * scaled i) (2 * a + 2 ^ 307)))
+
+-- the sign of a meaning
+sign-of : Takum → Bool
+sign-of (real z) = isNegative z
+sign-of NaR = false
+
+taken : ℕ → Taking → ℕ → ℤ → Bool
+taken n Taking.Nearest w x = (is-word n w && same (takum n w) (real (signedSize (sign-of (takum n w)) (size-of (takum n w))))) && (same-integer (signedSize (sign-of (takum n w)) (natAbs x)) x && (half-off (size-of (takum n w)) (natAbs x) && ltb (natAbs x) (2 ^ 63)))
+taken n Taking.Strict w x = false
+
 -- ---- the test of one figure and of a list of them
 passes : Figure → Bool
 passes (reads n w x) = is-word n w && said x (takum n w)
@@ -87,6 +109,7 @@ passes (writes n rule M w) = given n rule M w (low-word n M)
 passes (refuses n rule M number) = not-given n rule M number (low-word n M)
 passes (writesWhole n rule M w) = given n rule M w (low-word n M)
 passes (refusesWhole n rule M number) = not-given n rule M number (low-word n M)
+passes (takes n rule w x) = taken n rule w x
 
 all-pass : List Figure → Bool
 all-pass [] = true
@@ -158,6 +181,37 @@ not-given-holds : (n : ℕ) (rule : Rule) (M number v : ℕ) → T (not-given n 
 unfolding not-given
 not-given-holds n rule M number v ok = apart-holds n rule M number v (size-of (takum n v)) (size-of (takum n (suc v))) ok
 
+half-off-is : (a i : ℕ) → T (half-off a i) → NearestSize (2 ^ 307) a i
+unfolding half-off scaled
+half-off-is a i t =
+    let u = both (leb (2 * a) (2 * scaled i + 2 ^ 307) && leb (2 * scaled i) (2 * a + 2 ^ 307)) (eqb (i % 2) 0 || (ltb (2 * a) (2 * scaled i + 2 ^ 307) && ltb (2 * scaled i) (2 * a + 2 ^ 307))) t in
+    let v = both (leb (2 * a) (2 * scaled i + 2 ^ 307)) (leb (2 * scaled i) (2 * a + 2 ^ 307)) (u .0) in
+    record { up-to = leb→le _ _ (v .0); from = leb→le _ _ (v .1); tie-above = λ q. even (u .1) (inl q); tie-below = λ q. even (u .1) (inr q) }
+  where
+    tie : (c d : ℕ) → c < d → c ≡ d → ⊥
+    tie c d h q = omega (arith, h, q)
+
+    apart-from : (c d : ℕ) → T (ltb c d) → c ≡ d → i % 2 ≡ 0
+    apart-from c d t q = absurd (tie c d (ltb→lt c d t) q)
+
+    even : T (eqb (i % 2) 0 || (ltb (2 * a) (2 * scaled i + 2 ^ 307) && ltb (2 * scaled i) (2 * a + 2 ^ 307))) → (2 * a ≡ 2 * scaled i + 2 ^ 307) ⊎ (2 * scaled i ≡ 2 * a + 2 ^ 307) → i % 2 ≡ 0
+    even t e =
+        ⊎-elim (eqb→eq (i % 2) 0)
+        (λ k. let v = both (ltb (2 * a) (2 * scaled i + 2 ^ 307)) (ltb (2 * scaled i) (2 * a + 2 ^ 307)) k in ⊎-elim (apart-from (2 * a) (2 * scaled i + 2 ^ 307) (v .0)) (apart-from (2 * scaled i) (2 * a + 2 ^ 307) (v .1)) e)
+        (either (eqb (i % 2) 0) (ltb (2 * a) (2 * scaled i + 2 ^ 307) && ltb (2 * scaled i) (2 * a + 2 ^ 307)) t)
+
+taken-holds : (n : ℕ) (rule : Taking) (w : ℕ) (x : ℤ) → T (taken n rule w x) → (a : Whole) → TakesWhole n rule w a → a ≡ Whole.Is x
+unfolding taken byRule
+taken-holds n Taking.Strict w x t = absurd t
+taken-holds n Taking.Nearest w x t = λ a y.
+    let s = sign-of (takum n w) in
+    let v = size-of (takum n w) in
+    let word = both (is-word n w) (same (takum n w) (real (signedSize s v))) (both (is-word n w && same (takum n w) (real (signedSize s v))) (same-integer (signedSize s (natAbs x)) x && (half-off v (natAbs x) && ltb (natAbs x) (2 ^ 63))) t .0) in
+    let number = both (same-integer (signedSize s (natAbs x)) x) (half-off v (natAbs x) && ltb (natAbs x) (2 ^ 63)) (both (is-word n w && same (takum n w) (real (signedSize s v))) (same-integer (signedSize s (natAbs x)) x && (half-off v (natAbs x) && ltb (natAbs x) (2 ^ 63))) t .1) in
+    let near = both (half-off v (natAbs x)) (ltb (natAbs x) (2 ^ 63)) (number .1) in
+    taken-one Taking.Nearest (real (signedSize s v)) a (Whole.Is x) (meaning-taken n Taking.Nearest w a (word-is n w (word .0)) y (real (signedSize s v)) (same-is (takum n w) (real (signedSize s v)) (word .1)))
+    (subst (λ (z : ℤ). IsTakenWhole Taking.Nearest (real (signedSize s v)) (Whole.Is z)) (same-integer-is (signedSize s (natAbs x)) x (number .0)) (taken-inside Taking.Nearest (signedSize s v) (signedSize s (natAbs x)) _ (nearest-whole s v (natAbs x) (half-off-is v (natAbs x) (near .0))) (inside s (natAbs x) (ltb→lt (natAbs x) (2 ^ 63) (near .1))) refl))
+
 -- a whole number is offered as the value is
 as-value : (n : ℕ) (rule : Rule) (M : ℕ) (a : Answer) → WritesWhole n rule (pos M) a → Writes n rule (whole M) a
 unfolding WritesWhole Writes whole isNegative num den
@@ -171,6 +225,7 @@ holds (reads n w x) ok = λ a h.
 holds (writes n rule M w) ok = given-holds n rule M w (low-word n M) ok
 holds (refuses n rule M number) ok = not-given-holds n rule M number (low-word n M) ok
 holds (writesWhole n rule M w) ok = λ a x. given-holds n rule M w (low-word n M) ok a (as-value n rule M a x)
+holds (takes n rule w x) ok = taken-holds n rule w x ok
 holds (refusesWhole n rule M number) ok = λ a x. not-given-holds n rule M number (low-word n M) ok a (as-value n rule M a x)
 
 all-hold : (fs : List Figure) → T (all-pass fs) → AllHold fs
@@ -179,5 +234,5 @@ all-hold [] t = tt
 all-hold (f ∷ fs) t = let x = both (passes f) (all-pass fs) t in (holds f (x .0), all-hold fs (x .1))
 
 pub figures-hold : AllHold figures
-unfolding figures below said num den signedSize power same is-word passes all-pass regimeOf characteristicOf S D R r p C F c e value meaning N padded takum exactly has low-word last-below size-of scaled midway apart neighbours given not-given
+unfolding figures below said num den signedSize power same is-word passes all-pass regimeOf characteristicOf S D R r p C F c e value meaning N padded takum exactly has low-word last-below size-of scaled midway apart neighbours given not-given half-off sign-of taken isNegative
 figures-hold = all-hold figures tt

@@ -27,10 +27,12 @@ pub mod Hub
 pub mod Tests
 -- at width 16 the words from 0x5A00 to 0x5B00 are the even whole numbers from 512 to 1,024, by one computed test
 pub mod Evens
--- at widths 2 to 4 no word has a value between 1 and 8, so 3 is rounded to 1
+-- at widths 2 to 4 no word has a value between 1 and 8, so 3 is rounded to 1, and a size above 1 is even
 pub mod Narrow
 -- whole numbers and binary64
 pub mod Numbers
+-- whole numbers by nearest
+pub mod Wholes
 -- the nearest binary64
 pub mod Nearest
 -- every place of a column and of a block, and lent memory after a refusal

@@ -61,12 +61,12 @@ is-count (Limit.Count l) = Unit {0}
 is-count (Limit.Refused q) = ⊥
 
 -- what is known of a limit that was answered
-record Known (n l : ℕ) : Type 0 where
-  lo : 2 ≤ n
-  hi : n ≤ 64
-  limit : IsLimit n l
+pub record Known (n l : ℕ) : Type 0 where
+  pub lo : 2 ≤ n
+  pub hi : n ≤ 64
+  pub limit : IsLimit n l
 
-known : (n l : ℕ) → GivesLimit n (Limit.Count l) → Known n l
+pub known : (n l : ℕ) → GivesLimit n (Limit.Count l) → Known n l
 unfolding GivesLimit count-of is-count
 known n l (through h x) = let t = width-through n h in
     record { lo = t .0; hi = t .1; limit = subst (IsLimit n) (sym (ap count-of (x .1))) (x .2) }

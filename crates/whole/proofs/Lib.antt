@@ -22,6 +22,10 @@ pub mod TakenOut
 pub mod InAndOut
 -- taking out keeps the order of words
 pub mod Order
+-- the negated word is taken out as the negated number
+pub mod Negation
+-- a sum is off by at most what its parts are off
+pub mod Sums
 -- ---- the exact-count limit
 -- the strings of the whole numbers from 2^h to 2^(h + 1) begin alike and are evenly spaced
 pub mod LimitBinades

@@ -3,6 +3,7 @@
 use mathlib.Core.Path.{_≡_, refl, sym, ap, _∙_, subst}
 use mathlib.Core.Bool.{Bool}
 use Prim.Native.Nat.{ℕ, _+_, _-_, _*_, _^_, _≤_}
+use native.Mathlib.Nat.{le-trans}
 use native.Mathlib.Omega.{arith}
 use lib.Dec.{lit≤}
 use lib.IntN.{ℤ, pos, _-ℤ_}
@@ -21,22 +22,23 @@ use Rattle.whole.proofs.LimitEvens.{even-from-the-limit}
 limit-of-64 : IsLimit 64 (2 ^ 55)
 limit-of-64 = record { v = 55; is = no-more 64 5 (omega arith) (omega arith) (omega arith) (omega arith); limit = refl }
 
-pub even-from-2-to-55 : (n w : ℕ) (s : Bool) (z : ℕ) → IsWord n w → takum n w ≡ real (signedSize s z) → 2 ^ 55 * 2 ^ 307 ≤ z → (j : ℕ) × (z ≡ 2 * j * 2 ^ 307)
-even-from-2-to-55 n w s z i means large = even-from-the-limit 64 (2 ^ 55) (lit≤ tt) (lit≤ tt) limit-of-64 s z (w * 2 ^ (64 - n)) is large
+-- with zeros appended a word has the same value
+pub wider : (n N : ℕ) (s : Bool) (z w : ℕ) → n ≤ N → N ≤ 64 → HasValue n s z w → HasValue N s z (w * 2 ^ (N - n))
+wider n N s z w h hi x =
+    record {
+      word = record { least = le-trans (x .word .least) h; most = hi; fits = shl-below n (N - n) N (x .word .fits) (sym long) };
+      means = ap (λ (m : ℕ). takum m (w * 2 ^ (N - n))) long ∙ zeros-appended n (N - n) w (x .word .least) (omega (arith, h, hi)) (x .word .fits) ∙ x .means;
+    }
   where
-    long : 64 ≡ n + (64 - n)
-    long = omega (arith, i .most)
+    long : N ≡ n + (N - n)
+    long = omega (arith, h)
 
-    is : HasValue 64 s z (w * 2 ^ (64 - n))
-    is =
-        record {
-          word = record { least = lit≤ tt; most = lit≤ tt; fits = shl-below n (64 - n) 64 (i .fits) (sym long) };
-          means = ap (λ (m : ℕ). takum m (w * 2 ^ (64 - n))) long ∙ zeros-appended n (64 - n) w (i .least) (omega (arith, i .most)) (i .fits) ∙ means;
-        }
+pub even-from-2-to-55 : (n w : ℕ) (s : Bool) (z : ℕ) → HasValue n s z w → 2 ^ 55 * 2 ^ 307 ≤ z → (j : ℕ) × (z ≡ 2 * j * 2 ^ 307)
+even-from-2-to-55 n w s z x large = even-from-the-limit 64 (2 ^ 55) (lit≤ tt) (lit≤ tt) limit-of-64 s z (w * 2 ^ (64 - n)) (wider n 64 s z w (x .word .most) (lit≤ tt) x) large
 
 -- as the size of what a word means is told
 pub whole-where-large : (n w : ℕ) (s : Bool) (h : ℤ) (m : ℕ) → IsWord n w → IsNumber (takum n w) 63 s h m 63 → WholeWhereLarge h m
 unfolding WholeWhereLarge
 whole-where-large n w s h m i x v counted large =
-    let t = even-from-2-to-55 n w s v i (subst (λ (y : ℕ). takum n w ≡ real (signedSize s y)) (value-one m (h -ℤ pos 63) (x .v) v (x .size) counted) (x .means)) large in
+    let t = even-from-2-to-55 n w s v (record { word = i; means = subst (λ (y : ℕ). takum n w ≡ real (signedSize s y)) (value-one m (h -ℤ pos 63) (x .v) v (x .size) counted) (x .means) }) large in
     (2 * t .0, t .1)

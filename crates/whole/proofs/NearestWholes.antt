@@ -1,13 +1,13 @@
--- A value has one nearest whole number, and what that is in sizes: at most a half off, and at a half even. Assumes nothing.
+-- A value has a nearest whole number and only one, and what that is in sizes: at most a half off, and at a half even. Assumes nothing.
 use mathlib.Core.Path.{_≡_, refl, sym, ap, _∙_, subst, subst₂}
-use mathlib.Core.Bool.{Bool, true, false}
+use mathlib.Core.Bool.{Bool, true, false, not}
 use mathlib.Core.Logic.{_⊎_, inl, inr, ⊎-elim}
 use Prim.Native.Nat.{ℕ, zero, suc, _+_, _*_, _/_, _%_, _^_, _≤_, _<_}
 use native.Mathlib.Nat.{suc-mul, zero-mul, mul-pos, zero-lt-suc, mul-le-mul-right, le-refl, le-antisymm, le-of-eq, eq-of-mul-eq-mul-right, div-add-mod', mul-mod-left, mod-lt}
 use native.Mathlib.Omega.{arith}
 use borrow.Author.Tests.{eq-eqb, ne-eqb, eqb-true, eqb-false}
 use lib.Dec.{eqb}
-use lib.IntN.{ℤ, pos, negsuc, natAbs, _-ℤ_, _*ℤ_}
+use lib.IntN.{ℤ, pos, negsuc, negℤ, natAbs, _-ℤ_, _*ℤ_, negℤ-negℤ}
 use lib.Pow.{pow-pos}
 use Rattle.bounds.proofs.Powers.{not-more}
 use Rattle.word.specs.Reads.{signedSize}
@@ -259,3 +259,22 @@ module _ (z x : ℤ) (is : IsNearestWhole z x) where
 
 pub one-nearest-whole : (z x y : ℤ) → IsNearestWhole z x → IsNearestWhole z y → x ≡ y
 one-nearest-whole z x y a b = its-sign z x a ∙ ap (signedSize (isNegative z)) (one-size (2 ^ 307) one (natAbs z) (natAbs x) (natAbs y) (its-size z x a) (its-size z y b)) ∙ sym (its-sign z y b)
+
+pub a-nearest-whole : (z : ℤ) → (x : ℤ) × IsNearestWhole z x
+a-nearest-whole z =
+    let t = a-nearest (2 ^ 307) one (natAbs z) in
+    (signedSize (isNegative z) (t .0), subst (λ (y : ℤ). IsNearestWhole y (signedSize (isNegative z) (t .0))) (rejoined z) (nearest-whole (isNegative z) (natAbs z) (t .0) (t .1)))
+
+-- the opposite value has the opposite number
+pub opposite-nearest : (z x : ℤ) → IsNearestWhole z x → IsNearestWhole (negℤ z) (negℤ x)
+unfolding signedSize
+opposite-nearest z x is =
+    subst₂ IsNearestWhole (sym (other z) ∙ ap negℤ (rejoined z)) (sym (turned-sign (isNegative z) (natAbs x)) ∙ ap negℤ (sym (its-sign z x is)))
+    (nearest-whole (not (isNegative z)) (natAbs z) (natAbs x) (its-size z x is))
+  where
+    turned-sign : (s : Bool) (a : ℕ) → negℤ (signedSize s a) ≡ signedSize (not s) a
+    turned-sign false a = refl
+    turned-sign true a = negℤ-negℤ (pos a)
+
+    other : (z : ℤ) → negℤ (signedSize (isNegative z) (natAbs z)) ≡ signedSize (not (isNegative z)) (natAbs z)
+    other z = turned-sign (isNegative z) (natAbs z)

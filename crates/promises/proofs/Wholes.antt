@@ -48,9 +48,9 @@ use Rattle.promises.proofs.Numbers.{Known, known}
 use Rattle.promises.proofs.OneOutcome.{gives-limit-one}
 
 -- ---- the nearest
-pub the-number-out-is-the-nearest : promise.TheNumberOutIsTheNearest
-unfolding promise.TheNumberOutIsTheNearest
-the-number-out-is-the-nearest n w rule x y = let k = taken-out n rule w x y in (k .z, k .means, k .near)
+pub the-whole-number-out-is-the-nearest : promise.TheWholeNumberOutIsTheNearest
+unfolding promise.TheWholeNumberOutIsTheNearest
+the-whole-number-out-is-the-nearest n w rule x y = let k = taken-out n rule w x y in (k .z, k .means, k .near)
 
 pub every-value-has-a-nearest-whole-number : promise.EveryValueHasANearestWholeNumber
 unfolding promise.EveryValueHasANearestWholeNumber
@@ -65,17 +65,17 @@ unfolding promise.AWholeValueGoesOutAsItself IsWhole valueOf
 a-whole-value-goes-out-as-itself n w x rule a is inside y = written-comes-back n x w rule a inside (record { word = is .word; means = is .means }) y
 
 -- ---- what the trade can quote
-pub the-number-out-is-off-by-at-most-a-half : promise.TheNumberOutIsOffByAtMostAHalf
-unfolding promise.TheNumberOutIsOffByAtMostAHalf
-the-number-out-is-off-by-at-most-a-half n w rule z x means y =
+pub the-whole-number-out-is-off-by-at-most-a-half : promise.TheWholeNumberOutIsOffByAtMostAHalf
+unfolding promise.TheWholeNumberOutIsOffByAtMostAHalf
+the-whole-number-out-is-off-by-at-most-a-half n w rule z x means y =
     let k = taken-out n rule w x y in
     off-by-a-half z x (subst (λ (t : ℤ). IsNearestWhole t x) (real-inj (sym (k .means) ∙ means)) (k .near))
 
 pub a-rack-is-off-by-at-most-a-half-for-each-joint : promise.ARackIsOffByAtMostAHalfForEachJoint
-unfolding promise.ARackIsOffByAtMostAHalfForEachJoint promise.TheNumberOutIsOffByAtMostAHalf total offBy
+unfolding promise.ARackIsOffByAtMostAHalfForEachJoint promise.TheWholeNumberOutIsOffByAtMostAHalf total offBy
 a-rack-is-off-by-at-most-a-half-for-each-joint rule words values numbers empty = zero-le
 a-rack-is-off-by-at-most-a-half-for-each-joint rule words values numbers (joint {words = ws} {values = zs} {numbers = xs} n w z x means y rest) =
-    together (2 ^ 307) (length ws) (offBy z x) (offBy (total zs) (total xs)) (off-by-sum z (total zs) x (total xs)) (the-number-out-is-off-by-at-most-a-half n w rule z x means y) (a-rack-is-off-by-at-most-a-half-for-each-joint rule ws zs xs rest)
+    together (2 ^ 307) (length ws) (offBy z x) (offBy (total zs) (total xs)) (off-by-sum z (total zs) x (total xs)) (the-whole-number-out-is-off-by-at-most-a-half n w rule z x means y) (a-rack-is-off-by-at-most-a-half-for-each-joint rule ws zs xs rest)
   where
     together : (u k b c : ℕ) {a : ℕ} → a ≤ b + c → 2 * b ≤ u → 2 * c ≤ k * u → 2 * a ≤ suc k * u
     together u k b c h p q = omega (arith, h, p, q, suc-mul k u)
@@ -162,9 +162,9 @@ module _ (n w : ℕ) (z x : ℤ) (i : IsWord n w) (means : takum n w ≡ real z)
   by-the-value : 2 ^ 63 * 2 ^ 307 ≤ natAbs z → natAbs z ≡ natAbs x * 2 ^ 307
   by-the-value h = exact-where-large n w z x i means near (le-trans (mul-le-mul-right {m = 2 ^ 55} {n = 2 ^ 63} (2 ^ 307) (lit≤ tt)) h)
 
-pub the-number-is-over-exactly-where-the-value-is : promise.TheNumberIsOverExactlyWhereTheValueIs
-unfolding promise.TheNumberIsOverExactlyWhereTheValueIs OutsideSigned64 ValueOutsideSigned64 isNegative signedSize
-the-number-is-over-exactly-where-the-value-is n w z x i means near = by z x means near (its-sign z x near)
+pub the-whole-number-is-over-exactly-where-the-value-is : promise.TheWholeNumberIsOverExactlyWhereTheValueIs
+unfolding promise.TheWholeNumberIsOverExactlyWhereTheValueIs OutsideSigned64 ValueOutsideSigned64 isNegative signedSize
+the-whole-number-is-over-exactly-where-the-value-is n w z x i means near = by z x means near (its-sign z x near)
   where
     one : 0 < 2 ^ 307
     one = pow-pos 307

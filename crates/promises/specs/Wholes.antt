@@ -19,8 +19,8 @@ use Rattle.promises.specs.Refusals.{OutsideSigned64}
 
 -- ---- the nearest, ties to even
 -- the number that goes out is the nearest to the word's value, by either rule
-unfoldable pub TheNumberOutIsTheNearest : Type 0
-TheNumberOutIsTheNearest = (n w : ℕ) (rule : Taking) (x : ℤ) → TakesWhole n rule w (Whole.Is x) → (z : ℤ) × (takum n w ≡ real z) × IsNearestWhole z x
+unfoldable pub TheWholeNumberOutIsTheNearest : Type 0
+TheWholeNumberOutIsTheNearest = (n w : ℕ) (rule : Taking) (x : ℤ) → TakesWhole n rule w (Whole.Is x) → (z : ℤ) × (takum n w ≡ real z) × IsNearestWhole z x
 
 -- every value has such a number, and only one
 unfoldable pub EveryValueHasANearestWholeNumber : Type 0
@@ -49,8 +49,8 @@ NoWordPastTheLimitGoesOutOdd = (n l w : ℕ) (rule : Taking) (x : ℤ) → Gives
 
 -- ---- what the trade can quote
 -- the number out differs from the value by at most a half
-unfoldable pub TheNumberOutIsOffByAtMostAHalf : Type 0
-TheNumberOutIsOffByAtMostAHalf = (n w : ℕ) (rule : Taking) (z x : ℤ) → takum n w ≡ real z → TakesWhole n rule w (Whole.Is x) → 2 * offBy z x ≤ 2 ^ 307
+unfoldable pub TheWholeNumberOutIsOffByAtMostAHalf : Type 0
+TheWholeNumberOutIsOffByAtMostAHalf = (n w : ℕ) (rule : Taking) (z x : ℤ) → takum n w ≡ real z → TakesWhole n rule w (Whole.Is x) → 2 * offBy z x ≤ 2 ^ 307
 
 -- a rack: the words of its joints, each of a width of its own, their values, and the numbers that went out
 pub data Rack (rule : Taking) : List ℕ → List ℤ → List ℤ → Type 0 where
@@ -76,5 +76,5 @@ ValueOutsideSigned64 (pos a) = 2 ^ 63 * 2 ^ 307 ≤ a
 ValueOutsideSigned64 (negsuc a) = 2 ^ 63 * 2 ^ 307 ≤ a
 
 -- So the nearest whole number is outside exactly where the value is.
-unfoldable pub TheNumberIsOverExactlyWhereTheValueIs : Type 0
-TheNumberIsOverExactlyWhereTheValueIs = (n w : ℕ) (z x : ℤ) → IsWord n w → takum n w ≡ real z → IsNearestWhole z x → (OutsideSigned64 x → ValueOutsideSigned64 z) × (ValueOutsideSigned64 z → OutsideSigned64 x)
+unfoldable pub TheWholeNumberIsOverExactlyWhereTheValueIs : Type 0
+TheWholeNumberIsOverExactlyWhereTheValueIs = (n w : ℕ) (z x : ℤ) → IsWord n w → takum n w ≡ real z → IsNearestWhole z x → (OutsideSigned64 x → ValueOutsideSigned64 z) × (ValueOutsideSigned64 z → OutsideSigned64 x)

@@ -1,7 +1,7 @@
 -- At widths 2 to 4 no word has a value between 1 and 8, so 3 is rounded to 1, and every size above 1 is an even whole number. Assumes nothing.
-use mathlib.Core.Path.{_≡_, refl, sym, ap, _∙_, subst}
+use mathlib.Core.Path.{_≡_, refl, sym, subst}
 use mathlib.Core.Bool.{Bool, false}
-use Prim.Native.Nat.{ℕ, _+_, _-_, _*_, _^_, _≤_, _<_, zero-le}
+use Prim.Native.Nat.{ℕ, _-_, _*_, _^_, _≤_, _<_, zero-le}
 use native.Mathlib.Decide.{decLe}
 use native.Mathlib.Nat.{lt-of-le-of-lt, mul-pos, le-trans, le-of-eq, lt-of-not-le, le-antisymm}
 use native.Mathlib.Omega.{arith}

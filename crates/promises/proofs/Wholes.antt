@@ -1,7 +1,6 @@
 -- The promises that specs/Wholes.antt states, from the laws of whole numbers. Assumes nothing.
-use mathlib.Core.Path.{_≡_, refl, sym, ap, _∙_, subst, subst₂}
+use mathlib.Core.Path.{_≡_, refl, sym, ap, _∙_, subst}
 use mathlib.Core.Bool.{Bool}
-use mathlib.Core.List.{List, [], _∷_}
 use mathlib.Core.Logic.{_⊎_, inl, inr}
 use Prim.Native.Nat.{ℕ, zero, suc, _+_, _*_, _%_, _^_, _≤_, _<_, zero-le, suc-le-suc}
 use native.Mathlib.Nat.{le-of-lt, le-suc, le-trans, le-of-suc-le-suc, zero-mul, suc-mul, mul-le-mul-right, le-of-mul-le-mul-right, lt-of-mul-lt-mul-right, lt-of-not-le}
@@ -12,25 +11,22 @@ use lib.IntN.{ℤ, pos, negsuc, negℤ, natAbs, pos-ne-negsuc}
 use lib.ListN.{length}
 use lib.Pow.{pow-pos}
 use Rattle.bounds.specs.declared.refusal.Refusal.{Refusal}
-use Rattle.bounds.specs.declared.refusal.Verdict.{Verdict}
 use Rattle.bounds.specs.declared.width.Limit.{Limit}
 use Rattle.bounds.specs.Refusals.{IsWord, through}
 use Rattle.bounds.specs.Widths.{GivesLimit}
 use Rattle.bounds.proofs.Verdicts.{width-fits}
-use Rattle.word.specs.Takum.{Takum, real, takum}
+use Rattle.word.specs.Takum.{real, takum}
 use Rattle.word.specs.Reads.{signedSize}
-use Rattle.word.specs.Orders.{negated, opposite}
-use Rattle.word.proofs.Values.{real-inj, absolute}
-use Rattle.nearest.specs.Nearest.{HasValue}
+use Rattle.word.specs.Orders.{negated}
+use Rattle.word.proofs.Values.{real-inj}
+use Rattle.nearest.specs.Nearest.{HasValue, distance}
 use Rattle.write.specs.Writes.{isNegative}
 use Rattle.write.proofs.Moves.{rejoined}
-use Rattle.whole.specs.declared.taking.Taking.{Taking}
 use Rattle.whole.specs.declared.taking.Whole.{Whole}
-use Rattle.whole.specs.Wholes.{offBy, IsNearestWhole, overTest, TakesWhole}
-use Rattle.whole.proofs.Answers.{inside, outside-above}
-use Rattle.whole.proofs.InAndOut.{written-comes-back}
+use Rattle.whole.specs.Wholes.{offBy, IsNearestWhole}
+use Rattle.whole.proofs.InAndOut.{strictly-taken, written-comes-back}
 use Rattle.whole.proofs.LimitEvens.{even-from-the-limit}
-use Rattle.whole.proofs.LimitLarge.{even-from-2-to-55}
+use Rattle.whole.proofs.LimitLarge.{large-is-even}
 use Rattle.whole.specs.Parts.{NearestSize}
 use Rattle.whole.proofs.Negation.{negated-taken, negated-over}
 use Rattle.whole.proofs.NearestWholes.{itself, one-size, one-nearest-whole, a-nearest-whole, its-sign, its-size, off-by-a-half}
@@ -39,8 +35,7 @@ use Rattle.whole.proofs.Sums.{off-by-sum}
 use Rattle.whole.proofs.TakenOut.{TakenOut, taken-out}
 use Rattle.whole.proofs.WholeValues.{valueOf, signed-value}
 use Rattle.promises.specs.Wholes as promise
-use Rattle.promises.specs.Wholes.{Rack, empty, joint, total, ValueOutsideSigned64}
-use Rattle.promises.specs.Demands.{RefusedAs}
+use Rattle.promises.specs.Wholes.{empty, joint, total, ValueOutsideSigned64}
 use Rattle.promises.specs.Numbers.{IsWhole}
 use Rattle.promises.specs.Refusals.{OutsideSigned64}
 use Rattle.promises.proofs.Narrow.{even-past-one, limit-up-to-4}
@@ -63,6 +58,10 @@ one-whole-number-is-the-nearest = one-nearest-whole
 pub a-whole-value-goes-out-as-itself : promise.AWholeValueGoesOutAsItself
 unfolding promise.AWholeValueGoesOutAsItself IsWhole valueOf
 a-whole-value-goes-out-as-itself n w x rule a is inside y = written-comes-back n x w rule a inside (record { word = is .word; means = is .means }) y
+
+pub strictly-the-number-out-is-the-value : promise.StrictlyTheNumberOutIsTheValue
+unfolding promise.StrictlyTheNumberOutIsTheValue IsWhole valueOf
+strictly-the-number-out-is-the-value n w x y = let k = strictly-taken n w x y in record { word = k .word; means = k .means }
 
 -- ---- what the trade can quote
 pub the-whole-number-out-is-off-by-at-most-a-half : promise.TheWholeNumberOutIsOffByAtMostAHalf
@@ -115,12 +114,12 @@ module _ (n w : ℕ) (z x : ℤ) (i : IsWord n w) (means : takum n w ≡ real z)
   even-number (j, q) = let e = number-is (2 * j) q in omega (arith, e)
 
   exact-where-large : 2 ^ 55 * 2 ^ 307 ≤ natAbs z → natAbs z ≡ natAbs x * 2 ^ 307
-  exact-where-large h = let t = even-from-2-to-55 n w s (natAbs z) has h in t .1 ∙ ap (λ (j : ℕ). j * 2 ^ 307) (sym (number-is (2 * t .0) (t .1)))
+  exact-where-large h = let t = large-is-even n w s (natAbs z) has h in t .1 ∙ ap (λ (j : ℕ). j * 2 ^ 307) (sym (number-is (2 * t .0) (t .1)))
 
 -- ---- the line in the ledger
 pub no-word-past-the-limit-goes-out-odd : promise.NoWordPastTheLimitGoesOutOdd
 unfolding promise.NoWordPastTheLimitGoesOutOdd GivesLimit
-no-word-past-the-limit-goes-out-odd n l w rule x g h y = by (decLe 5 n)
+no-word-past-the-limit-goes-out-odd n l w rule z x g means large y = even-number n w z x (o .word) means near (by (decLe 5 n))
   where
     o : TakenOut n rule w x
     o = taken-out n rule w x y
@@ -128,22 +127,34 @@ no-word-past-the-limit-goes-out-odd n l w rule x g h y = by (decLe 5 n)
     k : Known n l
     k = known n l g
 
-    by : Dec (5 ≤ n) → natAbs x % 2 ≡ 0
-    by (yes five) = even-number n w (o .z) x (o .word) (o .means) (o .near) (even-from-the-limit n l five (k .hi) (k .limit) (isNegative (o .z)) (natAbs (o .z)) w (has n w (o .z) x (o .word) (o .means) (o .near)) (le-of-lt (past n w (o .z) x (o .word) (o .means) (o .near) l h)))
+    near : IsNearestWhole z x
+    near = subst (λ (t : ℤ). IsNearestWhole t x) (real-inj (sym (o .means) ∙ means)) (o .near)
+
+    value : HasValue n (isNegative z) (natAbs z) w
+    value = has n w z x (o .word) means near
+
+    by : Dec (5 ≤ n) → (j : ℕ) × (natAbs z ≡ 2 * j * 2 ^ 307)
+    by (yes five) = even-from-the-limit n l five (k .hi) (k .limit) (isNegative z) (natAbs z) w value (le-of-lt large)
     by (no f) = up-to-4 (le-of-suc-le-suc (lt-of-not-le f))
       where
-        up-to-4 : n ≤ 4 → natAbs x % 2 ≡ 0
+        up-to-4 : n ≤ 4 → (j : ℕ) × (natAbs z ≡ 2 * j * 2 ^ 307)
         up-to-4 short =
             let same = gives-limit-one n (Limit.Count l) (Limit.Count 1) g (through (width-fits n (k .lo) (k .hi)) (1, refl, limit-up-to-4 n short)) in
             let one : l ≡ 1 = cc in
-            even-number n w (o .z) x (o .word) (o .means) (o .near) (even-past-one n (k .lo) short (isNegative (o .z)) (natAbs (o .z)) w (has n w (o .z) x (o .word) (o .means) (o .near)) (past n w (o .z) x (o .word) (o .means) (o .near) 1 (subst (λ (l : ℕ). l < natAbs x) one h)))
+            even-past-one n (k .lo) short (isNegative z) (natAbs z) w value (subst (λ (l : ℕ). l * 2 ^ 307 < natAbs z) one large)
+
+pub no-odd-number-past-the-limit-goes-out : promise.NoOddNumberPastTheLimitGoesOut
+unfolding promise.NoOddNumberPastTheLimitGoesOut promise.NoWordPastTheLimitGoesOutOdd
+no-odd-number-past-the-limit-goes-out n l w rule x g h y =
+    let o = taken-out n rule w x y in
+    no-word-past-the-limit-goes-out-odd n l w rule (o .z) x g (o .means) (past n w (o .z) x (o .word) (o .means) (o .near) l h) y
 
 -- ---- OVER
-pub from-2-to-55-on-every-word-is-a-whole-number : promise.From2To55OnEveryWordIsAWholeNumber
-unfolding promise.From2To55OnEveryWordIsAWholeNumber IsWhole valueOf
-from-2-to-55-on-every-word-is-a-whole-number n w z i means large =
+pub every-value-of-at-least-2-to-55-is-whole : promise.EveryValueOfAtLeast2To55IsWhole
+unfolding promise.EveryValueOfAtLeast2To55IsWhole IsWhole valueOf
+every-value-of-at-least-2-to-55-is-whole n w z i means large =
     let s = isNegative z in
-    let t = even-from-2-to-55 n w s (natAbs z) (record { word = i; means = means ∙ ap real (sym (rejoined z)) }) large in
+    let t = large-is-even n w s (natAbs z) (record { word = i; means = means ∙ ap real (sym (rejoined z)) }) large in
     (signedSize s (2 * t .0), record { word = i; means = means ∙ ap real (sym (rejoined z) ∙ ap (signedSize s) (t .1) ∙ sym (signed-value s (2 * t .0))) })
 
 -- where both are counted by the same whole number of ones
@@ -153,6 +164,32 @@ outside-sizes u a i some q = (λ h. subst (λ (b : ℕ). 2 ^ 63 * u ≤ b) (sym 
 -- below zero both are one less
 outside-below : (u a i : ℕ) → 0 < u → suc a ≡ suc i * u → (2 ^ 63 ≤ i → 2 ^ 63 * u ≤ a) × (2 ^ 63 * u ≤ a → 2 ^ 63 ≤ i)
 outside-below u a i some q = (λ h. omega (arith, q, some, suc-mul i u, mul-le-mul-right u h), λ h. le-of-suc-le-suc (lt-of-mul-lt-mul-right u (subst (λ (b : ℕ). 2 ^ 63 * u < b) q (suc-le-suc h))))
+
+-- ---- beside the ends, in sizes
+beside-above : (u a j : ℕ) → NearestSize u a j → 2 ^ 63 ≤ j → a < 2 ^ 63 * u → 2 * distance a (2 ^ 63 * u) ≤ u
+unfolding distance
+beside-above u a j x h g = omega (arith, x .from, g, mul-le-mul-right {m = 2 ^ 63} {n = j} u h)
+
+beside-below : (u a j : ℕ) → NearestSize u a j → j ≤ 2 ^ 63 → 2 ^ 63 * u ≤ a → 2 * distance a (2 ^ 63 * u) ≤ u
+unfolding distance
+beside-below u a j x h g = omega (arith, x .up-to, g, mul-le-mul-right {m = j} {n = 2 ^ 63} u h)
+
+pub rounding-could-decide-over-only-beside-the-ends : promise.RoundingCouldDecideOverOnlyBesideTheEnds
+unfolding promise.RoundingCouldDecideOverOnlyBesideTheEnds OutsideSigned64 ValueOutsideSigned64 isNegative signedSize
+rounding-could-decide-over-only-beside-the-ends z x near = by z x (its-size z x near) (its-sign z x near)
+  where
+    by : (z x : ℤ) → NearestSize (2 ^ 307) (natAbs z) (natAbs x) → x ≡ signedSize (isNegative z) (natAbs x) → (OutsideSigned64 x × (ValueOutsideSigned64 z → ⊥)) ⊎ (ValueOutsideSigned64 z × (OutsideSigned64 x → ⊥)) → 2 * distance (natAbs z) (2 ^ 63 * 2 ^ 307) ≤ 2 ^ 307
+    by (pos a) (pos j) y sign (inl (h, f)) = beside-above (2 ^ 307) a j y h (lt-of-not-le f)
+    by (pos a) (pos j) y sign (inr (h, f)) = beside-below (2 ^ 307) a j y (le-of-lt (lt-of-not-le f)) h
+    by (negsuc a) (negsuc j) y sign (inl (h, f)) = absurd (never (2 ^ 307) (pow-pos 307) y h (lt-of-not-le f))
+      where
+        never : (u : ℕ) → 0 < u → NearestSize u (suc a) (suc j) → 2 ^ 63 ≤ j → a < 2 ^ 63 * u → ⊥
+        never u some x h g = omega (arith, some, x .from, g, suc-mul j u, mul-le-mul-right {m = 2 ^ 63} {n = j} u h)
+    by (negsuc a) (negsuc j) y sign (inr (h, f)) = beside-below (2 ^ 307) (suc a) (suc j) y (lt-of-not-le f) (le-trans h (le-suc a))
+    by (pos a) (negsuc j) y sign d = absurd (pos-ne-negsuc (suc j) j (sym sign))
+    by (negsuc a) (pos (suc j)) y sign d = absurd (pos-ne-negsuc (suc j) j sign)
+    by (negsuc a) (pos zero) y sign (inl (h, f)) = absurd (omega (arith, h))
+    by (negsuc a) (pos zero) y sign (inr (h, f)) = beside-below (2 ^ 307) (suc a) 0 y zero-le (le-trans h (le-suc a))
 
 -- from 2^55 on, by the number or by the value
 module _ (n w : ℕ) (z x : ℤ) (i : IsWord n w) (means : takum n w ≡ real z) (near : IsNearestWhole z x) where

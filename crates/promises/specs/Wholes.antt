@@ -1,6 +1,7 @@
 -- Whole numbers by nearest (paper 02, Wish 2), as statements about what the public contracts allow. A value is z * 2^-307.
 use mathlib.Core.Path.{_≡_}
 use mathlib.Core.List.{List, [], _∷_}
+use mathlib.Core.Logic.{_⊎_}
 use Prim.Native.Nat.{ℕ, _*_, _%_, _^_, _≤_, _<_}
 use lib.IntN.{ℤ, pos, negsuc, negℤ, natAbs, _+ℤ_}
 use lib.ListN.{length}
@@ -10,6 +11,7 @@ use Rattle.bounds.specs.Refusals.{IsWord}
 use Rattle.bounds.specs.Widths.{GivesLimit}
 use Rattle.word.specs.Takum.{real, takum}
 use Rattle.word.specs.Orders.{negated}
+use Rattle.nearest.specs.Nearest.{distance}
 use Rattle.whole.specs.declared.taking.Taking.{Taking}
 use Rattle.whole.specs.declared.taking.Whole.{Whole}
 use Rattle.whole.specs.Wholes.{offBy, IsNearestWhole, overTest, TakesWhole}
@@ -33,6 +35,10 @@ OneWholeNumberIsTheNearest = (z x y : ℤ) → IsNearestWhole z x → IsNearestW
 unfoldable pub AWholeValueGoesOutAsItself : Type 0
 AWholeValueGoesOutAsItself = (n w : ℕ) (x : ℤ) (rule : Taking) (a : Whole) → IsWhole n x w → overTest x ≡ Verdict.Through → TakesWhole n rule w a → a ≡ Whole.Is x
 
+-- and strictly, what goes out is the value itself
+unfoldable pub StrictlyTheNumberOutIsTheValue : Type 0
+StrictlyTheNumberOutIsTheValue = (n w : ℕ) (x : ℤ) → TakesWhole n Taking.Strict w (Whole.Is x) → IsWhole n x w
+
 -- ---- negation (that the order of words is never reversed is `TakingWholeNumbersKeepsOrder`, Numbers.antt)
 -- the negated word goes out as the negated number
 unfoldable pub TheNegatedWordGoesOutAsTheNegatedNumber : Type 0
@@ -43,9 +49,13 @@ unfoldable pub TheNegatedWordOfTheLeastNumberIsOver : Type 0
 TheNegatedWordOfTheLeastNumberIsOver = (n w : ℕ) (rule : Taking) (a : Whole) → TakesWhole n rule w (Whole.Is (negℤ (pos (2 ^ 63)))) → TakesWhole n rule (negated n w) a → RefusedAs Whole Whole.Refused 5 a
 
 -- ---- the line in the ledger
--- past the exact-count limit of any width no word goes out as an odd whole number, by either rule
+-- no word whose value is past the exact-count limit of its width goes out as an odd whole number, by either rule
 unfoldable pub NoWordPastTheLimitGoesOutOdd : Type 0
-NoWordPastTheLimitGoesOutOdd = (n l w : ℕ) (rule : Taking) (x : ℤ) → GivesLimit n (Limit.Count l) → l < natAbs x → TakesWhole n rule w (Whole.Is x) → natAbs x % 2 ≡ 0
+NoWordPastTheLimitGoesOutOdd = (n l w : ℕ) (rule : Taking) (z x : ℤ) → GivesLimit n (Limit.Count l) → takum n w ≡ real z → l * 2 ^ 307 < natAbs z → TakesWhole n rule w (Whole.Is x) → natAbs x % 2 ≡ 0
+
+-- nor does any go out as an odd whole number that is past it
+unfoldable pub NoOddNumberPastTheLimitGoesOut : Type 0
+NoOddNumberPastTheLimitGoesOut = (n l w : ℕ) (rule : Taking) (x : ℤ) → GivesLimit n (Limit.Count l) → l < natAbs x → TakesWhole n rule w (Whole.Is x) → natAbs x % 2 ≡ 0
 
 -- ---- what the trade can quote
 -- the number out differs from the value by at most a half
@@ -66,15 +76,19 @@ unfoldable pub ARackIsOffByAtMostAHalfForEachJoint : Type 0
 ARackIsOffByAtMostAHalfForEachJoint = (rule : Taking) (words : List ℕ) (values numbers : List ℤ) → Rack rule words values numbers → 2 * offBy (total values) (total numbers) ≤ length words * 2 ^ 307
 
 -- ---- OVER is judged on the rounded number, and no rounding decides it
--- Rounding could decide it only for a value that isn't whole and lies beside 2^63 or -2^63. From 2^55 on there is no such word: its value is a whole number.
-unfoldable pub From2To55OnEveryWordIsAWholeNumber : Type 0
-From2To55OnEveryWordIsAWholeNumber = (n w : ℕ) (z : ℤ) → IsWord n w → takum n w ≡ real z → 2 ^ 55 * 2 ^ 307 ≤ natAbs z → (x : ℤ) × IsWhole n x w
-
--- below -2^63, or from 2^63 up
+-- the value is below -2^63, or from 2^63 up
 unfoldable pub ValueOutsideSigned64 : ℤ → Type 0
 ValueOutsideSigned64 (pos a) = 2 ^ 63 * 2 ^ 307 ≤ a
 ValueOutsideSigned64 (negsuc a) = 2 ^ 63 * 2 ^ 307 ≤ a
 
--- So the nearest whole number is outside exactly where the value is.
+-- Rounding could decide it, where one of the value and the number is outside and the other isn't, only for a value within a half of 2^63 or -2^63.
+unfoldable pub RoundingCouldDecideOverOnlyBesideTheEnds : Type 0
+RoundingCouldDecideOverOnlyBesideTheEnds = (z x : ℤ) → IsNearestWhole z x → (OutsideSigned64 x × (ValueOutsideSigned64 z → ⊥)) ⊎ (ValueOutsideSigned64 z × (OutsideSigned64 x → ⊥)) → 2 * distance (natAbs z) (2 ^ 63 * 2 ^ 307) ≤ 2 ^ 307
+
+-- No word has such a value but 2^63 and -2^63 themselves: from 2^55 on the value of every word is a whole number.
+unfoldable pub EveryValueOfAtLeast2To55IsWhole : Type 0
+EveryValueOfAtLeast2To55IsWhole = (n w : ℕ) (z : ℤ) → IsWord n w → takum n w ≡ real z → 2 ^ 55 * 2 ^ 307 ≤ natAbs z → (x : ℤ) × IsWhole n x w
+
+-- So the whole number nearest to a word's value is outside exactly where the value is.
 unfoldable pub TheWholeNumberIsOverExactlyWhereTheValueIs : Type 0
 TheWholeNumberIsOverExactlyWhereTheValueIs = (n w : ℕ) (z x : ℤ) → IsWord n w → takum n w ≡ real z → IsNearestWhole z x → (OutsideSigned64 x → ValueOutsideSigned64 z) × (ValueOutsideSigned64 z → OutsideSigned64 x)

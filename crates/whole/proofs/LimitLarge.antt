@@ -12,7 +12,7 @@ use Rattle.bounds.specs.Widths.{IsLimit}
 use Rattle.bounds.proofs.Limits.{no-more}
 use Rattle.bounds.proofs.Powers.{shl-below}
 use Rattle.word.specs.Takum.{real, takum}
-use Rattle.word.specs.Reads.{IsSize, signedSize, IsNumber}
+use Rattle.word.specs.Reads.{signedSize, IsNumber}
 use Rattle.word.proofs.Binades.{value-one}
 use Rattle.word.proofs.Words.{zeros-appended}
 use Rattle.nearest.specs.Nearest.{HasValue}
@@ -33,12 +33,12 @@ wider n N s z w h hi x =
     long : N ≡ n + (N - n)
     long = omega (arith, h)
 
-pub even-from-2-to-55 : (n w : ℕ) (s : Bool) (z : ℕ) → HasValue n s z w → 2 ^ 55 * 2 ^ 307 ≤ z → (j : ℕ) × (z ≡ 2 * j * 2 ^ 307)
-even-from-2-to-55 n w s z x large = even-from-the-limit 64 (2 ^ 55) (lit≤ tt) (lit≤ tt) limit-of-64 s z (w * 2 ^ (64 - n)) (wider n 64 s z w (x .word .most) (lit≤ tt) x) large
+pub large-is-even : (n w : ℕ) (s : Bool) (z : ℕ) → HasValue n s z w → 2 ^ 55 * 2 ^ 307 ≤ z → (j : ℕ) × (z ≡ 2 * j * 2 ^ 307)
+large-is-even n w s z x large = even-from-the-limit 64 (2 ^ 55) (lit≤ tt) (lit≤ tt) limit-of-64 s z (w * 2 ^ (64 - n)) (wider n 64 s z w (x .word .most) (lit≤ tt) x) large
 
 -- as the size of what a word means is told
 pub whole-where-large : (n w : ℕ) (s : Bool) (h : ℤ) (m : ℕ) → IsWord n w → IsNumber (takum n w) 63 s h m 63 → WholeWhereLarge h m
 unfolding WholeWhereLarge
 whole-where-large n w s h m i x v counted large =
-    let t = even-from-2-to-55 n w s v (record { word = i; means = subst (λ (y : ℕ). takum n w ≡ real (signedSize s y)) (value-one m (h -ℤ pos 63) (x .v) v (x .size) counted) (x .means) }) large in
+    let t = large-is-even n w s v (record { word = i; means = subst (λ (y : ℕ). takum n w ≡ real (signedSize s y)) (value-one m (h -ℤ pos 63) (x .v) v (x .size) counted) (x .means) }) large in
     (2 * t .0, t .1)

@@ -1,4 +1,4 @@
--- Serves private functions only: what the parts of taking out answer, which are the whole number nearest to a size, its range, its sign and the rule.
+-- Serves private functions only: what the parts of taking out answer, from the whole number nearest to a size to what the rule makes of it.
 use mathlib.Core.Path.{_≡_}
 use mathlib.Core.Bool.{Bool, cond}
 use Prim.Native.Nat.{ℕ, _+_, _*_, _%_, _^_, _≤_}

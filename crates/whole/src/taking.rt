@@ -24,7 +24,7 @@ pub enum Whole {
     Refused(Refusal),
 }
 
-// The whole number nearest to the word's value, where it falls inside signed 64 bits.
+// The whole number nearest to the word's value, or strictly that value itself, where it falls inside signed 64 bits.
 pub fn take_whole(width: Width, rule: Taking, word: u64) -> Whole
     ensures { λ a. ⌜ TakesWhole (width .bits) rule word a ⌝ }
 {
@@ -47,7 +47,7 @@ fn take_number(rule: Taking, size: Size) -> Whole
     take_size(rule, size.negative, (size.h + 1) as u32, size.m)
 }
 
-// Zero is the nearest, and something is left beside it.
+// Of a size below a half zero is the nearest, and something is left beside it.
 fn below_half(rule: Taking) -> Whole
     ensures { λ a. ⌜ a ≡ byRule rule false (pos 0) ⌝ }
 {
@@ -96,8 +96,8 @@ fn take_far(negative: bool, k: u32, m: u64) -> Whole
     Whole::Refused(Refusal::Over)
 }
 
-// Whole or whole + 1, whichever is nearer to whole + fraction * 2^-64, and at a half the even one. One test decides, since nobody can foretell which
-// way it goes.
+// Whole or whole + 1, whichever is nearer to whole + fraction * 2^-64. An odd whole lowers the bound by one, so that it goes up at a half. One test decides,
+// since nobody can foretell which way it goes.
 fn nearest(whole: u64, fraction: u64) -> u64
     requires { ⌜ whole < 2 ^ 63 ⌝ }
     ensures { λ i. ⌜ NearestSize (2 ^ 64) (whole * 2 ^ 64 + fraction) i ⌝ }

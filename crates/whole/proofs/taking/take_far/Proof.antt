@@ -1,8 +1,7 @@
 -- `take_far` meets its contract: from 2^63 on only -2^63 itself falls inside 64 bits. Assumes nothing.
-use mathlib.Core.Path.{_≡_, refl, sym, ap, ap₂, _∙_, subst}
-use mathlib.Core.Bool.{Bool, true, false}
-use Prim.Native.Nat.{ℕ, _^_, _≤_, _<_}
-use borrow.Author.Needs.{needs}
+use mathlib.Core.Path.{_≡_, sym, ap, ap₂, _∙_, subst}
+use mathlib.Core.Bool.{Bool, true}
+use Prim.Native.Nat.{_^_}
 use lib.Arith.{lt-of-le-ne}
 use lib.IntN.{ℤ, pos, _-ℤ_}
 use Rattle.word.specs.Reads.{signedSize}

@@ -52,12 +52,12 @@ pub fn size_of(t: u64) -> Size
     }
 }
 
-// Strings with sign 1 lie as far above NaR as their opposites lie below it.
+// Strings with sign 1 lie as far above NaR as their opposites lie below it: 2^64 less t, which the machine has by one negation.
 fn without_sign(t: u64) -> u64
     ensures { λ r. ⌜ r ≡ withoutSign (2 ^ 63) t ⌝ }
 {
     if t < 1 << 63 {
         return t;
     }
-    (1 << 63) - (t - (1 << 63))
+    (0xffff_ffff_ffff_ffff - t) + 1
 }

@@ -18,9 +18,12 @@ pub struct Fields {
 pub fn cut(t: u64) -> Fields
     ensures { λ x. ⌜ Cuts t x ⌝ }
 {
+    let r = regime_of(64, t);
+    // Behind the first five bits stand those of the characteristic, and then the fraction.
+    let after = t << 5;
     Fields {
-        c: characteristic_of(64, t),
-        f: t << (5 + regime_of(64, t)),
+        c: characteristic(direction(64, t), r, (after >> 1) >> (63 - r)),
+        f: after << r,
     }
 }
 

@@ -14,12 +14,12 @@ returns c = rw (lt-ltb _ _ (c .if1 .taken)) refl
 sub-result : tie.Need-sub-result
 sub-result c = search needs
 
-sub-result-2 : tie.Need-sub-result-2
-sub-result-2 c = search needs
+add-result : tie.Need-add-result
+add-result c = search needs
 
 returns-2 : tie.Need-returns-2
 unfolding withoutSign
 returns-2 c = rw (le-ltb _ _ (c .if1 .left)) (omega (arith, c .if1 .left, c .before .fits .t .fits))
 
 pub without-sign-spec : {M : Type 1} → statement M
-without-sign-spec = tie.close (tie.spec returns sub-result sub-result-2 returns-2)
+without-sign-spec = tie.close (tie.spec returns sub-result add-result returns-2)

@@ -113,8 +113,16 @@ module _ (n w : ℕ) (z x : ℤ) (i : IsWord n w) (means : takum n w ≡ real z)
   even-number : (j : ℕ) × (natAbs z ≡ 2 * j * 2 ^ 307) → natAbs x % 2 ≡ 0
   even-number (j, q) = let e = number-is (2 * j) q in omega (arith, e)
 
+  -- from 2^55 on it is
   exact-where-large : 2 ^ 55 * 2 ^ 307 ≤ natAbs z → natAbs z ≡ natAbs x * 2 ^ 307
   exact-where-large h = let t = large-is-even n w s (natAbs z) has h in t .1 ∙ ap (λ (j : ℕ). j * 2 ^ 307) (sym (number-is (2 * t .0) (t .1)))
+
+  -- which is so wherever the number or the value is outside signed 64 bits
+  by-the-number : 2 ^ 63 ≤ natAbs x → natAbs z ≡ natAbs x * 2 ^ 307
+  by-the-number h = exact-where-large (le-of-lt (past (2 ^ 55) (omega (arith, h))))
+
+  by-the-value : 2 ^ 63 * 2 ^ 307 ≤ natAbs z → natAbs z ≡ natAbs x * 2 ^ 307
+  by-the-value h = exact-where-large (le-trans (mul-le-mul-right {m = 2 ^ 55} {n = 2 ^ 63} (2 ^ 307) (lit≤ tt)) h)
 
 -- ---- the line in the ledger
 pub no-word-past-the-limit-goes-out-odd : promise.NoWordPastTheLimitGoesOutOdd
@@ -190,14 +198,6 @@ rounding-could-decide-over-only-beside-the-ends z x near = by z x (its-size z x 
     by (negsuc a) (pos (suc j)) y sign d = absurd (pos-ne-negsuc (suc j) j sign)
     by (negsuc a) (pos zero) y sign (inl (h, f)) = absurd (omega (arith, h))
     by (negsuc a) (pos zero) y sign (inr (h, f)) = beside-below (2 ^ 307) (suc a) 0 y zero-le (le-trans h (le-suc a))
-
--- from 2^55 on, by the number or by the value
-module _ (n w : ℕ) (z x : ℤ) (i : IsWord n w) (means : takum n w ≡ real z) (near : IsNearestWhole z x) where
-  by-the-number : 2 ^ 63 ≤ natAbs x → natAbs z ≡ natAbs x * 2 ^ 307
-  by-the-number h = exact-where-large n w z x i means near (le-of-lt (past n w z x i means near (2 ^ 55) (omega (arith, h))))
-
-  by-the-value : 2 ^ 63 * 2 ^ 307 ≤ natAbs z → natAbs z ≡ natAbs x * 2 ^ 307
-  by-the-value h = exact-where-large n w z x i means near (le-trans (mul-le-mul-right {m = 2 ^ 55} {n = 2 ^ 63} (2 ^ 307) (lit≤ tt)) h)
 
 pub the-whole-number-is-over-exactly-where-the-value-is : promise.TheWholeNumberIsOverExactlyWhereTheValueIs
 unfolding promise.TheWholeNumberIsOverExactlyWhereTheValueIs OutsideSigned64 ValueOutsideSigned64 isNegative signedSize

@@ -37,6 +37,13 @@ gap-same false x y = refl
 gap-same true x y = refl
 
 -- ---- sizes, u being one
+-- of all sizes of whole numbers none is nearer to a than i, and where another is as near i is even
+abbrev Near : ℕ → ℕ → ℕ → Type 0
+Near u a i = (j : ℕ) → distance a (i * u) ≤ distance a (j * u)
+
+abbrev Even : ℕ → ℕ → ℕ → Type 0
+Even u a i = (j : ℕ) → distance a (i * u) ≡ distance a (j * u) → (j ≡ i) ⊎ (i % 2 ≡ 0)
+
 module _ (u : ℕ) (some : 0 < u) where
   -- the next one
   next : (i : ℕ) → i * u < suc i * u
@@ -47,36 +54,29 @@ module _ (u : ℕ) (some : 0 < u) where
   beyond i j h = omega (arith, suc-mul i u, mul-le-mul-right {m = suc i} {n = j} u h)
 
   module _ (a i : ℕ) where
-    abbrev Near : Type 0
-    Near = (j : ℕ) → distance a (i * u) ≤ distance a (j * u)
-
-    abbrev Even : Type 0
-    Even = (j : ℕ) → distance a (i * u) ≡ distance a (j * u) → (j ≡ i) ⊎ (i % 2 ≡ 0)
-
-    -- of all sizes of whole numbers none is nearer, and where another is as near it is even
-    pub by-halves : Near → Even → NearestSize u a i
-    by-halves near even = record { up-to = up-to; from = from i near; tie-above = above; tie-below = below i near even }
+    pub by-halves : Near u a i → Even u a i → NearestSize u a i
+    by-halves near even = record { up-to = up-to; from = from i near; tie-above = above; tie-below = below i even }
       where
         up-to : 2 * a ≤ 2 * (i * u) + u
         up-to = omega (arith, half-down a (i * u) (suc i * u) (next i) (near (suc i)), suc-mul i u)
 
-        from : (i : ℕ) → ((j : ℕ) → distance a (i * u) ≤ distance a (j * u)) → 2 * (i * u) ≤ 2 * a + u
+        from : (i : ℕ) → Near u a i → 2 * (i * u) ≤ 2 * a + u
         from zero near = omega (arith, zero-mul u)
         from (suc i) near = omega (arith, half-up a (i * u) (suc i * u) (next i) (near i), suc-mul i u)
 
         above : 2 * a ≡ 2 * (i * u) + u → i % 2 ≡ 0
         above q = ⊎-elim (λ (e : suc i ≡ i). absurd (omega (arith, e))) (λ e. e) (even (suc i) (midway-same a (i * u) (suc i * u) (next i) (omega (arith, q, suc-mul i u))))
 
-        below : (i : ℕ) → ((j : ℕ) → distance a (i * u) ≤ distance a (j * u)) → ((j : ℕ) → distance a (i * u) ≡ distance a (j * u) → (j ≡ i) ⊎ (i % 2 ≡ 0)) → 2 * (i * u) ≡ 2 * a + u → i % 2 ≡ 0
-        below zero near even q = refl
-        below (suc i) near even q = ⊎-elim (λ (e : i ≡ suc i). absurd (omega (arith, e))) (λ e. e) (even i (sym (midway-same a (i * u) (suc i * u) (next i) (omega (arith, q, suc-mul i u)))))
+        below : (i : ℕ) → Even u a i → 2 * (i * u) ≡ 2 * a + u → i % 2 ≡ 0
+        below zero even q = refl
+        below (suc i) even q = ⊎-elim (λ (e : i ≡ suc i). absurd (omega (arith, e))) (λ e. e) (even i (sym (midway-same a (i * u) (suc i * u) (next i) (omega (arith, q, suc-mul i u)))))
 
     module _ (x : NearestSize u a i) where
       pub at-most-half : 2 * distance a (i * u) ≤ u
       unfolding distance
       at-most-half = omega (arith, x .up-to, x .from)
 
-      pub none-nearer : Near
+      pub none-nearer : Near u a i
       unfolding distance
       none-nearer j = by (beside i j)
         where
@@ -85,7 +85,7 @@ module _ (u : ℕ) (some : 0 < u) where
           by (at q) = le-of-eq (ap (λ (k : ℕ). distance a (k * u)) (sym q))
           by (after h) = omega (arith, x .up-to, x .from, beyond i j h)
 
-      pub tie-even : Even
+      pub tie-even : Even u a i
       unfolding distance
       tie-even j q = by (beside i j)
         where

@@ -26,9 +26,10 @@ byRule Taking.Strict exactly x = cond exactly (Whole.Is x) (Whole.Refused Refusa
 unfoldable pub TakesSize : Taking → Bool → ℤ → ℕ → Whole → Type 0
 TakesSize rule negative h m a = (t : Takum) (v : ℕ) → t ≡ real (signedSize negative v) → IsSize m (h -ℤ pos 63) v → IsTakenWhole rule t a
 
+-- the same, whichever the rule
 unfoldable pub TakesByEitherRule : Bool → ℤ → ℕ → Whole → Type 0
 TakesByEitherRule negative h m a = (rule : Taking) → TakesSize rule negative h m a
 
--- from 2^55 on the size m * 2^(h - 63) is a whole number, as a word's is; it is counted in 2^-307 here, as in `IsSize`
+-- from 2^55 on the size m * 2^(h - 63) is a whole number, as that of every word is; it is counted in 2^-307, as in `IsSize`
 unfoldable pub WholeWhereLarge : ℤ → ℕ → Type 0
 WholeWhereLarge h m = (v : ℕ) → IsSize m (h -ℤ pos 63) v → 2 ^ 55 * 2 ^ 307 ≤ v → (j : ℕ) × (v ≡ j * 2 ^ 307)

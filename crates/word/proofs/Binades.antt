@@ -7,9 +7,10 @@ use native.Mathlib.Nat.{mul-assoc, mul-comm, zero-mul, le-of-eq, lt-of-lt-of-le,
 use native.Mathlib.Omega.{arith}
 use lib.IntN.{ℤ, pos, negsuc, natAbs, _+ℤ_, _-ℤ_, +ℤ-negℤ-cancel, -ℤ-+ℤ-cancel, pos-ne-negsuc}
 use lib.Pow.{pow-pos, pow-add, pow-mono}
+use Rattle.word.specs.declared.reading.Kind.{Kind}
 use Rattle.word.specs.declared.reading.Reading.{Reading}
 use Rattle.word.specs.Takum.{Takum, real, NaR}
-use Rattle.word.specs.Reads.{num, den, IsSize, signedSize, IsNumber, IsReading}
+use Rattle.word.specs.Reads.{num, den, IsSize, signedSize, IsNumber, IsKind, IsReading}
 use Rattle.bounds.proofs.Powers.{not-more}
 use Rattle.word.proofs.Values.{real-inj, not-NaR}
 
@@ -117,8 +118,8 @@ module _ (t : Takum) (k : ℕ) where
   pub number-not-NaR : (s : Bool) (h : ℤ) (m p : ℕ) → IsNumber t k s h m p → t ≡ NaR → ⊥
   number-not-NaR s h m p i q = not-NaR (signedSize s (i .v)) (sym (i .means) ∙ q)
 
-  numbers-one : (s s' : Bool) (h h' : ℤ) (m m' p p' : ℕ) → IsNumber t k s h m p → IsNumber t k s' h' m' p' → Reading.Number s h m p ≡ Reading.Number s' h' m' p'
-  numbers-one s s' h h' m m' p p' i i' = λ j. Reading.Number (sign .0 j) (exponent j) (parts .1 j) (count j)
+  numbers-one : (s s' : Bool) (h h' : ℤ) (m m' p p' : ℕ) → IsNumber t k s h m p → IsNumber t k s' h' m' p' → Kind.Number s h m p ≡ Kind.Number s' h' m' p'
+  numbers-one s s' h h' m m' p p' i i' = λ j. Kind.Number (sign .0 j) (exponent j) (parts .1 j) (count j)
     where
       sign : (s ≡ s') × (i .v ≡ i' .v)
       sign = signed-one s s' (i .v) (i' .v) (size-not-zero m (h -ℤ pos p) (i .v) (lt-of-lt-of-le (pow-pos p) (i .low)) (i .size)) (real-inj (sym (i .means) ∙ i' .means))
@@ -135,27 +136,30 @@ module _ (t : Takum) (k : ℕ) where
       exponent : h ≡ h'
       exponent = sym (-ℤ-+ℤ-cancel h (pos p)) ∙ ap (λ (z : ℤ). z +ℤ pos p) (parts .0) ∙ -ℤ-+ℤ-cancel h' (pos p)
 
-  -- two readings of one meaning are the same
-  pub reading-one : (a b : Reading) → IsReading t k a → IsReading t k b → a ≡ b
-  unfolding IsReading
-  reading-one Reading.Zero Reading.Zero x y = refl
-  reading-one Reading.Zero Reading.Nar x y = absurd (not-NaR (pos 0) (sym x ∙ y))
-  reading-one Reading.Zero (Reading.Number s h m p) x y = absurd (number-not-zero s h m p y x)
-  reading-one Reading.Zero (Reading.Refused q) x y = absurd y
-  reading-one Reading.Nar Reading.Zero x y = absurd (not-NaR (pos 0) (sym y ∙ x))
-  reading-one Reading.Nar Reading.Nar x y = refl
-  reading-one Reading.Nar (Reading.Number s h m p) x y = absurd (number-not-NaR s h m p y x)
-  reading-one Reading.Nar (Reading.Refused q) x y = absurd y
-  reading-one (Reading.Number s h m p) Reading.Zero x y = absurd (number-not-zero s h m p x y)
-  reading-one (Reading.Number s h m p) Reading.Nar x y = absurd (number-not-NaR s h m p x y)
-  reading-one (Reading.Number s h m p) (Reading.Number s' h' m' p') x y = numbers-one s s' h h' m m' p p' x y
-  reading-one (Reading.Number s h m p) (Reading.Refused q) x y = absurd y
-  reading-one (Reading.Refused q) b x y = absurd x
+  kind-one : (a b : Kind) → IsKind t k a → IsKind t k b → a ≡ b
+  unfolding IsKind
+  kind-one Kind.Zero Kind.Zero x y = refl
+  kind-one Kind.Zero Kind.Nar x y = absurd (not-NaR (pos 0) (sym x ∙ y))
+  kind-one Kind.Zero (Kind.Number s h m p) x y = absurd (number-not-zero s h m p y x)
+  kind-one Kind.Zero (Kind.Refused q) x y = absurd y
+  kind-one Kind.Nar Kind.Zero x y = absurd (not-NaR (pos 0) (sym y ∙ x))
+  kind-one Kind.Nar Kind.Nar x y = refl
+  kind-one Kind.Nar (Kind.Number s h m p) x y = absurd (number-not-NaR s h m p y x)
+  kind-one Kind.Nar (Kind.Refused q) x y = absurd y
+  kind-one (Kind.Number s h m p) Kind.Zero x y = absurd (number-not-zero s h m p x y)
+  kind-one (Kind.Number s h m p) Kind.Nar x y = absurd (number-not-NaR s h m p x y)
+  kind-one (Kind.Number s h m p) (Kind.Number s' h' m' p') x y = numbers-one s s' h h' m m' p p' x y
+  kind-one (Kind.Number s h m p) (Kind.Refused q) x y = absurd y
+  kind-one (Kind.Refused q) b x y = absurd x
+
+  -- two readings of one meaning, equally fine, are the same
+  pub reading-one : (o : ℕ) (a b : Reading) → IsReading t k o a → IsReading t k o b → a ≡ b
+  reading-one o a b x y = λ j. record { kind = kind-one (a .kind) (b .kind) (x .what) (y .what) j; own = (x .fine ∙ sym (y .fine)) j }
 
 -- a reading has one meaning
-pub meaning-one : (t u : Takum) (k l : ℕ) (a : Reading) → IsReading t k a → IsReading u l a → t ≡ u
-unfolding IsReading
-meaning-one t u k l Reading.Zero x y = x ∙ sym y
-meaning-one t u k l Reading.Nar x y = x ∙ sym y
-meaning-one t u k l (Reading.Number s h m p) x y = x .means ∙ ap (λ (v : ℕ). real (signedSize s v)) (value-one m (h -ℤ pos p) (x .v) (y .v) (x .size) (y .size)) ∙ sym (y .means)
-meaning-one t u k l (Reading.Refused q) x y = absurd x
+pub meaning-one : (t u : Takum) (k l : ℕ) (a : Kind) → IsKind t k a → IsKind u l a → t ≡ u
+unfolding IsKind
+meaning-one t u k l Kind.Zero x y = x ∙ sym y
+meaning-one t u k l Kind.Nar x y = x ∙ sym y
+meaning-one t u k l (Kind.Number s h m p) x y = x .means ∙ ap (λ (v : ℕ). real (signedSize s v)) (value-one m (h -ℤ pos p) (x .v) (y .v) (x .size) (y .size)) ∙ sym (y .means)
+meaning-one t u k l (Kind.Refused q) x y = absurd x

@@ -14,6 +14,8 @@ pub mod Meaning
 pub mod Words
 -- a word as a two's complement number, and its negation, by where it lies
 pub mod Signed
+-- how many fraction bits a word has of its own, by where it lies
+pub mod Own
 -- the order of words is the order of values, two words have two values, and negation negates
 pub mod Values
 -- the number of a string from its fields, as reading gives it

@@ -1,11 +1,14 @@
--- What reading a word answers: zero, NaR, or sign, exponent h and significand m with its fraction bit count p (paper 01).
+-- What reading a word answers: zero, NaR, or sign, exponent h and significand m with its fraction bit count p (paper 01), and how fine it is: the word's
+-- own fraction bits (paper 02, Wish 3).
 use mathlib.Core.Path.{_≡_}
 use mathlib.Core.Bool.{Bool, true, false}
 use Prim.Native.Nat.{ℕ, suc, _+_, _*_, _^_, _≤_, _<_}
 use lib.IntN.{ℤ, pos, negsuc, negℤ, _+ℤ_, _-ℤ_}
+use Rattle.word.specs.declared.reading.Kind.{Kind}
 use Rattle.word.specs.declared.reading.Reading.{Reading}
+use Rattle.bounds.specs.declared.refusal.Refusal.{Refusal}
 use Rattle.bounds.specs.Refusals.{wordTest, Decided}
-use Rattle.word.specs.Takum.{Takum, real, NaR, takum, fractionBits}
+use Rattle.word.specs.Takum.{Takum, real, NaR, takum, fractionBits, ownFractionBits}
 
 -- 2^k as a fraction of two whole numbers
 unfoldable pub num : ℤ → ℕ
@@ -34,12 +37,22 @@ pub record IsNumber (meaning : Takum) (fraction-bits : ℕ) (negative : Bool) (h
   pub low : 2 ^ p ≤ m
   pub high : m < 2 ^ (p + 1)
 
-unfoldable pub IsReading : Takum → ℕ → Reading → Type 0
-IsReading meaning fraction-bits Reading.Zero = meaning ≡ real (pos 0)
-IsReading meaning fraction-bits Reading.Nar = meaning ≡ NaR
-IsReading meaning fraction-bits (Reading.Number negative h m p) = IsNumber meaning fraction-bits negative h m p
-IsReading meaning fraction-bits (Reading.Refused q) = ⊥
+-- the kind of a reading is what the word means
+unfoldable pub IsKind : Takum → ℕ → Kind → Type 0
+IsKind meaning fraction-bits Kind.Zero = meaning ≡ real (pos 0)
+IsKind meaning fraction-bits Kind.Nar = meaning ≡ NaR
+IsKind meaning fraction-bits (Kind.Number negative h m p) = IsNumber meaning fraction-bits negative h m p
+IsKind meaning fraction-bits (Kind.Refused q) = ⊥
+
+-- a reading, of whatever kind, has the word's own fraction bits
+pub record IsReading (meaning : Takum) (fraction-bits own-bits : ℕ) (a : Reading) : Type 0 where
+  pub what : IsKind meaning fraction-bits (a .kind)
+  pub fine : a .own ≡ own-bits
+
+-- a word that is refused has no fraction bits
+abbrev pub refusedReading : Refusal → Reading
+refusedReading q = record { kind = Kind.Refused q; own = 0 }
 
 -- ---- what the call answers
 unfoldable pub Reads : ℕ → ℕ → Reading → Type 0
-Reads n w a = Decided (wordTest n w) (λ q. a ≡ Reading.Refused q) (IsReading (takum n w) (fractionBits n w) a)
+Reads n w a = Decided (wordTest n w) (λ q. a ≡ refusedReading q) (IsReading (takum n w) (fractionBits n w) (ownFractionBits n w) a)

@@ -12,7 +12,7 @@ use lib.Dec.{lit≤}
 use mir.Facts.{toZ-ofZ}
 use mir.Syntax.{w32}
 use mir.Val.{SFits, toZ, ofZ}
-use Rattle.word.specs.Reads.{IsReading}
+use Rattle.word.specs.Reads.{IsKind}
 use Rattle.word.proofs.Cut.{regime-le}
 use Rattle.word.proofs.Signed.{sub-mag}
 use Rattle.word.specs.Takum as Takum
@@ -93,7 +93,7 @@ add-t13 : tie.Need-add-t13
 add-t13 c = record { fits = omega (arith, c .power-of-two .ensures, fraction-below (c .before .before), power-small (c .before .before)) }
 
 returns : tie.Need-returns
-unfolding IsReading S
+unfolding IsKind S
 returns c = let known = c .before .before in
     let s = known .before .before .before in
     same-number _ _ false (held (known .before)) (ap₂ (λ (x y : ℕ). x + y) (c .power-of-two .ensures ∙ power-is (known .before .before)) (fraction-is known)) (count-is (known .before .before)) (positive-number (s .args .n) (s .args .t) (s .pre .0) (s .pre .1) (s .pre .2) (c .before .if1 .taken))
@@ -109,7 +109,7 @@ power-of-two-requires-2 : tie.Need-power-of-two-requires-2
 power-of-two-requires-2 c κs = search needs
 
 returns-2 : tie.Need-returns-2
-unfolding IsReading S
+unfolding IsKind S
 returns-2 c = let known = c .before .before .before in
     let s = known .before .before .before in
     same-number _ _ true (toZ-ofZ (exponent-fits (known .before) (pos 0) (lit≤ tt)) ∙ +ℤ-idl _ ∙ ap negℤ (held (known .before))) (c .power-of-two2 .ensures ∙ power-is (known .before .before)) (count-is (known .before .before)) (negative-power (s .args .n) (s .args .t) (s .pre .0) (s .pre .1) (s .pre .2) (sign-one (s .args .n) (s .args .t) (s .pre .0) (s .pre .1) (s .pre .2) (c .before .before .if1 .left)) (sym (fraction-is known) ∙ c .before .if2 .taken))
@@ -130,7 +130,7 @@ add-t9 : tie.Need-add-t9
 add-t9 c = record { fits = omega (arith, c .power-of-two4 .ensures, c .before .power-of-two3 .ensures, fraction-below (c .before .before .before .before), power-small (c .before .before .before .before)) }
 
 returns-3 : tie.Need-returns-3
-unfolding IsReading S
+unfolding IsKind S
 returns-3 c = let known = c .before .before .before .before in
     let s = known .before .before .before in
     let power = power-is (known .before .before) in

@@ -1,18 +1,20 @@
 -- `read` meets its contract: zero and NaR by their words, every other word by the number of its padded string. Assumes nothing.
 use mathlib.Core.Path.{_≡_, refl, sym, ap, ap₂, _∙_, subst₂}
-use Prim.Native.Nat.{ℕ, _*_, _-_, _%_, _^_, _≤_, _<_}
+use Prim.Native.Nat.{ℕ, _+_, _*_, _-_, _%_, _^_, _≤_, _<_}
 use native.Mathlib.Nat.{max-eq-left, max-eq-right, le-of-lt, mul-one, sub-self, lt-of-le-of-lt, le-of-eq}
 use native.Mathlib.Omega.{arith}
 use borrow.Author.Needs.{needs}
 use lib.Dec.{lit≤}
+use lib.IntN.{pos, _-ℤ_}
 use lib.Pow.{shl-exact}
 use Rattle.bounds.specs.Refusals.{wordTest, IsWord, through, refused}
-use Rattle.word.specs.Reads.{IsReading, Reads}
+use Rattle.word.specs.Reads.{IsKind, IsReading, Reads}
 use Rattle.word.specs.declared.reading.Reading.{Reading}
 use Rattle.bounds.proofs.Powers.{shl-below}
-use Rattle.word.specs.Takum.{Takum, real, value, p, N, padded, takum, fractionBits}
+use Rattle.word.specs.Takum.{Takum, real, value, r, p, N, padded, takum, fractionBits, orZero, ownFractionBits}
 use Rattle.bounds.proofs.Verdicts.{word-through}
 use Rattle.word.proofs.Words.{takum-zero, takum-NaR, takum-number}
+use Rattle.word.proofs.Own.{or-zero, zero-has-none, NaR-has-none, number-has}
 use Rattle.bounds.specs.declared.refusal.Verdict.{Verdict}
 use Rattle.word.proofs.reading.read.Statement.{statement}
 use Rattle.word.proofs.reading.read.Tie as tie
@@ -34,11 +36,15 @@ module _ (n w : ℕ) (i : IsWord n w) where
     narrow-fits : w * 2 ^ (12 - n) % 2 ^ 64 < 2 ^ 12
     narrow-fits = lt-of-le-of-lt (le-of-eq shifted) (shl-below n (12 - n) 12 (i .fits) (omega arith))
 
-  -- the reading of the padded string is the word's
-  of-string : (w ≡ 0 → ⊥) → (w ≡ 2 ^ (n - 1) → ⊥) → (m x : ℕ) → N n ≡ m → padded n w ≡ x → (a : Reading) → IsReading (real (value m x)) (p m x) a → IsReading (takum n w) (fractionBits n w) a
+  -- the number of the padded string is the word's, and what is left of the word is its own
+  of-string : (w ≡ 0 → ⊥) → (w ≡ 2 ^ (n - 1) → ⊥) → (m x : ℕ) → N n ≡ m → padded n w ≡ x → (a : Reading) → IsKind (real (value m x)) (p m x) (a .kind) → a .own ≡ orZero (pos n -ℤ pos (r m x) -ℤ pos 5)
+      → IsReading (takum n w) (fractionBits n w) (ownFractionBits n w) a
   unfolding fractionBits
-  of-string f g m x qm qx a h =
-      subst₂ (λ (t : Takum) (k : ℕ). IsReading t k a) (sym (takum-number n w (i .least) (i .most) (i .fits) f g ∙ ap₂ (λ (m x : ℕ). real (value m x)) qm qx)) (sym (ap₂ p qm qx)) h
+  of-string f g m x qm qx a h own =
+      record {
+        what = subst₂ (λ (t : Takum) (k : ℕ). IsKind t k (a .kind)) (sym (takum-number n w (i .least) (i .most) (i .fits) f g ∙ ap₂ (λ (m x : ℕ). real (value m x)) qm qx)) (sym (ap₂ p qm qx)) h;
+        fine = own ∙ or-zero n (r m x) ∙ ap (λ (k : ℕ). n - (k + 5)) (sym (ap₂ r qm qx)) ∙ sym (number-has n w i f g);
+      }
 
   length-narrow : n < 12 → N n ≡ 12
   unfolding N
@@ -70,8 +76,8 @@ enum-told : tie.Need-enum-told
 enum-told c = search needs
 
 returns-2 : tie.Need-returns-2
-unfolding Reads IsReading
-returns-2 c = through (told (c .before .before .before) (c .before .enum-told .given .1)) (ap (takum _) (c .if1 .taken) ∙ takum-zero _)
+unfolding Reads IsKind
+returns-2 c = through (told (c .before .before .before) (c .before .enum-told .given .1)) (record { what = ap (takum _) (c .if1 .taken) ∙ takum-zero _; fine = sym (zero-has-none _ _ (c .if1 .taken)) })
 
 sub-power-of-two : tie.Need-sub-power-of-two
 sub-power-of-two c = omega (arith, word-in (c .before) .least)
@@ -80,38 +86,48 @@ power-of-two-requires : tie.Need-power-of-two-requires
 power-of-two-requires c κs = omega (arith, word-in (c .before) .most)
 
 returns-3 : tie.Need-returns-3
-unfolding Reads IsReading
+unfolding Reads IsKind
 returns-3 c = let i = word-in (c .before .before .before) in
-    through (told (c .before .before .before .before .before) (c .before .before .before .enum-told .given .1)) (takum-NaR _ _ (i .least) (i .most) (c .if2 .taken ∙ c .before .power-of-two .ensures))
+    let half = c .if2 .taken ∙ c .before .power-of-two .ensures in
+    through (told (c .before .before .before .before .before) (c .before .before .before .enum-told .given .1)) (record { what = takum-NaR _ _ (i .least) (i .most) half; fine = sym (NaR-has-none _ _ half) })
 
-sub-number : tie.Need-sub-number
-sub-number c = search needs
+sub-t : tie.Need-sub-t
+sub-t c = search needs
 
-cast-number : tie.Need-cast-number
-cast-number c = search needs
+cast-t : tie.Need-cast-t
+cast-t c = search needs
 
-shl-number : tie.Need-shl-number
-shl-number c = search needs
+shl-t : tie.Need-shl-t
+shl-t c = search needs
 
 number-requires : tie.Need-number-requires
 number-requires c κs = let i = word-in (c .before .before .before .before) in
     (lit≤ tt, lit≤ tt, narrow-fits _ _ i (c .if3 .taken))
 
+own-bits-requires : tie.Need-own-bits-requires
+own-bits-requires c κs = search needs
+
 returns-4 : tie.Need-returns-4
 unfolding Reads
-returns-4 c = let i = word-in (c .before .before .before .before .before) in
-    let short = c .before .if3 .taken in
-    through (told (c .before .before .before .before .before .before .before) (c .before .before .before .before .before .enum-told .given .1)) (of-string _ _ i (c .before .before .before .before .if1 .left) (λ q. c .before .before .if2 .left (q ∙ sym (c .before .before .before .power-of-two .ensures))) _ _ (length-narrow _ _ i short) (string-narrow _ _ i short) _ (c .number .ensures))
+returns-4 c = let s = c .before .before in
+    let i = word-in (s .before .before .before .before) in
+    let short = s .if3 .taken in
+    through (told (s .before .before .before .before .before .before) (s .before .before .before .before .enum-told .given .1)) (of-string _ _ i (s .before .before .before .if1 .left) (λ q. s .before .if2 .left (q ∙ sym (s .before .before .power-of-two .ensures))) _ _ (length-narrow _ _ i short) (string-narrow _ _ i short) _ (c .before .number .ensures) (c .own-bits .ensures))
 
 number-requires-2 : tie.Need-number-requires-2
 number-requires-2 c κs = let i = word-in (c .before .before .before .before) in
     (c .if3 .left, i .most, i .fits)
 
+own-bits-requires-2 : tie.Need-own-bits-requires-2
+own-bits-requires-2 c κs = let i = word-in (c .before .before .before .before .before) in
+    (c .before .if3 .left, i .most)
+
 returns-5 : tie.Need-returns-5
 unfolding Reads
-returns-5 c = let i = word-in (c .before .before .before .before .before) in
-    let long = c .before .if3 .left in
-    through (told (c .before .before .before .before .before .before .before) (c .before .before .before .before .before .enum-told .given .1)) (of-string _ _ i (c .before .before .before .before .if1 .left) (λ q. c .before .before .if2 .left (q ∙ sym (c .before .before .before .power-of-two .ensures))) _ _ (length-wide _ _ i long) (string-wide _ _ i long) _ (c .number2 .ensures))
+returns-5 c = let s = c .before .before in
+    let i = word-in (s .before .before .before .before) in
+    let long = s .if3 .left in
+    through (told (s .before .before .before .before .before .before) (s .before .before .before .before .enum-told .given .1)) (of-string _ _ i (s .before .before .before .if1 .left) (λ q. s .before .if2 .left (q ∙ sym (s .before .before .power-of-two .ensures))) _ _ (length-wide _ _ i long) (string-wide _ _ i long) _ (c .before .number2 .ensures) (c .own-bits2 .ensures))
 
 pub read-spec : {M : Type 1} → statement M
 read-spec =
@@ -125,10 +141,12 @@ read-spec =
     sub-power-of-two
     power-of-two-requires
     returns-3
-    sub-number
-    cast-number
-    shl-number
+    sub-t
+    cast-t
+    shl-t
     number-requires
+    own-bits-requires
     returns-4
     number-requires-2
+    own-bits-requires-2
     returns-5)

@@ -1,4 +1,4 @@
--- Digits of a number: one more of them stands in front, there are as many as asked for, and a decimal number needs at most 20. Assumes nothing.
+-- Digits of a number: one more of them stands in front, there are as many as asked for, and a decimal number of 64 bits needs at most 20. Assumes nothing.
 use mathlib.Core.Path.{_≡_, refl, sym, ap, ap₂, _∙_, subst}
 use mathlib.Core.List.{List, [], _∷_, _++_, append-nil}
 use Prim.Native.Nat.{ℕ, zero, suc, _+_, _-_, _/_, _%_, _^_, _≤_, _<_, zero-le}
@@ -6,11 +6,12 @@ use native.Mathlib.Nat.{div-one, div-div-eq-div-mul, div-lt-iff-lt-mul, le-div-i
 use native.Mathlib.Decide.{decLt}
 use native.Mathlib.Omega.{arith}
 use native.Mathlib.Numerals.{add-one}
-use lib.Dec.{lit<}
+use lib.Dec.{lit<, lit≤}
 use lib.ListN.{length, take, drop, set, length-append, take-append-drop}
 use Rattle.bounds.proofs.Powers.{not-more}
 use Rattle.io.specs.Digits.{glyph, digits}
 use Rattle.listing.specs.Puts.{Puts}
+use Rattle.listing.specs.Text.{space, IsDecimal, IsField}
 use Rattle.listing.proofs.Placed.{in-front}
 
 pub one-more : (b j n : ℕ) → digits b (suc j) n ≡ glyph (n / b ^ j % b) ∷ digits b j n
@@ -36,13 +37,25 @@ something-left n k h = subst (λ (x : ℕ). x ≤ n) (one-mul (10 ^ k)) (le-div-
 pub one-further : (n k : ℕ) → n / 10 ^ k / 10 ≡ n / 10 ^ (k + 1)
 one-further n k = div-div-eq-div-mul n (10 ^ k) 10 ∙ ap (λ (x : ℕ). n / x) (sym (pow-suc 10 k) ∙ ap (λ (x : ℕ). 10 ^ x) (sym (add-one k)))
 
--- a number of 64 bits has no more than 20 of them
-pub few : (n k : ℕ) → n < 2 ^ 64 → 10 ^ k ≤ n → k < 20
-few n k top h = by (decLt k 20)
+-- a number below 10^j has no more than j of them
+fewer : (n k j : ℕ) → n < 10 ^ j → 10 ^ k ≤ n → k < j
+fewer n k j top h = by (decLt k j)
   where
-    by : Dec (k < 20) → k < 20
+    by : Dec (k < j) → k < j
     by (yes l) = l
-    by (no f) = absurd (omega (arith, top, h, pow-le-pow-right {n = 10} (lit< tt) {i = 20} {j = k} (not-more f)))
+    by (no f) = absurd (omega (arith, top, h, pow-le-pow-right {n = 10} (lit< tt) {i = j} {j = k} (not-more f)))
+
+-- so one of 64 bits has no more than 20, and the field of one of 32 bits no more than 11 bytes
+pub few : (n k : ℕ) → n < 2 ^ 64 → 10 ^ k ≤ n → k < 20
+few n k top h = fewer n k 20 (lt-of-lt-of-le top (lit≤ tt)) h
+
+pub short-field : (n : ℕ) (t : List ℕ) → n < 2 ^ 32 → IsField n t → length t ≤ 11
+unfolding IsField IsDecimal
+short-field n t top (d, (k, fewest, digits-of), is) = subst (λ (x : ℕ). x ≤ 11) (sym (ap length is ∙ length-append d (space ∷ []) ∙ ap (λ (x : ℕ). x + 1) (ap length digits-of ∙ as-many 10 k n))) (omega (arith, by (decLt 1 k)))
+  where
+    by : Dec (1 < k) → k ≤ 10
+    by (yes l) = omega (arith, fewer n (k - 1) 10 (lt-of-lt-of-le top (lit≤ tt)) (fewest .2 l))
+    by (no f) = omega (arith, not-more f)
 
 -- ---- putting digits from the last one to the first: at left of count places, the last count - left digits stand
 module _ (e : List ℕ) (at count n base : ℕ) (room : at + count ≤ length e) where

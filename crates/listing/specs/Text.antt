@@ -1,4 +1,4 @@
--- The text of a line (paper 01, "The lister"; its whole number by paper 02, Wish 2), as a list of bytes.
+-- The text of a line (paper 01, "The lister"; its whole number by paper 02, Wish 2, its last field by Wish 3), as a list of bytes.
 use mathlib.Core.Path.{_≡_}
 use mathlib.Core.Bool.{cond}
 use mathlib.Core.List.{List, [], _∷_, _++_}
@@ -8,6 +8,8 @@ use lib.IntN.{ℤ, pos, negsuc}
 use Rattle.io.specs.Digits.{digits, Fewest}
 use Rattle.bounds.specs.Refusals.{numberOf}
 use Rattle.bounds.specs.declared.refusal.Refusal.{Refusal}
+use Rattle.word.specs.declared.reading.Reading.{Reading}
+use Rattle.word.specs.Reads.{Reads}
 use Rattle.whole.specs.declared.taking.Taking.{Taking}
 use Rattle.whole.specs.declared.taking.Whole.{Whole}
 use Rattle.whole.specs.Wholes.{TakesWhole}
@@ -55,13 +57,17 @@ IsShown (Whole.Refused q) t = t ≡ refusalText q
 unfoldable pub IsField : ℕ → List ℕ → Type 0
 IsField n t = (d : List ℕ) × IsDecimal n d × (t ≡ d ++ (space ∷ []))
 
--- a word of n bits, a space, its whole number and the end of the line
+-- a word of n bits, a space and its whole number
 unfoldable pub IsWordText : ℕ → ℕ → List ℕ → Type 0
-IsWordText n w t = (a : Whole) × (d : List ℕ) × TakesWhole n Taking.Nearest w a × IsShown a d × (t ≡ hexOf n w ++ (space ∷ []) ++ d ++ (newline ∷ []))
+IsWordText n w t = (a : Whole) × (d : List ℕ) × TakesWhole n Taking.Nearest w a × IsShown a d × (t ≡ hexOf n w ++ (space ∷ []) ++ d)
 
--- a line: block number, position, word and whole number, one space between
+-- a space, how fine the reading of the word is, and the end of the line
+unfoldable pub IsOwnText : ℕ → ℕ → List ℕ → Type 0
+IsOwnText n w t = (a : Reading) × (d : List ℕ) × Reads n w a × IsDecimal (a .own) d × (t ≡ (space ∷ []) ++ d ++ (newline ∷ []))
+
+-- a line: block number, position, word, whole number and own fraction bits, one space between
 unfoldable pub IsLine : ℕ → ℕ → ℕ → ℕ → List ℕ → Type 0
-IsLine number position n w t = (b p x : List ℕ) × IsField number b × IsField position p × IsWordText n w x × (t ≡ b ++ p ++ x)
+IsLine number position n w t = (b p x o : List ℕ) × IsField number b × IsField position p × IsWordText n w x × IsOwnText n w o × (t ≡ b ++ p ++ x ++ o)
 
 -- the lines of words, the first of them at a position
 unfoldable pub AreLines : ℕ → ℕ → ℕ → List ℕ → List ℕ → Type 0

@@ -1,4 +1,4 @@
-// A line of the listing: block number, position, the word in hex, and its whole number.
+// A line of the listing: block number, position, the word in hex, its whole number, and its own fraction bits.
 use crate::text::put_byte;
 use crate::text::put_decimal;
 use crate::text::put_digits;
@@ -9,10 +9,11 @@ use bounds::width::Width;
 use whole::taking::Taking;
 use whole::taking::Whole;
 use whole::taking::take_whole;
+use word::reading::read;
 ghost use Prim.Native.Nat.{_+_, _≤_};
 ghost use lib.ListN.{length};
 ghost use Rattle.listing.specs.Puts.{Puts, PutsSome};
-ghost use Rattle.listing.specs.Text.{refusalText, IsShown, IsField, IsWordText, IsLine};
+ghost use Rattle.listing.specs.Text.{refusalText, IsShown, IsField, IsWordText, IsOwnText, IsLine};
 
 // The line of one word.
 pub(crate) fn put_line(
@@ -28,7 +29,8 @@ pub(crate) fn put_line(
 {
     let block = put_field(out, at, number as u64);
     let place = put_field(out, block, position as u64);
-    put_word(out, place, width, word)
+    let whole = put_word(out, place, width, word);
+    put_own(out, whole, width, word)
 }
 
 // A number and a space.
@@ -40,15 +42,25 @@ fn put_field(out: &mut [u8], at: usize, n: u64) -> usize
     put_byte(out, next, 0x20)
 }
 
-// The word in hex, its whole number, rounded, and the end of the line.
+// The word in hex, and its whole number, rounded.
 fn put_word(out: &mut [u8], at: usize, width: u32, word: u64) -> usize
-    requires { ⌜ (width ≤ 64) × (at + 39 ≤ length (now out)) ⌝ }
-    ensures { λ r. ⌜ PutsSome (IsWordText width word) (now (out .entry)) at (now (out .exit)) r × (r ≤ at + 39) ⌝ }
+    requires { ⌜ (width ≤ 64) × (at + 38 ≤ length (now out)) ⌝ }
+    ensures { λ r. ⌜ PutsSome (IsWordText width word) (now (out .entry)) at (now (out .exit)) r × (r ≤ at + 38) ⌝ }
 {
     let shown = take_whole(Width { bits: width }, Taking::Nearest, word);
     let hex = put_digits(out, at, word, 16, (width / 4) as usize);
     let next = put_byte(out, hex, 0x20);
-    let last = put_shown(out, next, shown);
+    put_shown(out, next, shown)
+}
+
+// How many fraction bits the word has of its own, and the end of the line.
+fn put_own(out: &mut [u8], at: usize, width: u32, word: u64) -> usize
+    requires { ⌜ at + 22 ≤ length (now out) ⌝ }
+    ensures { λ r. ⌜ PutsSome (IsOwnText width word) (now (out .entry)) at (now (out .exit)) r × (r ≤ at + 22) ⌝ }
+{
+    let reading = read(Width { bits: width }, word);
+    let next = put_byte(out, at, 0x20);
+    let last = put_decimal(out, next, reading.own as u64);
     put_byte(out, last, 0x0a)
 }
 

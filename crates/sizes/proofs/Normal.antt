@@ -1,4 +1,4 @@
--- The size in the normal form is a reading with 63 fraction bits: what a word means has one, and its exponent is from -255 to 254. Assumes nothing.
+-- The size in the normal form is the kind of a reading with 63 fraction bits: what a word means has one, and its exponent is from -255 to 254. Assumes nothing.
 use mathlib.Core.Path.{_≡_, refl, sym, ap, _∙_, subst}
 use Prim.Native.Nat.{ℕ, _+_, _-_, _*_, _^_, _≤_}
 use native.Mathlib.Omega.{arith}
@@ -7,39 +7,39 @@ use lib.IntN.{ℤ, pos}
 use lib.Signed.{mag}
 use Rattle.bounds.specs.declared.refusal.Verdict.{Verdict}
 use Rattle.bounds.specs.Refusals.{wordTest, IsWord, through, refused}
-use Rattle.word.specs.declared.reading.Reading.{Reading}
+use Rattle.word.specs.declared.reading.Kind.{Kind}
 use Rattle.sizes.specs.declared.size.Size.{Size}
 use Rattle.sizes.specs.declared.size.WordSize.{WordSize}
 use Rattle.word.specs.Takum.{Takum, real, NaR, takum, p, F, c}
-use Rattle.word.specs.Reads.{IsNumber, IsReading}
+use Rattle.word.specs.Reads.{IsNumber, IsKind}
 use Rattle.sizes.specs.Sizes.{withoutSign, IsWordSize, ReadsSize}
 use Rattle.word.proofs.Words.{takum-zero, takum-NaR}
 use Rattle.word.proofs.Numbers.{characteristic-of-string}
 use Rattle.sizes.proofs.Tops.{word-number}
-use Rattle.word.proofs.Binades.{reading-one, number-not-zero, number-not-NaR}
+use Rattle.word.proofs.Binades.{kind-one, number-not-zero, number-not-NaR}
 
 -- there and back
-reading : WordSize → Reading
-reading WordSize.Zero = Reading.Zero
-reading WordSize.Nar = Reading.Nar
-reading (WordSize.Number s) = Reading.Number (s .negative) (s .h) (s .m) 63
-reading (WordSize.Refused q) = Reading.Refused q
+kindOf : WordSize → Kind
+kindOf WordSize.Zero = Kind.Zero
+kindOf WordSize.Nar = Kind.Nar
+kindOf (WordSize.Number s) = Kind.Number (s .negative) (s .h) (s .m) 63
+kindOf (WordSize.Refused q) = Kind.Refused q
 
-sizeOf : Reading → WordSize
-sizeOf Reading.Zero = WordSize.Zero
-sizeOf Reading.Nar = WordSize.Nar
-sizeOf (Reading.Number negative h m p) = WordSize.Number (record { negative = negative; h = h; m = m })
-sizeOf (Reading.Refused q) = WordSize.Refused q
+sizeOf : Kind → WordSize
+sizeOf Kind.Zero = WordSize.Zero
+sizeOf Kind.Nar = WordSize.Nar
+sizeOf (Kind.Number negative h m p) = WordSize.Number (record { negative = negative; h = h; m = m })
+sizeOf (Kind.Refused q) = WordSize.Refused q
 
-back : (a : WordSize) → sizeOf (reading a) ≡ a
-unfolding reading sizeOf
+back : (a : WordSize) → sizeOf (kindOf a) ≡ a
+unfolding kindOf sizeOf
 back WordSize.Zero = refl
 back WordSize.Nar = refl
 back (WordSize.Number s) = refl
 back (WordSize.Refused q) = refl
 
-reads : (t : Takum) (a : WordSize) → IsWordSize t a → IsReading t 63 (reading a)
-unfolding IsWordSize IsReading reading
+reads : (t : Takum) (a : WordSize) → IsWordSize t a → IsKind t 63 (kindOf a)
+unfolding IsWordSize IsKind kindOf
 reads t WordSize.Zero x = x
 reads t WordSize.Nar x = x
 reads t (WordSize.Number s) x = x
@@ -47,7 +47,7 @@ reads t (WordSize.Refused q) x = x
 
 -- two sizes of one meaning are the same
 pub word-size-one : (t : Takum) (a b : WordSize) → IsWordSize t a → IsWordSize t b → a ≡ b
-word-size-one t a b x y = sym (back a) ∙ ap sizeOf (reading-one t 63 (reading a) (reading b) (reads t a x) (reads t b y)) ∙ back b
+word-size-one t a b x y = sym (back a) ∙ ap sizeOf (kind-one t 63 (kindOf a) (kindOf b) (reads t a x) (reads t b y)) ∙ back b
 
 -- what an answer of `read_size` tells of the word
 unfoldable pub TellsWord : ℕ → ℕ → WordSize → Type 0
@@ -82,7 +82,7 @@ module _ (n w : ℕ) (i : IsWord n w) (s : Size) (x : IsNumber (takum n w) 63 (s
   cut = record { negative = ltb (2 ^ 63) T; h = c 64 (withoutSign (2 ^ 63) T); m = 2 ^ 63 + F 64 (withoutSign (2 ^ 63) T) * 2 ^ (63 - p 64 (withoutSign (2 ^ 63) T)) }
 
   pub exponent-small : mag (s .h) ≤ 254
-  unfolding IsWordSize IsReading T cut exponent
+  unfolding IsWordSize T cut exponent
   exponent-small =
       subst (λ (z : ℤ). mag z ≤ 254)
       (sym (ap exponent (word-size-one (takum n w) (WordSize.Number s) (WordSize.Number cut) x (word-number n w i not-zero not-nar cut (record { sign = refl; characteristic = refl; significand = refl })))))

@@ -9,9 +9,10 @@ use lib.IntN.{ℤ, pos, negsuc, natAbs, _+ℤ_, _-ℤ_, +ℤ-negℤ-cancel, -ℤ
 use lib.Pow.{pow-pos, pow-add, pow-mono}
 use Rattle.word.specs.declared.reading.Kind.{Kind}
 use Rattle.word.specs.declared.reading.Reading.{Reading}
-use Rattle.word.specs.Takum.{Takum, real, NaR}
-use Rattle.word.specs.Reads.{num, den, IsSize, signedSize, IsNumber, IsKind, IsReading}
+use Rattle.word.specs.Takum.{Takum, real, NaR, takum, fractionBits, ownFractionBits}
+use Rattle.word.specs.Reads.{num, den, IsSize, signedSize, IsNumber, IsKind, IsReading, refusedReading, Reads}
 use Rattle.bounds.proofs.Powers.{not-more}
+use Rattle.bounds.proofs.Verdicts.{decided-one}
 use Rattle.word.proofs.Values.{real-inj, not-NaR}
 
 -- 2^k as 2^up / 2^down
@@ -136,7 +137,8 @@ module _ (t : Takum) (k : ℕ) where
       exponent : h ≡ h'
       exponent = sym (-ℤ-+ℤ-cancel h (pos p)) ∙ ap (λ (z : ℤ). z +ℤ pos p) (parts .0) ∙ -ℤ-+ℤ-cancel h' (pos p)
 
-  kind-one : (a b : Kind) → IsKind t k a → IsKind t k b → a ≡ b
+  -- two kinds of one meaning are the same
+  pub kind-one : (a b : Kind) → IsKind t k a → IsKind t k b → a ≡ b
   unfolding IsKind
   kind-one Kind.Zero Kind.Zero x y = refl
   kind-one Kind.Zero Kind.Nar x y = absurd (not-NaR (pos 0) (sym x ∙ y))
@@ -155,6 +157,11 @@ module _ (t : Takum) (k : ℕ) where
   -- two readings of one meaning, equally fine, are the same
   pub reading-one : (o : ℕ) (a b : Reading) → IsReading t k o a → IsReading t k o b → a ≡ b
   reading-one o a b x y = λ j. record { kind = kind-one (a .kind) (b .kind) (x .what) (y .what) j; own = (x .fine ∙ sym (y .fine)) j }
+
+-- what reading answers is one thing
+pub reads-one : (n w : ℕ) (a b : Reading) → Reads n w a → Reads n w b → a ≡ b
+unfolding Reads
+reads-one n w = decided-one refusedReading (IsReading (takum n w) (fractionBits n w) (ownFractionBits n w)) (reading-one (takum n w) (fractionBits n w) (ownFractionBits n w))
 
 -- a reading has one meaning
 pub meaning-one : (t u : Takum) (k l : ℕ) (a : Kind) → IsKind t k a → IsKind u l a → t ≡ u

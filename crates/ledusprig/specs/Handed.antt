@@ -10,6 +10,7 @@ use lib.ListN.{length}
 use Rattle.bounds.specs.Refusals.{numberOf}
 use Rattle.bounds.specs.declared.answer.Answer.{Answer}
 use Rattle.order.specs.declared.order.Comparison.{Comparison}
+use Rattle.word.specs.declared.reading.Kind.{Kind}
 use Rattle.word.specs.declared.reading.Reading.{Reading}
 use Rattle.bounds.specs.declared.width.Limit.{Limit}
 use Rattle.round.specs.declared.value.Rule.{Rule}
@@ -45,11 +46,14 @@ abbrev pub wordHanded : Answer → HandedWord
 wordHanded (Answer.Word w) = record { refusal = 0; word = w }
 wordHanded (Answer.Refused q) = record { refusal = numberOf q; word = 0 }
 
+abbrev pub kindHanded : Kind → ℕ → HandedReading
+kindHanded Kind.Zero own = record { refusal = 0; kind = 0; negative = false; h = pos 0; m = 0; p = 0; own = own }
+kindHanded Kind.Nar own = record { refusal = 0; kind = 1; negative = false; h = pos 0; m = 0; p = 0; own = own }
+kindHanded (Kind.Number negative h m p) own = record { refusal = 0; kind = 2; negative = negative; h = h; m = m; p = p; own = own }
+kindHanded (Kind.Refused q) own = record { refusal = numberOf q; kind = 0; negative = false; h = pos 0; m = 0; p = 0; own = own }
+
 abbrev pub readingHanded : Reading → HandedReading
-readingHanded Reading.Zero = record { refusal = 0; kind = 0; negative = false; h = pos 0; m = 0; p = 0 }
-readingHanded Reading.Nar = record { refusal = 0; kind = 1; negative = false; h = pos 0; m = 0; p = 0 }
-readingHanded (Reading.Number negative h m p) = record { refusal = 0; kind = 2; negative = negative; h = h; m = m; p = p }
-readingHanded (Reading.Refused q) = record { refusal = numberOf q; kind = 0; negative = false; h = pos 0; m = 0; p = 0 }
+readingHanded a = kindHanded (a .kind) (a .own)
 
 abbrev pub comparisonHanded : Comparison → HandedComparison
 comparisonHanded (Comparison.Is order) = record { refusal = 0; order = order }

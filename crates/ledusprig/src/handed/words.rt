@@ -1,6 +1,7 @@
 // What one word's calls hand over: a word, a reading, an order. Calls of widths and numbers that give a word hand it over by the same struct.
 use bounds::answer::Answer;
 use order::order::Comparison;
+use word::reading::Kind;
 use word::reading::Reading;
 ghost use mathlib.Core.Path.{_≡_};
 ghost use Rattle.ledusprig.specs.Handed.{wordHanded, readingHanded, comparisonHanded};
@@ -23,7 +24,8 @@ pub(crate) fn hand_word(answer: Answer) -> HandedWord
     }
 }
 
-// The kind is 0 for zero, 1 for NaR and 2 for a number: its sign and the size m * 2^(h - p), with 2^p <= m < 2^(p + 1).
+// The kind is 0 for zero, 1 for NaR and 2 for a number: its sign and the size m * 2^(h - p), with 2^p <= m < 2^(p + 1). The word's own fraction bits
+// come with every kind.
 #[repr(C)]
 pub struct HandedReading {
     pub refusal: u32,
@@ -32,43 +34,50 @@ pub struct HandedReading {
     pub h: i32,
     pub m: u64,
     pub p: u32,
+    pub own: u32,
 }
 
 pub(crate) fn hand_reading(answer: Reading) -> HandedReading
     ensures { λ r. ⌜ r ≡ readingHanded answer ⌝ }
 {
-    match answer {
-        Reading::Zero => HandedReading {
+    let kind = answer.kind;
+    let own = answer.own;
+    match kind {
+        Kind::Zero => HandedReading {
             refusal: 0,
             kind: 0,
             negative: false,
             h: 0,
             m: 0,
             p: 0,
+            own,
         },
-        Reading::Nar => HandedReading {
+        Kind::Nar => HandedReading {
             refusal: 0,
             kind: 1,
             negative: false,
             h: 0,
             m: 0,
             p: 0,
+            own,
         },
-        Reading::Number { negative, h, m, p } => HandedReading {
+        Kind::Number { negative, h, m, p } => HandedReading {
             refusal: 0,
             kind: 2,
             negative,
             h,
             m,
             p,
+            own,
         },
-        Reading::Refused(q) => HandedReading {
+        Kind::Refused(q) => HandedReading {
             refusal: q.number(),
             kind: 0,
             negative: false,
             h: 0,
             m: 0,
             p: 0,
+            own,
         },
     }
 }

@@ -10,11 +10,11 @@ enum-told c = search needs
 enum-told-2 : tie.Need-enum-told-2
 enum-told-2 c = search needs
 
-enum-known-answer : tie.Need-enum-known-answer
-enum-known-answer c = search needs
+enum-known-kind : tie.Need-enum-known-kind
+enum-known-kind c = search needs
 
-enum-known-answer-2 : tie.Need-enum-known-answer-2
-enum-known-answer-2 c = search needs
+enum-known-kind-2 : tie.Need-enum-known-kind-2
+enum-known-kind-2 c = search needs
 
 number-requires : tie.Need-number-requires
 number-requires c κs = search needs
@@ -26,10 +26,10 @@ returns-2 : tie.Need-returns-2
 returns-2 c = rw (c .enum-told2 .given .1)
 
 returns-3 : tie.Need-returns-3
-returns-3 c = rw (c .before .answer .given .1, toZ-ofZ (sfits-of (c .known-told .given .1 .0 .1)))
+returns-3 c = rw (c .before .kind .given .1, toZ-ofZ (sfits-of (c .known-told .given .1 .0 .1)))
 
 returns-4 : tie.Need-returns-4
-returns-4 c = rw (c .before .before .answer2 .given .1, ← c .number .ensures)
+returns-4 c = rw (c .before .before .kind2 .given .1, ← c .number .ensures)
 
 pub hand-reading-spec : {M : Type 1} → statement M
-hand-reading-spec = tie.close (tie.spec enum-told enum-told-2 enum-known-answer enum-known-answer-2 number-requires returns returns-2 returns-3 returns-4)
+hand-reading-spec = tie.close (tie.spec enum-told enum-told-2 enum-known-kind enum-known-kind-2 number-requires returns returns-2 returns-3 returns-4)

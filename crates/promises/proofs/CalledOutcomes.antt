@@ -1,6 +1,6 @@
 -- Two outcomes that the contract of an exported call allows are equal: two structs that follow the same lines are refused at the same one, with
 -- zeros, or at none, and then the answer is one. Assumes nothing.
-use mathlib.Core.Path.{_≡_, refl, sym, ap, _∙_, subst}
+use mathlib.Core.Path.{_≡_, refl, sym, ap, ap₂, _∙_, subst}
 use mathlib.Core.Bool.{Bool, true, false}
 use mathlib.Core.List.{List, [], _∷_}
 use mathlib.Core.Logic.{_⊎_, inl, inr}
@@ -15,11 +15,12 @@ use lib.ListN.{length, getD}
 use lib.Seq.{ext-getD}
 use Rattle.bounds.specs.Refusals.{IsWord}
 use Rattle.bounds.proofs.Powers.{not-more}
+use Rattle.word.specs.declared.reading.Kind.{Kind}
 use Rattle.word.specs.declared.reading.Reading.{Reading}
 use Rattle.word.specs.Takum.{Takum, real, NaR, takum, fractionBits}
-use Rattle.word.specs.Reads.{num, den, signedSize, IsReading}
+use Rattle.word.specs.Reads.{num, den, signedSize, IsKind, IsReading}
 use Rattle.word.specs.Orders.{opposite}
-use Rattle.word.proofs.Binades.{reading-one}
+use Rattle.word.proofs.Binades.{kind-one}
 use Rattle.word.proofs.Values.{real-inj, not-NaR, words-differ}
 use Rattle.nearest.specs.Nearest.{HasValue}
 use Rattle.round.specs.Writes.{IsExact}
@@ -40,7 +41,7 @@ use Rattle.ledusprig.specs.declared.handed.numbers.HandedNumber.{HandedNumber}
 use Rattle.ledusprig.specs.declared.handed.columns.HandedColumn.{HandedColumn}
 use Rattle.ledusprig.specs.declared.handed.columns.HandedBlock.{HandedBlock}
 use Rattle.ledusprig.specs.declared.handed.columns.HandedWriting.{HandedWriting}
-use Rattle.ledusprig.specs.Handed.{readingHanded}
+use Rattle.ledusprig.specs.Handed.{kindHanded, readingHanded}
 use Rattle.promises.specs.Nearest.{OneNumberIsTheNearest}
 use Rattle.promises.specs.Numbers.{IsWhole}
 use Rattle.promises.specs.Refusals.{Line, line, width, stray, nar, over, room, size, mark, check, blockWidth, count, fill, writtenWidth, writtenCount}
@@ -109,25 +110,25 @@ limit-called-one n r s = follows-one (width n ∷ []) (λ e z z'. same e (both z
     same e f = λ i. record { refusal = e i; limit = f i }
 
 -- ---- reading
-reading-same : (r s : HandedReading) → r .refusal ≡ s .refusal → r .kind ≡ s .kind → (r .negative ≡ s .negative) × (r .h ≡ s .h) × (r .m ≡ s .m) × (r .p ≡ s .p) → r ≡ s
-reading-same r s e f (a, b, c, d) = λ i. record { refusal = e i; kind = f i; negative = a i; h = b i; m = c i; p = d i }
+reading-same : (r s : HandedReading) → r .refusal ≡ s .refusal → r .kind ≡ s .kind → (r .negative ≡ s .negative) × (r .h ≡ s .h) × (r .m ≡ s .m) × (r .p ≡ s .p) → r .own ≡ s .own → r ≡ s
+reading-same r s e f (a, b, c, d) o = λ i. record { refusal = e i; kind = f i; negative = a i; h = b i; m = c i; p = d i; own = o i }
 
 -- the struct is an answer that reading may give, handed over
-told : (n w : ℕ) (r : HandedReading) → r .refusal ≡ 0 → IsToldBy n w r → (a : Reading) × IsReading (takum n w) (fractionBits n w) a × (r ≡ readingHanded a)
-unfolding IsToldBy NoNumber IsReading
-told n w r e (inl (f, x, none)) = (Reading.Zero, x, reading-same r _ e f none)
-told n w r e (inr (inl (f, x, none))) = (Reading.Nar, x, reading-same r _ e f none)
-told n w r e (inr (inr (f, x))) = (Reading.Number (r .negative) (r .h) (r .m) (r .p), x, reading-same r _ e f (refl, refl, refl, refl))
+told : (n w : ℕ) (r : HandedReading) → r .refusal ≡ 0 → IsToldBy n w r → (a : Kind) × IsKind (takum n w) (fractionBits n w) a × (r ≡ kindHanded a (r .own))
+unfolding IsToldBy NoNumber IsKind
+told n w r e (inl (f, x, none)) = (Kind.Zero, x, reading-same r _ e f none refl)
+told n w r e (inr (inl (f, x, none))) = (Kind.Nar, x, reading-same r _ e f none refl)
+told n w r e (inr (inr (f, x))) = (Kind.Number (r .negative) (r .h) (r .m) (r .p), x, reading-same r _ e f (refl, refl, refl, refl) refl)
 
 pub reading-called-one : (n w : ℕ) (r s : HandedReading) → HandsReading n w r → HandsReading n w s → r ≡ s
 unfolding HandsReading NoNumber
-reading-called-one n w r s = follows-one (width n ∷ stray n w ∷ []) (λ e (f, x) (f', y). reading-same r s e (both f f') (both (x .0) (y .0), both (x .1) (y .1), both (x .2) (y .2), both (x .3) (y .3))) (λ none (e, x) (e', y). by (told n w r e x) (told n w s e' y))
+reading-called-one n w r s = follows-one (width n ∷ stray n w ∷ []) (λ e (f, x, o) (f', y, o'). reading-same r s e (both f f') (both (x .0) (y .0), both (x .1) (y .1), both (x .2) (y .2), both (x .3) (y .3)) (both o o')) (λ none (e, (x, o)) (e', (y, o')). by (told n w r e x) (told n w s e' y) (both o o'))
   where
     Told : HandedReading → Type 0
-    Told r = (a : Reading) × IsReading (takum n w) (fractionBits n w) a × (r ≡ readingHanded a)
+    Told r = (a : Kind) × IsKind (takum n w) (fractionBits n w) a × (r ≡ kindHanded a (r .own))
 
-    by : Told r → Told s → r ≡ s
-    by (a, x, is) (b, y, is') = is ∙ ap readingHanded (reading-one (takum n w) (fractionBits n w) a b x y) ∙ sym is'
+    by : Told r → Told s → r .own ≡ s .own → r ≡ s
+    by (a, x, is) (b, y, is') o = is ∙ ap₂ kindHanded (kind-one (takum n w) (fractionBits n w) a b x y) o ∙ sym is'
 
 pub comparison-called-one : (n x y : ℕ) (r s : HandedComparison) → HandsComparison n x y r → HandsComparison n x y s → r ≡ s
 unfolding HandsComparison

@@ -28,7 +28,7 @@ reading-is-the-definition n w a i x = answered (word-passes n w i) x
 
 pub reading-tells-words-apart : ReadingTellsWordsApart
 unfolding ReadingTellsWordsApart Reads
-reading-tells-words-apart n x y a ix iy hx hy = words-differ n x y ix iy (meaning-one (takum n x) (takum n y) _ _ a (answered (word-passes n x ix) hx) (answered (word-passes n y iy) hy))
+reading-tells-words-apart n x y a ix iy hx hy = words-differ n x y ix iy (meaning-one (takum n x) (takum n y) _ _ (a .kind) (answered (word-passes n x ix) hx .what) (answered (word-passes n y iy) hy .what))
 
 pub a-size-is-the-words-value : ASizeIsTheWordsValue
 unfolding ASizeIsTheWordsValue narWord

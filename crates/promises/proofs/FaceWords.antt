@@ -15,9 +15,10 @@ use Rattle.bounds.specs.Widths.{largest, smallest, narWord, IsLimit, GivesWord,
 use Rattle.bounds.proofs.Powers.{not-more}
 use Rattle.bounds.proofs.Verdicts.{width-through, word-through, words-through}
 use Rattle.order.specs.declared.order.Comparison.{Comparison}
+use Rattle.word.specs.declared.reading.Kind.{Kind}
 use Rattle.word.specs.declared.reading.Reading.{Reading}
-use Rattle.word.specs.Takum.{Takum, real, NaR, takum, fractionBits}
-use Rattle.word.specs.Reads.{IsReading, Reads}
+use Rattle.word.specs.Takum.{Takum, real, NaR, takum, fractionBits, ownFractionBits}
+use Rattle.word.specs.Reads.{IsKind, IsReading, refusedReading, Reads}
 use Rattle.word.specs.Orders.{signed, order, opposite, negated}
 use Rattle.order.specs.Orders.{Compares, Negates}
 use Rattle.word.proofs.Values.{order-of-values, order-same, NaR-below, above-NaR, words-differ, negated-word, negation-negates}
@@ -29,7 +30,7 @@ use Rattle.ledusprig.specs.declared.handed.words.HandedWord.{HandedWord}
 use Rattle.ledusprig.specs.declared.handed.words.HandedReading.{HandedReading}
 use Rattle.ledusprig.specs.declared.handed.words.HandedComparison.{HandedComparison}
 use Rattle.ledusprig.specs.declared.handed.widths.HandedLimit.{HandedLimit}
-use Rattle.ledusprig.specs.Handed.{HandsOver, wordHanded, readingHanded, comparisonHanded, limitHanded}
+use Rattle.ledusprig.specs.Handed.{HandsOver, wordHanded, kindHanded, readingHanded, comparisonHanded, limitHanded}
 use Rattle.promises.specs.Demands.{TheEndWords, TheNaRWord}
 use Rattle.promises.specs.Numbers.{IsWhole}
 use Rattle.promises.specs.Refusals.{width, stray}
@@ -77,14 +78,20 @@ limit-hands n = hands Limit.Refused (λ r. r .refusal) (λ r. r .limit ≡ 0) (�
 
 -- ---- one word
 pub read-hands : (n w : ℕ) (r : HandedReading) → HandsOver readingHanded (Reads n w) r → HandsReading n w r
-unfolding HandsReading NoNumber IsToldBy IsReading Reads
-read-hands n w = hands Reading.Refused (λ r. r .refusal) (λ r. (r .kind ≡ 0) × NoNumber r) (λ r. (r .refusal ≡ 0) × IsToldBy n w r) (width n ∷ stray n w ∷ []) (λ q x. (refl, (refl, (refl, refl, refl, refl)))) (λ a x none. by a (unrefused none x .1)) (refusals-follow-the-table .read n w)
+unfolding HandsReading NoNumber IsToldBy IsKind Reads
+read-hands n w = hands refusedReading (λ r. r .refusal) (λ r. (r .kind ≡ 0) × NoNumber r × (r .own ≡ 0)) (λ r. (r .refusal ≡ 0) × (IsToldBy n w r × (r .own ≡ ownFractionBits n w))) (width n ∷ stray n w ∷ []) (λ q x. (refl, (refl, (refl, refl, refl, refl), refl))) (λ a x none. let y = unrefused none x .1 in let t = by (a .kind) (a .own) (y .what) in (t .0, (t .1, own (a .kind) (a .own) ∙ y .fine))) (refusals-follow-the-table .read n w)
   where
-    by : (a : Reading) → IsReading (takum n w) (fractionBits n w) a → (readingHanded a .refusal ≡ 0) × IsToldBy n w (readingHanded a)
-    by Reading.Zero x = (refl, inl (refl, x, (refl, refl, refl, refl)))
-    by Reading.Nar x = (refl, inr (inl (refl, x, (refl, refl, refl, refl))))
-    by (Reading.Number s h m p) x = (refl, inr (inr (refl, x)))
-    by (Reading.Refused q) x = absurd x
+    by : (a : Kind) (o : ℕ) → IsKind (takum n w) (fractionBits n w) a → (kindHanded a o .refusal ≡ 0) × IsToldBy n w (kindHanded a o)
+    by Kind.Zero o x = (refl, inl (refl, x, (refl, refl, refl, refl)))
+    by Kind.Nar o x = (refl, inr (inl (refl, x, (refl, refl, refl, refl))))
+    by (Kind.Number s h m p) o x = (refl, inr (inr (refl, x)))
+    by (Kind.Refused q) o x = absurd x
+
+    own : (a : Kind) (o : ℕ) → kindHanded a o .own ≡ o
+    own Kind.Zero o = refl
+    own Kind.Nar o = refl
+    own (Kind.Number s h m p) o = refl
+    own (Kind.Refused q) o = refl
 
 order-of-meanings : (n x y : ℕ) → IsWord n x → IsWord n y → (t u : Takum) → takum n x ≡ t → takum n y ≡ u → order (signed n x) (signed n y) ≡ orderOfMeanings t u
 unfolding orderOfMeanings

@@ -10,7 +10,7 @@ use lib.Dec.{T, eqb, leb, ltb, eqb→eq, leb→le, ltb→lt}
 use lib.IntN.{ℤ, pos, natAbs, _+ℤ_}
 use Rattle.bounds.specs.declared.answer.Answer.{Answer}
 use Rattle.bounds.specs.declared.refusal.Refusal.{Refusal}
-use Rattle.word.specs.Takum.{Takum, real, NaR, power, regimeOf, characteristicOf, S, D, R, r, p, C, F, c, e, value, meaning, N, padded, takum}
+use Rattle.word.specs.Takum.{Takum, real, NaR, power, regimeOf, characteristicOf, S, D, R, r, p, C, F, c, e, value, meaning, N, padded, takum, orZero, ownFractionBits}
 use Rattle.word.specs.Reads.{num, den, IsSize, signedSize}
 use Rattle.word.proofs.Heads.{both}
 use Rattle.word.proofs.Integers.{same-integer, same-integer-is}
@@ -28,7 +28,7 @@ use Rattle.whole.proofs.Answers.{inside, taken-inside}
 use Rattle.whole.proofs.NearestWholes.{nearest-whole}
 use Rattle.whole.proofs.Refused.{meaning-taken}
 use Rattle.whole.proofs.OneOutcome.{taken-one}
-use Rattle.promises.specs.Figures.{Said, plus, minus, nar, IsSaid, Figure, reads, writes, refuses, writesWhole, refusesWhole, takes, whole, below, figures, FigureHolds, AllHold}
+use Rattle.promises.specs.Figures.{Said, plus, minus, nar, IsSaid, Figure, reads, hasOwn, writes, refuses, writesWhole, refusesWhole, takes, whole, below, figures, FigureHolds, AllHold}
 use Rattle.promises.specs.Demands.{RefusedAs, ReadingIsTheDefinition}
 use Rattle.promises.specs.Writing.{numerator, denominator, AWordsValueIsWrittenAsTheWord}
 use Rattle.promises.proofs.Tests.{same, same-is, is-word, word-is, has, has-is}
@@ -105,6 +105,7 @@ taken n Taking.Strict w x = false
 -- ---- the test of one figure and of a list of them
 passes : Figure → Bool
 passes (reads n w x) = is-word n w && said x (takum n w)
+passes (hasOwn n w k) = is-word n w && eqb (ownFractionBits n w) k
 passes (writes n rule M w) = given n rule M w (low-word n M)
 passes (refuses n rule M number) = not-given n rule M number (low-word n M)
 passes (writesWhole n rule M w) = given n rule M w (low-word n M)
@@ -222,6 +223,9 @@ unfolding passes FigureHolds ReadingIsTheDefinition
 holds (reads n w x) ok = λ a h.
     let y = both (is-word n w) (said x (takum n w)) ok in
     (takum n w, said-is x (takum n w) (y .1), reading-is-the-definition n w a (word-is n w (y .0)) h)
+holds (hasOwn n w k) ok = λ a h.
+    let y = both (is-word n w) (eqb (ownFractionBits n w) k) ok in
+    reading-is-the-definition n w a (word-is n w (y .0)) h .fine ∙ eqb→eq (ownFractionBits n w) k (y .1)
 holds (writes n rule M w) ok = given-holds n rule M w (low-word n M) ok
 holds (refuses n rule M number) ok = not-given-holds n rule M number (low-word n M) ok
 holds (writesWhole n rule M w) ok = λ a x. given-holds n rule M w (low-word n M) ok a (as-value n rule M a x)
@@ -234,5 +238,5 @@ all-hold [] t = tt
 all-hold (f ∷ fs) t = let x = both (passes f) (all-pass fs) t in (holds f (x .0), all-hold fs (x .1))
 
 pub figures-hold : AllHold figures
-unfolding figures below said num den signedSize power same is-word passes all-pass regimeOf characteristicOf S D R r p C F c e value meaning N padded takum exactly has low-word last-below size-of scaled midway apart neighbours given not-given half-off sign-of taken isNegative
+unfolding figures below said num den signedSize power same is-word passes all-pass regimeOf characteristicOf S D R r p C F c e value meaning N padded takum orZero ownFractionBits exactly has low-word last-below size-of scaled midway apart neighbours given not-given half-off sign-of taken isNegative
 figures-hold = all-hold figures tt

@@ -21,6 +21,8 @@ pub mod Demands
 pub mod Words
 -- writing and moves
 pub mod Writing
+-- how fine a reading is
+pub mod Fineness
 -- whatever is written through the hub
 pub mod Hub
 -- words that are tested by computation

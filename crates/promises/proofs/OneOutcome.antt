@@ -25,7 +25,7 @@ use Rattle.word.specs.Orders.{signed, order, negated}
 use Rattle.order.specs.Orders.{Compares, Negates}
 use Rattle.bounds.proofs.Answers.{wordOf, GivesAWord}
 use Rattle.bounds.proofs.Verdicts.{decided-one}
-use Rattle.word.proofs.Binades.{reading-one}
+use Rattle.word.proofs.Binades as readings
 use Rattle.round.specs.declared.value.Rule.{Rule}
 -- those of a word's size, the nearest word, the hub, writing, whole numbers, binary64, columns and blocks stand beside their laws
 pub use Rattle.sizes.proofs.OneOutcome.{reads-size-one}
@@ -85,8 +85,7 @@ gives-limit-one n a b = decided-one Limit.Refused (λ x. (l : ℕ) × (x ≡ Lim
 
 -- ---- words
 pub reads-one : (n w : ℕ) (a b : Reading) → Reads n w a → Reads n w b → a ≡ b
-unfolding Reads
-reads-one n w a b = decided-one Reading.Refused (IsReading (takum n w) (fractionBits n w)) (reading-one (takum n w) (fractionBits n w)) a b
+reads-one = readings.reads-one
 
 pub compares-one : (n x y : ℕ) (a b : Comparison) → Compares n x y a → Compares n x y b → a ≡ b
 unfolding Compares

@@ -3,7 +3,7 @@ use mathlib.Core.Path.{_≡_, subst}
 use Prim.Native.Nat.{ℕ, _-_}
 use native.Mathlib.Omega.{arith}
 use Rattle.bounds.specs.Widths.{Makes, GivesWord, GivesLimit}
-use Rattle.word.specs.Takum.{takum, fractionBits}
+use Rattle.word.specs.Takum.{takum, fractionBits, ownFractionBits}
 use Rattle.word.specs.Reads.{Reads}
 use Rattle.sizes.specs.Sizes.{ReadsSize}
 use Rattle.order.specs.Orders.{Compares, Negates}
@@ -28,7 +28,7 @@ refusals-follow-the-table = record {
   new = λ n a x. of-width n (λ p q e. let z : _≡_ {A = ℕ} 0 1 = cc in omega arith) x;
   words = λ f n a x. of-width n (word-none (f n) a) x;
   limit = λ n a x. of-width n (λ (l, p, is) q e. let z : _≡_ {A = ℕ} 0 1 = cc in omega arith) x;
-  read = λ n w a x. of-word n w (reading-none (takum n w) (fractionBits n w) a) x;
+  read = λ n w a x. of-word n w (reading-none (takum n w) (fractionBits n w) (ownFractionBits n w) a) x;
   read-size = λ n w a x. of-word n w (size-none (takum n w) a) x;
   compare = λ n v w a x. compare-follows n v w a x;
   negate = λ n w a x. of-word n w (word-none _ a) x;

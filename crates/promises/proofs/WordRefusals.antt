@@ -24,7 +24,7 @@ use Rattle.word.specs.declared.reading.Reading.{Reading}
 use Rattle.sizes.specs.declared.size.Size.{Size}
 use Rattle.sizes.specs.declared.size.WordSize.{WordSize}
 use Rattle.word.specs.Takum.{Takum, real, NaR, takum}
-use Rattle.word.specs.Reads.{num, den, IsReading}
+use Rattle.word.specs.Reads.{num, den, IsKind, IsReading, refusedReading}
 use Rattle.sizes.specs.Sizes.{IsWordSize}
 use Rattle.order.specs.Orders.{Compares}
 use Rattle.word.proofs.Words.{takum-NaR}
@@ -69,9 +69,9 @@ word-none w a p q e = let z : _≡_ {A = ℕ} 0 1 = cc in omega arith
 pub rounded-strict : Rule.Rounded ≡ Rule.Strict → ⊥
 rounded-strict e = let z : _≡_ {A = ℕ} 0 1 = cc in omega arith
 
-pub reading-none : (t : Takum) (p : ℕ) (a : Reading) → IsReading t p a → (q : Refusal) → a ≡ Reading.Refused q → ⊥
-unfolding IsReading
-reading-none t p a x q e = subst (IsReading t p) e x
+pub reading-none : (t : Takum) (p o : ℕ) (a : Reading) → IsReading t p o a → (q : Refusal) → a ≡ refusedReading q → ⊥
+unfolding IsKind
+reading-none t p o a x q e = subst (λ (b : Reading). IsKind t p (b .kind)) e (x .what)
 
 pub size-none : (t : Takum) (a : WordSize) → IsWordSize t a → (q : Refusal) → a ≡ WordSize.Refused q → ⊥
 unfolding IsWordSize

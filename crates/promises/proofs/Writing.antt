@@ -9,12 +9,13 @@ use native.Mathlib.Omega.{arith}
 use lib.IntN.{pos, _+ℤ_}
 use Rattle.bounds.specs.declared.answer.Answer.{Answer}
 use Rattle.bounds.specs.declared.refusal.Refusal.{Refusal}
-use Rattle.word.specs.Takum.{Takum, real, takum}
+use Rattle.word.specs.Takum.{Takum, real, takum, fractionBits}
 use Rattle.bounds.specs.declared.refusal.Verdict.{Verdict}
+use Rattle.word.specs.declared.reading.Kind.{Kind}
 use Rattle.word.specs.declared.reading.Reading.{Reading}
 use Rattle.bounds.specs.Refusals.{widthTest, strayTest, _then_, IsWord, through, refused}
 use Rattle.bounds.specs.Widths.{narWord, largest, smallest}
-use Rattle.word.specs.Reads.{num, IsSize, signedSize, IsReading, Reads}
+use Rattle.word.specs.Reads.{num, IsSize, signedSize, IsKind, Reads}
 use Rattle.word.specs.Orders.{order, negated}
 use Rattle.bounds.proofs.Answers.{GivesAWord}
 use Rattle.bounds.proofs.Powers.{twice}
@@ -36,7 +37,7 @@ use Rattle.round.proofs.Order.{rounding-keeps-order, order-times}
 use Rattle.write.proofs.Moves.{Kept, moved-to-the-same, strict-keeps, there-and-back, wider-keeps}
 use Rattle.promises.specs.Refusals.{moveLines}
 use Rattle.promises.specs.Writing as promise
-use Rattle.promises.specs.Writing.{numerator, denominator, withOtherSign, ofSign, Says, Chain, Goes, ComesHome}
+use Rattle.promises.specs.Writing.{numerator, denominator, withOtherSign, ofSign, KindSays, Says, Chain, Goes, ComesHome}
 use Rattle.promises.proofs.Lines.{past, good-width, given-or-inexact}
 use Rattle.promises.proofs.WordRefusals.{write-follows, move-follows}
 
@@ -142,16 +143,18 @@ strict-writing-is-refused-exactly-where-there-is-no-word n v r lo hi x =
     given-or-inexact _ r (λ w q. written n Rule.Strict v (Answer.Word w) lo hi (subst (Writes n Rule.Strict v) q x)) (past Answer.Refused r 1 _ _ (good-width n (lo, hi)) (write-follows n Rule.Strict v r x))
 
 -- a word that was read has exactly the value that the reading says
-read-exactly : (n w : ℕ) (a : Reading) (v : Value) → IsWord n w → Reads n w a → Says a v → IsExact n (v .negative) (numerator v) (denominator v) w
-unfolding Says Reads IsReading IsSize numerator denominator
-read-exactly n w Reading.Zero v i x says =
-    let zero : takum n w ≡ real (pos 0) = answered (word-passes n w i) x in
-    record { z = 0; is = record { word = i; means = zero ∙ ap real (sym (no-sign (v .negative))) }; same = zero-mul (denominator v) ∙ sym (no-numerator v says) }
-read-exactly n w (Reading.Number s h m p) v i x says =
-    let number = answered (word-passes n w i) x in
+kind-exactly : (n w : ℕ) (a : Kind) (v : Value) → IsWord n w → IsKind (takum n w) (fractionBits n w) a → KindSays a v → IsExact n (v .negative) (numerator v) (denominator v) w
+unfolding KindSays IsKind IsSize numerator denominator
+kind-exactly n w Kind.Zero v i x says =
+    record { z = 0; is = record { word = i; means = x ∙ ap real (sym (no-sign (v .negative))) }; same = zero-mul (denominator v) ∙ sym (no-numerator v says) }
+kind-exactly n w (Kind.Number s h m p) v i number says =
     subst (λ (v : Value). IsExact n (v .negative) (numerator v) (denominator v) w) (sym says) (record { z = number .v; is = record { word = i; means = number .means }; same = sym (number .size) })
-read-exactly n w Reading.Nar v i x says = absurd says
-read-exactly n w (Reading.Refused q) v i x says = absurd says
+kind-exactly n w Kind.Nar v i x says = absurd says
+kind-exactly n w (Kind.Refused q) v i x says = absurd says
+
+read-exactly : (n w : ℕ) (a : Reading) (v : Value) → IsWord n w → Reads n w a → Says a v → IsExact n (v .negative) (numerator v) (denominator v) w
+unfolding Says Reads
+read-exactly n w a v i x says = kind-exactly n w (a .kind) v i (answered (word-passes n w i) x .what) says
 
 pub what-was-read-is-written-back : promise.WhatWasReadIsWrittenBack
 unfolding promise.WhatWasReadIsWrittenBack promise.AWordsValueIsWrittenAsTheWord
@@ -200,16 +203,20 @@ only-target n n' w {q} i h = by (widthTest n') (sym (ap₂ (λ (u v : Verdict). 
     by Verdict.Through h = h
     by (Verdict.Refused q') h = h
 
-pub a-move-is-a-reading-and-a-writing : promise.AMoveIsAReadingAndAWriting
-unfolding promise.AMoveIsAReadingAndAWriting Says Reads IsReading Moves Writes numerator denominator
-a-move-is-a-reading-and-a-writing n n' w rule a v r i x says (refused q y) = refused (only-target n n' w i q) y
-a-move-is-a-reading-and-a-writing n n' w rule Reading.Zero v r i x says (through q y) =
+kind-moved : (n n' w : ℕ) (rule : Rule) (a : Kind) (v : Value) (r : Answer) → IsWord n w → IsKind (takum n w) (fractionBits n w) a → KindSays a v → Moves n n' rule w r → Writes n' rule v r
+unfolding KindSays IsKind Moves Writes numerator denominator
+kind-moved n n' w rule a v r i x says (refused q y) = refused (only-target n n' w i q) y
+kind-moved n n' w rule Kind.Zero v r i x says (through q y) =
     let t = width-through n' (move-through n n' w q .1) in
-    through (move-through n n' w q .1) (zero-moved n' (t .0) (t .1) rule r (takum n w) v (answered (word-passes n w i) x) says y)
-a-move-is-a-reading-and-a-writing n n' w rule (Reading.Number s h m p) v r i x says (through q y) =
-    subst (λ (v : Value). Writes n' rule v r) (sym says) (through (move-through n n' w q .1) (number-written n' rule r (takum n w) _ s h m p (answered (word-passes n w i) x) y))
-a-move-is-a-reading-and-a-writing n n' w rule Reading.Nar v r i x says (through q y) = absurd says
-a-move-is-a-reading-and-a-writing n n' w rule (Reading.Refused p) v r i x says (through q y) = absurd says
+    through (move-through n n' w q .1) (zero-moved n' (t .0) (t .1) rule r (takum n w) v x says y)
+kind-moved n n' w rule (Kind.Number s h m p) v r i number says (through q y) =
+    subst (λ (v : Value). Writes n' rule v r) (sym says) (through (move-through n n' w q .1) (number-written n' rule r (takum n w) _ s h m p number y))
+kind-moved n n' w rule Kind.Nar v r i x says (through q y) = absurd says
+kind-moved n n' w rule (Kind.Refused p) v r i x says (through q y) = absurd says
+
+pub a-move-is-a-reading-and-a-writing : promise.AMoveIsAReadingAndAWriting
+unfolding promise.AMoveIsAReadingAndAWriting Says Reads
+a-move-is-a-reading-and-a-writing n n' w rule a v r i x says = kind-moved n n' w rule (a .kind) v r i (answered (word-passes n w i) x .what) says
 
 pub strict-moves-keep-the-value : promise.StrictMovesKeepTheValue
 unfolding promise.StrictMovesKeepTheValue

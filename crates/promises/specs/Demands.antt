@@ -7,7 +7,7 @@ use Rattle.bounds.specs.declared.answer.Answer.{Answer}
 use Rattle.order.specs.declared.order.Comparison.{Comparison}
 use Rattle.word.specs.declared.reading.Reading.{Reading}
 use Rattle.bounds.specs.declared.refusal.Refusal.{Refusal}
-use Rattle.word.specs.Takum.{real, NaR, takum, fractionBits}
+use Rattle.word.specs.Takum.{real, NaR, takum, fractionBits, ownFractionBits}
 use Rattle.bounds.specs.Refusals.{numberOf, widthTest, strayTest, _then_, IsWord, Decided}
 use Rattle.bounds.specs.Widths.{narWord, largest, smallest}
 use Rattle.sizes.specs.declared.size.Size.{Size}
@@ -24,9 +24,10 @@ pub record RefusedAs (A : Type 0) (refused : Refusal → A) (number : ℕ) (answ
   pub is : answer ≡ refused q
   pub known : numberOf q ≡ number
 
--- ---- demand 2, reading: at widths 2 to 64 the reading of a word is never refused, and is the value that Definition 2 gives
+-- ---- demand 2, reading: at widths 2 to 64 the reading of a word is never refused, is the value that Definition 2 gives, and has the word's own fraction
+-- bits (paper 02, Wish 3)
 unfoldable pub ReadingIsTheDefinition : Type 0
-ReadingIsTheDefinition = (n w : ℕ) (a : Reading) → IsWord n w → Reads n w a → IsReading (takum n w) (fractionBits n w) a
+ReadingIsTheDefinition = (n w : ℕ) (a : Reading) → IsWord n w → Reads n w a → IsReading (takum n w) (fractionBits n w) (ownFractionBits n w) a
 
 -- two words of one width with the same reading are one word
 unfoldable pub ReadingTellsWordsApart : Type 0

@@ -10,7 +10,7 @@ use lib.IntN.{ℤ, pos, negsuc, natAbs, _+ℤ_}
 use lib.ListN.{length, getD, drop}
 use Rattle.bounds.specs.declared.refusal.Refusal.{Refusal}
 use Rattle.bounds.specs.Refusals.{numberOf, IsWord}
-use Rattle.word.specs.Takum.{Takum, real, NaR, takum, fractionBits}
+use Rattle.word.specs.Takum.{Takum, real, NaR, takum, fractionBits, ownFractionBits}
 use Rattle.word.specs.Reads.{num, den, IsNumber}
 use Rattle.word.specs.Orders.{order, opposite}
 use Rattle.nearest.specs.Nearest.{HasValue}
@@ -109,8 +109,9 @@ IsToldBy n w r = ((r .kind ≡ 0) × (takum n w ≡ real (pos 0)) × NoNumber r)
     ⊎ ((r .kind ≡ 1) × (takum n w ≡ NaR) × NoNumber r)
     ⊎ ((r .kind ≡ 2) × IsNumber (takum n w) (fractionBits n w) (r .negative) (r .h) (r .m) (r .p))
 
+-- and of whatever kind it is, the word's own fraction bits
 unfoldable pub HandsReading : ℕ → ℕ → HandedReading → Type 0
-HandsReading n w r = Hands (r .refusal) (width n ∷ stray n w ∷ []) ((r .kind ≡ 0) × NoNumber r) (IsToldBy n w r)
+HandsReading n w r = Hands (r .refusal) (width n ∷ stray n w ∷ []) ((r .kind ≡ 0) × NoNumber r × (r .own ≡ 0)) (IsToldBy n w r × (r .own ≡ ownFractionBits n w))
 
 -- ---- takum_compare and takum_negate
 -- -1, 0 or 1 as the first value is below, equal to or above the second; NaR is below everything and equals itself

@@ -6,7 +6,7 @@ use Prim.Native.Nat.{ℕ}
 use lib.IntN.{ℤ, pos, negℤ}
 use Rattle.bounds.specs.declared.answer.Answer.{Answer}
 use Rattle.word.specs.declared.reading.Reading.{Reading}
-use Rattle.word.specs.Takum.{Takum, real, NaR, fractionBits}
+use Rattle.word.specs.Takum.{Takum, real, NaR, fractionBits, ownFractionBits}
 use Rattle.word.specs.Reads.{IsSize, signedSize, IsReading, Reads}
 use Rattle.round.specs.declared.value.Rule.{Rule}
 use Rattle.write.specs.declared.value.Value.{Value}
@@ -32,11 +32,12 @@ IsSaid (plus M k) t = (z : ℕ) × IsSize M k z × (t ≡ real (signedSize false
 IsSaid (minus M k) t = (z : ℕ) × IsSize M k z × (t ≡ real (signedSize true z))
 IsSaid nar t = t ≡ NaR
 
--- reads n w x: the word w of n bits is x; writes n rule M w: the value M, written in n bits by the rule, is the word w; refuses n rule M number:
+-- reads n w x: the word w of n bits is x; hasOwn n w k: it has k fraction bits of its own; writes n rule M w: the value M, written in n bits by the rule, is the word w; refuses n rule M number:
 -- it is the refusal with this number; writesWhole and refusesWhole: the same of M as a whole number, which is the call a tally goes through; takes n
 -- rule w x: the word w of n bits goes out as the whole number x by the rule
 pub data Figure : Type 0 where
   reads : ℕ → ℕ → Said → Figure
+  hasOwn : ℕ → ℕ → ℕ → Figure
   writes : ℕ → Rule → ℕ → ℕ → Figure
   refuses : ℕ → Rule → ℕ → ℕ → Figure
   writesWhole : ℕ → Rule → ℕ → ℕ → Figure
@@ -82,11 +83,28 @@ figures =
     ∷ takes 16 Taking.Nearest 0xC800 (pos 0)
     ∷ takes 16 Taking.Nearest 0x4400 (pos 2)
     ∷ takes 16 Taking.Nearest 0xBC00 (below 2)
+    -- paper 02, Wish 3: what the lister prints of 512 and NaR at 16 bits; the largest word at 8 and each word at 2; 1 at 64
+    ∷ hasOwn 16 0x5A00 8
+    ∷ hasOwn 16 0x8000 0
+    ∷ hasOwn 8 0x7F 0
+    ∷ hasOwn 2 0 0
+    ∷ hasOwn 2 1 0
+    ∷ hasOwn 2 2 0
+    ∷ hasOwn 2 3 0
+    ∷ reads 64 0x4000000000000000 (plus 1 (pos 0))
+    ∷ hasOwn 64 0x4000000000000000 59
+    -- 1 at 8 and, moved, at 16 bits is one value, more finely said; the largest word at 8, moved to 12, is wider and no finer
+    ∷ reads 8 0x40 (plus 1 (pos 0))
+    ∷ hasOwn 8 0x40 3
+    ∷ hasOwn 16 0x4000 11
+    ∷ reads 12 0x7F0 (plus 1 (pos 239))
+    ∷ hasOwn 12 0x7F0 0
     ∷ []
 
 -- whatever reading or answer the contract allows is the figure's
 unfoldable pub FigureHolds : Figure → Type 0
-FigureHolds (reads n w x) = (a : Reading) → Reads n w a → (t : Takum) × IsSaid x t × IsReading t (fractionBits n w) a
+FigureHolds (reads n w x) = (a : Reading) → Reads n w a → (t : Takum) × IsSaid x t × IsReading t (fractionBits n w) (ownFractionBits n w) a
+FigureHolds (hasOwn n w k) = (a : Reading) → Reads n w a → a .own ≡ k
 FigureHolds (writes n rule M w) = (a : Answer) → Writes n rule (whole M) a → a ≡ Answer.Word w
 FigureHolds (refuses n rule M number) = (a : Answer) → Writes n rule (whole M) a → RefusedAs Answer Answer.Refused number a
 FigureHolds (writesWhole n rule M w) = (a : Answer) → WritesWhole n rule (pos M) a → a ≡ Answer.Word w

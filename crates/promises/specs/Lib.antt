@@ -8,6 +8,8 @@ pub mod Refusals
 pub mod Demands
 -- what paper 01 says of every word
 pub mod Words
+-- how fine a reading is
+pub mod Fineness
 -- writing and moves
 pub mod Writing
 -- whatever is written through the hub

@@ -20,7 +20,7 @@ use Rattle.word.specs.declared.reading.Reading.{Reading}
 use Rattle.sizes.specs.declared.size.Size.{Size}
 use Rattle.sizes.specs.declared.size.WordSize.{WordSize}
 use Rattle.word.specs.Takum.{real, NaR, takum}
-use Rattle.word.specs.Reads.{num, den, Reads}
+use Rattle.word.specs.Reads.{num, den, refusedReading, Reads}
 use Rattle.sizes.specs.Sizes.{ReadsSize}
 use Rattle.order.specs.Orders.{Compares, Negates}
 use Rattle.nearest.specs.Offers.{FindsNearest}
@@ -156,7 +156,7 @@ pub record RefusalsFollowTheTable : Type 0 where
   -- largest, smallest and NaR word
   pub words : (f : ℕ → ℕ) (n : ℕ) (a : Answer) → GivesWord f n a → Follows Answer.Refused a (width n ∷ [])
   pub limit : (n : ℕ) (a : Limit) → GivesLimit n a → Follows Limit.Refused a (width n ∷ [])
-  pub read : (n w : ℕ) (a : Reading) → Reads n w a → Follows Reading.Refused a (width n ∷ stray n w ∷ [])
+  pub read : (n w : ℕ) (a : Reading) → Reads n w a → Follows refusedReading a (width n ∷ stray n w ∷ [])
   pub read-size : (n w : ℕ) (a : WordSize) → ReadsSize n w a → Follows WordSize.Refused a (width n ∷ stray n w ∷ [])
   pub compare : (n x y : ℕ) (a : Comparison) → Compares n x y a → Follows Comparison.Refused a (width n ∷ stray n x ∷ stray n y ∷ [])
   pub negate : (n w : ℕ) (a : Answer) → Negates n w a → Follows Answer.Refused a (width n ∷ stray n w ∷ [])

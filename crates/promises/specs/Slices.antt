@@ -8,7 +8,7 @@ use Rattle.bounds.specs.declared.answer.Answer.{Answer}
 use Rattle.word.specs.declared.reading.Reading.{Reading}
 use Rattle.bounds.specs.declared.refusal.Refusal.{Refusal}
 use Rattle.bounds.specs.Refusals.{IsWord}
-use Rattle.word.specs.Takum.{takum, fractionBits}
+use Rattle.word.specs.Takum.{takum, fractionBits, ownFractionBits}
 use Rattle.word.specs.Reads.{IsReading, Reads}
 use Rattle.round.specs.declared.value.Rule.{Rule}
 use Rattle.write.specs.Writes.{Moves}
@@ -49,7 +49,7 @@ AStrictColumnKeepsEveryValue = (n n' : ℕ) (words before after : List ℕ) (cou
 -- the j-th result is the number in the block's bytes at its place, is a word of the block's width, and reading it is Definition 2
 unfoldable pub EachWordOfABlockIsRead : Type 0
 EachWordOfABlockIsRead = (block before after : List ℕ) (w i n j : ℕ) (a : Reading) → AreBytes block → ReadsBlock block (length before) (Block.Read w i n) → FillsResults block before after → j < n → Reads w (getD after j 0) a
-    → (getD after j 0 ≡ numberAt (w / 8) (8 + w / 8 * j) block) × IsWord w (getD after j 0) × IsReading (takum w (getD after j 0)) (fractionBits w (getD after j 0)) a
+    → (getD after j 0 ≡ numberAt (w / 8) (8 + w / 8 * j) block) × IsWord w (getD after j 0) × IsReading (takum w (getD after j 0)) (fractionBits w (getD after j 0)) (ownFractionBits w (getD after j 0)) a
 
 -- the results behind the words are as they were, and the slice is as long as it was
 unfoldable pub TheRemainderIsKept : Type 0

@@ -6,6 +6,7 @@ use mathlib.Core.Logic.{_⊎_}
 use Prim.Native.Nat.{ℕ, _+_, _*_, _^_, _≤_, _<_}
 use lib.IntN.{ℤ, pos, _+ℤ_, _-ℤ_}
 use Rattle.bounds.specs.declared.answer.Answer.{Answer}
+use Rattle.word.specs.declared.reading.Kind.{Kind}
 use Rattle.word.specs.declared.reading.Reading.{Reading}
 use Rattle.bounds.specs.declared.refusal.Refusal.{Refusal}
 use Rattle.word.specs.Takum.{real, NaR, takum}
@@ -77,12 +78,16 @@ unfoldable pub StrictWritingIsRefusedExactlyWhereThereIsNoWord : Type 0
 StrictWritingIsRefusedExactlyWhereThereIsNoWord = (n : ℕ) (v : Value) (r : Answer) → 2 ≤ n → n ≤ 64 → Writes n Rule.Strict v r → GivenOrInexact (IsExact n (v .negative) (numerator v) (denominator v)) r
 
 -- ---- demand 2 again
--- the value v is what the reading a says: where that is zero, with either sign and any exponent; NaR says none
+-- the value v is what a reading of this kind says: where that is zero, with either sign and any exponent; NaR says none
+unfoldable pub KindSays : Kind → Value → Type 0
+KindSays Kind.Zero v = v .m ≡ 0
+KindSays (Kind.Number s h m p) v = v ≡ record { negative = s; m = m; k = h -ℤ pos p }
+KindSays Kind.Nar v = ⊥
+KindSays (Kind.Refused q) v = ⊥
+
+-- the value v is what the reading a says
 unfoldable pub Says : Reading → Value → Type 0
-Says Reading.Zero v = v .m ≡ 0
-Says (Reading.Number s h m p) v = v ≡ record { negative = s; m = m; k = h -ℤ pos p }
-Says Reading.Nar v = ⊥
-Says (Reading.Refused q) v = ⊥
+Says a v = KindSays (a .kind) v
 
 -- what was read is written back as the word it was read from, by either rule
 unfoldable pub WhatWasReadIsWrittenBack : Type 0

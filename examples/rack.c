@@ -186,10 +186,11 @@ static int list_sheet(const char *name) {
             takum_whole_answer whole = takum_take_whole(got.width, TAKUM_NEAREST, words[i]);
             printf("%" PRIu32 " %" PRIu32 " %0*" PRIx64 " ", got.number, i, (int)(got.width / 4), words[i]);
             if (whole.refusal == TAKUM_OK) {
-                printf("%" PRId64 "\n", whole.whole);
+                printf("%" PRId64, whole.whole);
             } else {
-                puts(whole.refusal == TAKUM_NAR ? "nar" : "over");
+                fputs(whole.refusal == TAKUM_NAR ? "nar" : "over", stdout);
             }
+            printf(" %" PRIu32 "\n", takum_read(got.width, words[i]).own);
         }
     }
     if (from == NULL || ferror(from)) {

@@ -134,7 +134,10 @@ typedef struct takum_word_answer {
 } takum_word_answer;
 
 /* The fields after `kind` are zero unless it is TAKUM_KIND_NUMBER. Then the size is m * 2^(h - p), with 2^p <= m < 2^(p + 1), p being the number of
- * fraction bits (of a word of fewer than 12 bits with zero bits appended up to 12), and `negative` the sign. */
+ * fraction bits (of a word of fewer than 12 bits with zero bits appended up to 12), and `negative` the sign.
+ *
+ * `own` tells how fine the reading is, whatever its kind: how many fraction bits are the word's own. That is p less the zero bits that were appended,
+ * which are no precision, or 0 where it would be negative. So it never exceeds p, and from 12 bits on it is p. Zero and NaR have 0. */
 typedef struct takum_reading_answer {
     uint32_t refusal;
     uint32_t kind;
@@ -142,6 +145,7 @@ typedef struct takum_reading_answer {
     int32_t h;
     uint64_t m;
     uint32_t p;
+    uint32_t own;
 } takum_reading_answer;
 
 typedef struct takum_order_answer {
@@ -197,7 +201,7 @@ TAKUM_MUST_USE takum_word_answer takum_nar(uint32_t n) TAKUM_NOEXCEPT;
 /* The exact-count limit of width n, a power of two: each whole number from -limit to limit has a word, and limit + 1 has none. */
 TAKUM_MUST_USE takum_limit_answer takum_limit(uint32_t n) TAKUM_NOEXCEPT;
 
-/* The value of a word: zero, NaR, or a number by its parts. */
+/* The value of a word, which is zero, NaR, or a number by its parts, and the word's own fraction bits. */
 TAKUM_MUST_USE takum_reading_answer takum_read(uint32_t n, uint64_t word) TAKUM_NOEXCEPT;
 
 /* -1, 0 or 1 as x is below, equal to or above y. NaR is below everything and equals itself. STRAY for either word. */

@@ -1,5 +1,5 @@
 //! Asks the library a question from the command line: `cargo run --example takum -- write-whole 16 strict 515`; `help` says more.
-use ledusprig::{Reading, Refusal, Rule, Taking, Takum, Value, Width};
+use ledusprig::{Kind, Refusal, Rule, Taking, Takum, Value, Width};
 use std::cmp::Ordering;
 use std::fmt::Display;
 use std::io::{self, ErrorKind, Write};
@@ -10,7 +10,7 @@ const HELP: &str = "Usage: takum QUESTION
     write-whole WIDTH RULE NUMBER     the word for a whole number, as 515
     write WIDTH RULE NUMBER           the word for a number, as -1.5 or 3*2^-1
     write-double WIDTH RULE NUMBER    the word for the double nearest to a number, as 0.1 or nan
-    read WIDTH WORD                   the value of a word
+    read WIDTH WORD                   the value of a word, and how many fraction bits are its own
     take-whole WIDTH TAKING WORD      the whole number of a word
     take-double WIDTH WORD            the double for a word
     move FROM TO RULE WORD            the word of width TO for the value of a word of width FROM
@@ -88,7 +88,7 @@ fn answer(given: &[&str]) -> Answer {
             let answer = written(width, rule(r)?, format_args!("the double {x:?}"), value_of_double(x), |rule| width.write_binary64(rule, x));
             told_first(&format!("double {x:?}"), answer)
         }
-        ["read", n, word] => Ok(shown(takum(n, word)?)),
+        ["read", n, word] => Ok(read(takum(n, word)?)),
         ["take-whole", n, taking, word] => {
             let taking = choice(taking, [("nearest", Taking::Nearest), ("strict", Taking::Strict)])?;
             Ok(takum(n, word)?.take_whole(taking)?.to_string())
@@ -172,8 +172,8 @@ fn value(text: &str) -> Answer<Value> {
 
 /// The value of a word that is a number. (Zero and NaR have a word at every width, so that nobody asks where they lie.)
 fn value_of(takum: Takum) -> Value {
-    match takum.read() {
-        Reading::Number { negative, h, m, p } => Value { negative, m, k: h - p as i32 },
+    match takum.read().kind {
+        Kind::Number { negative, h, m, p } => Value { negative, m, k: h - p as i32 },
         _ => Value { negative: false, m: 0, k: 0 },
     }
 }
@@ -188,6 +188,12 @@ fn value_of_double(x: f64) -> Value {
 
 // What is answered.
 
+/// A word with its value and how fine that is.
+fn read(takum: Takum) -> String {
+    let own = takum.read().own;
+    format!("{}\nown    {own} fraction {}", shown(takum), if own == 1 { "bit" } else { "bits" })
+}
+
 /// A word with its value.
 fn shown(takum: Takum) -> String {
     let (hex, bits) = (takum.width().bits().div_ceil(4) as usize + 2, takum.width().bits() as usize);
@@ -196,8 +202,8 @@ fn shown(takum: Takum) -> String {
 
 /// The exact value by its parts, where it is a number.
 fn parts(takum: Takum) -> String {
-    match takum.read() {
-        Reading::Number { negative, h, m, p } => format!(" = {}{m} * 2^({h} - {p})", if negative { "-" } else { "" }),
+    match takum.read().kind {
+        Kind::Number { negative, h, m, p } => format!(" = {}{m} * 2^({h} - {p})", if negative { "-" } else { "" }),
         _ => String::new(),
     }
 }

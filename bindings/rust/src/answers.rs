@@ -47,17 +47,32 @@ pub struct Value {
     pub k: i32,
 }
 
-/// The value of a word by its parts.
+/// The value of a word, and how fine it is.
 ///
 /// ```
-/// use ledusprig::{calls, Reading};
+/// use ledusprig::{calls, Kind, Reading, Refusal};
 ///
 /// // -1.5 is -3072 * 2^(0 - 11)
-/// assert_eq!(calls::read(16, 0xBC00), Ok(Reading::Number { negative: true, h: 0, m: 3072, p: 11 }));
-/// assert_eq!(calls::read(16, 0x8000), Ok(Reading::Nar));
+/// assert_eq!(calls::read(16, 0xBC00), Ok(Reading { kind: Kind::Number { negative: true, h: 0, m: 3072, p: 11 }, own: 11 }));
+/// assert_eq!(calls::read(16, 0x8000), Ok(Reading { kind: Kind::Nar, own: 0 }));
+///
+/// // 4 of the 7 fraction bits of 1 at width 8 are appended zeros
+/// let one = calls::read(8, 0x40)?;
+/// assert_eq!((one.kind, one.own), (Kind::Number { negative: false, h: 0, m: 128, p: 7 }, 3));
+/// # Ok::<(), Refusal>(())
 /// ```
 #[derive(Clone, Copy, Debug, PartialEq, Eq, Hash)]
-pub enum Reading {
+pub struct Reading {
+    /// What the word is.
+    pub kind: Kind,
+    /// How many fraction bits are the word's own: `p` less the zero bits that were appended, which are no precision, or 0 where that would be
+    /// negative. So it never exceeds `p`, and from width 12 on it is `p`. Zero and NaR have 0.
+    pub own: u32,
+}
+
+/// What a word is: zero, NaR, or a number by its parts.
+#[derive(Clone, Copy, Debug, PartialEq, Eq, Hash)]
+pub enum Kind {
     /// Zero.
     Zero,
     /// NaR, "not a real".

@@ -14,7 +14,7 @@
 //
 // Safety, for all calls below: the archive's functions take every number and write to no memory but the lent results and the lent buffer. A slice is
 // handed over as what it is, its pointer and its length, and the borrow lasts until the call returns; a `&mut` slice overlaps no other.
-use crate::answers::{Block, Reading, Rule, Taking, Value};
+use crate::answers::{Block, Kind, Reading, Rule, Taking, Value};
 use crate::face::{self, WordAnswer};
 use crate::refusals::{ColumnRefusal, Refusal};
 use core::cmp::Ordering;
@@ -44,15 +44,15 @@ pub fn limit(n: u32) -> Result<u64, Refusal> {
     Refusal::unless(answer.refusal, answer.limit)
 }
 
-/// The value of a word by its parts.
+/// The value of a word by its parts, and its own fraction bits.
 pub fn read(n: u32, word: u64) -> Result<Reading, Refusal> {
     let answer = unsafe { face::takum_read(n, word) };
-    let reading = match answer.kind {
-        face::KIND_ZERO => Reading::Zero,
-        face::KIND_NAR => Reading::Nar,
-        _ => Reading::Number { negative: answer.negative, h: answer.h, m: answer.m, p: answer.p },
+    let kind = match answer.kind {
+        face::KIND_ZERO => Kind::Zero,
+        face::KIND_NAR => Kind::Nar,
+        _ => Kind::Number { negative: answer.negative, h: answer.h, m: answer.m, p: answer.p },
     };
-    Refusal::unless(answer.refusal, reading)
+    Refusal::unless(answer.refusal, Reading { kind, own: answer.own })
 }
 
 /// The order of x and y by value. NaR is below everything and equals itself.

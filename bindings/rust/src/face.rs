@@ -14,6 +14,7 @@ pub struct ReadingAnswer {
     pub h: i32,
     pub m: u64,
     pub p: u32,
+    pub own: u32,
 }
 
 /// The values of `kind`; any other is that of a number.

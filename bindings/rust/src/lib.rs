@@ -37,7 +37,7 @@ mod refusals;
 mod shown;
 mod words;
 
-pub use answers::{Block, Reading, Rule, Taking, Value, BLOCK_SIZE, BLOCK_WORDS, ZERO};
+pub use answers::{Block, Kind, Reading, Rule, Taking, Value, BLOCK_SIZE, BLOCK_WORDS, ZERO};
 pub use refusals::{ColumnRefusal, NoRefusal, Refusal};
 pub use words::{Takum, Width};
 

@@ -1,5 +1,5 @@
 //! How widths and words are shown.
-use crate::answers::{Reading, Rule, Taking};
+use crate::answers::{Kind, Reading, Rule, Taking};
 use crate::words::{Takum, Width};
 use core::fmt::{self, Alignment, Write};
 
@@ -51,7 +51,7 @@ impl fmt::Display for Takum {
 
 /// The size of a number that isn't zero as m * 2^k with m odd.
 fn odd(reading: Reading) -> Option<(u64, i32)> {
-    let Reading::Number { h, m, p, .. } = reading else {
+    let Kind::Number { h, m, p, .. } = reading.kind else {
         return None;
     };
     let zeros = m.trailing_zeros();

@@ -1,5 +1,5 @@
 //! A width and a word that have been accepted once.
-use crate::answers::{Reading, Rule, Taking, Value, ZERO};
+use crate::answers::{Kind, Reading, Rule, Taking, Value, ZERO};
 use crate::calls;
 use crate::refusals::{ColumnRefusal, Refusal};
 use core::cmp::Ordering;
@@ -187,16 +187,26 @@ impl Takum {
     /// Whether it is NaR, "not a real".
     #[must_use]
     pub fn is_nar(self) -> bool {
-        self.read() == Reading::Nar
+        self.read().kind == Kind::Nar
     }
 
     /// Whether it is zero.
     #[must_use]
     pub fn is_zero(self) -> bool {
-        self.read() == Reading::Zero
+        self.read().kind == Kind::Zero
     }
 
-    /// Its value by its parts.
+    /// Its value by its parts, and its own fraction bits.
+    ///
+    /// ```
+    /// use ledusprig::{Refusal, Takum, Width};
+    ///
+    /// // 512 on a tag, 1 at the greatest width, and a void: how fine are they?
+    /// assert_eq!(Takum::new(Width::W16, 0x5A00)?.read().own, 8);
+    /// assert_eq!(Takum::try_from((Width::W64, 1_i64))?.read().own, 59);
+    /// assert_eq!(Width::W16.nar().read().own, 0);
+    /// # Ok::<(), Refusal>(())
+    /// ```
     #[must_use]
     pub fn read(self) -> Reading {
         accepted(calls::read(self.width.bits, self.word))

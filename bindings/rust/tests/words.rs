@@ -1,5 +1,5 @@
 //! Widths, the words that belong to them, and the crate's version.
-use ledusprig::{Reading, Rule, Takum, Width, VERSION, ZERO};
+use ledusprig::{Kind, Reading, Rule, Takum, Width, VERSION, ZERO};
 
 #[test]
 fn the_widths_of_sheets_are_constants() {
@@ -15,7 +15,7 @@ fn zero_is_what_the_library_writes_for_it() {
     for bits in 2..=64 {
         let width = Width::new(bits).unwrap();
         assert_eq!(width.write_whole(Rule::Strict, 0), Ok(width.zero()));
-        assert_eq!(width.zero().read(), Reading::Zero);
+        assert_eq!(width.zero().read(), Reading { kind: Kind::Zero, own: 0 });
     }
 }
 
@@ -24,6 +24,27 @@ fn zero_and_nar_are_told_apart_from_all_others() {
     for word in 0..=0xFF {
         let takum = Takum::new(Width::W8, word).unwrap();
         assert_eq!((takum.is_zero(), takum.is_nar()), (word == 0, word == 0x80));
+    }
+}
+
+/// 1 has the regime 0, and the largest word, from 5 bits on, the regime 7. Five bits stand before those of the regime.
+#[test]
+fn zeros_that_are_appended_are_no_fraction_bits_of_a_word() {
+    for bits in 2..=64_u32 {
+        let width = Width::new(bits).unwrap();
+        let (one, largest) = (width.write_whole(Rule::Strict, 1).unwrap(), width.largest());
+        assert_eq!((fraction_bits(one), one.read().own), (Some(bits.max(12) - 5), bits.saturating_sub(5)));
+        assert_eq!(width.nar().read(), Reading { kind: Kind::Nar, own: 0 });
+        if bits >= 5 {
+            assert_eq!((fraction_bits(largest), largest.read().own), (Some(bits.max(12) - 12), bits.saturating_sub(12)));
+        }
+    }
+}
+
+fn fraction_bits(takum: Takum) -> Option<u32> {
+    match takum.read().kind {
+        Kind::Number { p, .. } => Some(p),
+        Kind::Zero | Kind::Nar => None,
     }
 }
 

@@ -89,7 +89,7 @@ void of_read(given *from, answer *to) {
     uint32_t n = take_width(from);
     takum_reading_answer got = takum_read(n, take_number(from));
     bool parts_are_zero = !got.negative && got.h == 0 && got.m == 0 && got.p == 0;
-    if (put_refusal(to, got.refusal, parts_are_zero && got.kind == 0)) {
+    if (put_refusal(to, got.refusal, parts_are_zero && got.kind == 0 && got.own == 0)) {
         return;
     }
     if (got.kind == TAKUM_KIND_NUMBER) {
@@ -102,6 +102,7 @@ void of_read(given *from, answer *to) {
     } else {
         put_number(to, "kind ", got.kind);
     }
+    put_number(to, " ", got.own);
 }
 
 void of_compare(given *from, answer *to) {

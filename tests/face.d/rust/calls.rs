@@ -2,7 +2,7 @@
 use crate::text::{put, stop, Given};
 use std::cmp::Ordering;
 use std::fmt::{Debug, Write};
-use ledusprig::{calls, Reading, Refusal, Rule, Taking, Takum, Value, Width, BLOCK_SIZE, BLOCK_WORDS};
+use ledusprig::{calls, Kind, Reading, Refusal, Rule, Taking, Takum, Value, Width, BLOCK_SIZE, BLOCK_WORDS};
 
 /// The answer by plain numbers; where the one by the types is another, the text says so.
 pub fn same<T: PartialEq + Debug>(to: &mut String, plain: T, typed: T) -> T {
@@ -76,13 +76,13 @@ pub fn limit(given: &mut Given, to: &mut String) {
 
 pub fn read(given: &mut Given, to: &mut String) {
     let (n, word) = (given.width(), given.number());
-    let plain = calls::read(n, word).map(|reading| (reading, reading == Reading::Zero, reading == Reading::Nar));
+    let plain = calls::read(n, word).map(|reading| (reading, reading.kind == Kind::Zero, reading.kind == Kind::Nar));
     let typed = takum(n, word).map(|takum| (takum.read(), takum.is_zero(), takum.is_nar()));
     let answer = same(to, plain, typed);
-    put(to, answer, |to, (reading, _, _)| match reading {
-        Reading::Zero => write!(to, "zero"),
-        Reading::Nar => write!(to, "nar"),
-        Reading::Number { negative, h, m, p } => write!(to, "number {} {h} {m} {p}", if negative { "minus" } else { "plus" }),
+    put(to, answer, |to, (Reading { kind, own }, _, _)| match kind {
+        Kind::Zero => write!(to, "zero {own}"),
+        Kind::Nar => write!(to, "nar {own}"),
+        Kind::Number { negative, h, m, p } => write!(to, "number {} {h} {m} {p} {own}", if negative { "minus" } else { "plus" }),
     });
 }
 

@@ -1,6 +1,7 @@
 // Both sides hand over the same at every width, the narrow and the refused ones too, and refuse by the same number; asked before anything is timed.
 use crate::calls::{
-    on_block, on_column, on_content, Move, One, Write, MOVE, MOVE_COLUMN, READ_BLOCK, TAKE_BINARY64, TAKE_WHOLE, WRITE, WRITE_BINARY64, WRITE_BLOCK, WRITE_WHOLE,
+    on_block, on_column, on_content, Move, One, Write, MOVE, MOVE_COLUMN, READ, READ_BLOCK, TAKE_BINARY64, TAKE_WHOLE, WRITE, WRITE_BINARY64, WRITE_BLOCK,
+    WRITE_WHOLE,
 };
 use crate::handed::Parts;
 use crate::values::{self, Block, Offer, COUNT};
@@ -15,6 +16,7 @@ pub fn agree_everywhere(offers: &[Offer], words: &[u64], wholes: &[i64], floats:
         agree_on("binary64 in", WRITE_BINARY64, n, strict, floats.iter().step_by(16).chain(&values::EDGE_FLOATS));
         let drawn = words.iter().step_by(16).map(|&w| perhaps_stray(n, w));
         let some: Vec<u64> = drawn.chain(values::edge_words(n)).chain(values::half_words(n)).collect();
+        agree_on("reading", READ, n, strict, some.iter().chain(&values::regime_words(n)));
         agree_on("whole number out", TAKE_WHOLE, n, strict, some.iter());
         agree_on("binary64 out", TAKE_BINARY64, n, strict, some.iter());
     }

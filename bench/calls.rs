@@ -1,6 +1,6 @@
 // The calls of the three sides: the library, the plain version and an empty call, which tells what the loop and the call cost by themselves.
 // All are called through a pointer, so none is inlined into the loop.
-use crate::handed::{HandedBlock, HandedColumn, HandedNumber, HandedWhole, HandedWord, HandedWriting};
+use crate::handed::{HandedBlock, HandedColumn, HandedNumber, HandedReading, HandedWhole, HandedWord, HandedWriting};
 use crate::plain;
 use std::slice::{from_raw_parts, from_raw_parts_mut};
 
@@ -16,6 +16,7 @@ pub type WriteBlock = unsafe extern "C" fn(u32, u32, *const u64, usize, *mut u8,
 
 // crates/ledusprig
 extern "C" {
+    fn takum_read(n: u32, word: u64) -> HandedReading;
     fn takum_write(n: u32, rule: u32, negative: bool, m: u64, k: i32) -> HandedWord;
     fn takum_move(from: u32, to: u32, rule: u32, word: u64) -> HandedWord;
     fn takum_write_whole(n: u32, rule: u32, x: i64) -> HandedWord;
@@ -27,6 +28,7 @@ extern "C" {
     fn takum_write_block(width: u32, number: u32, words: *const u64, count: usize, buffer: *mut u8, size: usize) -> HandedWriting;
 }
 
+pub const READ: [Outright<u64, HandedReading>; 3] = [takum_read, plain_read, empty_read];
 pub const WRITE: [Write; 3] = [takum_write, plain_write, empty_write];
 pub const MOVE: [Move; 3] = [takum_move, plain_move, empty_move];
 pub const WRITE_WHOLE: [ByRule<i64, HandedWord>; 3] = [takum_write_whole, plain_write_whole, empty_write_whole];
@@ -36,6 +38,10 @@ pub const TAKE_BINARY64: [Outright<u64, HandedNumber>; 3] = [takum_take_binary64
 pub const MOVE_COLUMN: [MoveColumn; 3] = [takum_move_column, plain_move_column, empty_move_column];
 pub const READ_BLOCK: [ReadBlock; 3] = [takum_read_block, plain_read_block, empty_read_block];
 pub const WRITE_BLOCK: [WriteBlock; 3] = [takum_write_block, plain_write_block, empty_write_block];
+
+extern "C" fn plain_read(n: u32, word: u64) -> HandedReading {
+    plain::reading::read_word(n, word).into()
+}
 
 extern "C" fn plain_write(n: u32, rule: u32, negative: bool, m: u64, k: i32) -> HandedWord {
     plain::write(n, rule != 0, negative, m, k).into()
@@ -71,6 +77,10 @@ unsafe extern "C" fn plain_read_block(block: *const u8, size: usize, results: *m
 
 unsafe extern "C" fn plain_write_block(width: u32, number: u32, words: *const u64, count: usize, buffer: *mut u8, size: usize) -> HandedWriting {
     plain::block::write_block(width, number, from_raw_parts(words, count), from_raw_parts_mut(buffer, size)).into()
+}
+
+extern "C" fn empty_read(_n: u32, word: u64) -> HandedReading {
+    HandedReading { refusal: 0, kind: 2, negative: false, h: 0, m: word, p: 0, own: 0 }
 }
 
 extern "C" fn empty_write(_n: u32, _rule: u32, _negative: bool, m: u64, _k: i32) -> HandedWord {

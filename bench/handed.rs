@@ -1,11 +1,24 @@
 // What both sides hand over: the structs of crates/ledusprig/src/handed.rt, and the plain version's answers as such.
 use crate::plain::block::Header;
+use crate::plain::reading::{Kind, Reading};
 
 #[repr(C)]
 #[derive(Clone, Copy)]
 pub struct HandedWord {
     pub refusal: u32,
     pub word: u64,
+}
+
+#[repr(C)]
+#[derive(Clone, Copy)]
+pub struct HandedReading {
+    pub refusal: u32,
+    pub kind: u32,
+    pub negative: bool,
+    pub h: i32,
+    pub m: u64,
+    pub p: u32,
+    pub own: u32,
 }
 
 #[repr(C)]
@@ -53,6 +66,19 @@ impl From<Result<u64, u32>> for HandedWord {
         match answer {
             Ok(word) => HandedWord { refusal: 0, word },
             Err(refusal) => HandedWord { refusal, word: 0 },
+        }
+    }
+}
+
+impl From<Result<Reading, u32>> for HandedReading {
+    #[inline(always)]
+    fn from(answer: Result<Reading, u32>) -> Self {
+        let none = HandedReading { refusal: 0, kind: 0, negative: false, h: 0, m: 0, p: 0, own: 0 };
+        match answer {
+            Ok(Reading { kind: Kind::Zero, own }) => HandedReading { own, ..none },
+            Ok(Reading { kind: Kind::Nar, own }) => HandedReading { kind: 1, own, ..none },
+            Ok(Reading { kind: Kind::Number { negative, h, m, p }, own }) => HandedReading { refusal: 0, kind: 2, negative, h, m, p, own },
+            Err(refusal) => HandedReading { refusal, ..none },
         }
     }
 }
@@ -145,6 +171,21 @@ impl Parts for HandedWord {
     #[inline(always)]
     fn parts(self) -> [u64; 4] {
         [self.refusal as u64, self.word, 0, 0]
+    }
+}
+
+impl Parts for HandedReading {
+    #[inline(always)]
+    fn parts(self) -> [u64; 4] {
+        let pair = |low: u32, high: u32| low as u64 | (high as u64) << 32;
+        [pair(self.refusal, self.kind), self.m, pair(self.h as u32, self.negative as u32), pair(self.p, self.own)]
+    }
+
+    // Field by field. A pair of them would be loaded at once, and a processor waits for that where they were stored one by one.
+    #[inline(always)]
+    fn bits(self) -> u64 {
+        let fields = [self.refusal, self.kind, self.negative as u32, self.h as u32, self.p, self.own];
+        fields.iter().fold(self.m, |bits, &field| bits.rotate_left(7) ^ field as u64)
     }
 }
 

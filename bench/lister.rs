@@ -1,7 +1,7 @@
 // A plain Rust lister: the same text as the proved program's, for the same input.
 mod plain;
 
-use plain::{block::read_block, whole::take_whole, OVER};
+use plain::{block::read_block, reading::own_bits, whole::take_whole, OVER};
 use std::io::{stdin, stdout, Read, Result, Write};
 
 // Input is read, and text written, in pieces of about this size.
@@ -36,6 +36,8 @@ fn put_block(text: &mut Vec<u8>, block: &[u8], place: u64, words: &mut [u64]) {
         Ok(header) => {
             for (position, &word) in words[..header.count].iter().enumerate() {
                 line.end();
+                line.decimal(own_bits(header.width, word) as u64);
+                line.byte(b' ');
                 line.whole(header.width, word);
                 line.byte(b' ');
                 line.hex(header.width, word);
@@ -57,7 +59,7 @@ fn put_block(text: &mut Vec<u8>, block: &[u8], place: u64, words: &mut [u64]) {
     }
 }
 
-// A line, put from its end to its start, so that no number's length has to be known before its digits. None is longer than 53 bytes.
+// A line, put from its end to its start, so that no number's length has to be known before its digits. None is longer than 56 bytes.
 struct Line {
     room: [u8; 64],
     first: usize,

@@ -6,7 +6,9 @@ mod plain;
 mod timing;
 mod values;
 
-use calls::{on_block, on_column, on_content, One, MOVE, MOVE_COLUMN, READ_BLOCK, TAKE_BINARY64, TAKE_WHOLE, WRITE, WRITE_BINARY64, WRITE_BLOCK, WRITE_WHOLE};
+use calls::{
+    on_block, on_column, on_content, One, MOVE, MOVE_COLUMN, READ, READ_BLOCK, TAKE_BINARY64, TAKE_WHOLE, WRITE, WRITE_BINARY64, WRITE_BLOCK, WRITE_WHOLE,
+};
 use handed::Parts;
 use timing::compare;
 use values::{Block, BLOCKS, COUNT};
@@ -71,6 +73,9 @@ fn main() {
     agreement::agree_on_written(&wide, &narrow);
 
     let mut within = true;
+    for (n, words) in [(16, &narrow), (64, &wide)] {
+        within &= compare_one("reading", READ, n, words);
+    }
     for n in [16, 64] {
         let side = |i: usize| { let (call, offers) = (hidden(&WRITE[i]), &offers); move || sum(offers.iter().map(|o| unsafe { call(n, 0, o.negative, o.m, o.k) }.bits())) };
         within &= compare(&format!("writing at {}", n), COUNT, [&mut side(0), &mut side(1), &mut side(2)]);

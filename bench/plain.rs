@@ -1,11 +1,12 @@
-// The plain Rust that the library is timed against: writing and moving, rounded and strict, whole numbers and binary64 in and out, every width
-// from 2 to 64, the same refusals; columns and sheet blocks. No table, and no loop for one word. The paper's letters: n the width, r the regime,
+// The plain Rust that the library is timed against: reading, writing and moving, rounded and strict, whole numbers and binary64 in and out, every
+// width from 2 to 64, the same refusals; columns and sheet blocks. No table, and no loop for one word. The paper's letters: n the width, r the regime,
 // c the characteristic.
 #![allow(dead_code)] // main.rs and lister.rs each use a part
 
 pub mod binary64;
 pub mod block;
 pub mod column;
+pub mod reading;
 pub mod whole;
 
 pub const WIDTH: u32 = 1;

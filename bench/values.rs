@@ -132,6 +132,16 @@ pub fn edge_words(n: u32) -> Vec<u64> {
     words
 }
 
+// The words at which another regime begins, of either sign, and those beside them.
+pub fn regime_words(n: u32) -> Vec<u64> {
+    if !(2..=64).contains(&n) {
+        return vec![];
+    }
+    let all = u64::MAX >> (64 - n);
+    let firsts = (0..32u64).map(|bits| bits << 59 >> (64 - n));
+    firsts.flat_map(|word| [word.wrapping_sub(1) & all, word, word.wrapping_add(1) & all]).collect()
+}
+
 // The words of halves and those beside them, of both signs: of i and a half for each i up to 63, and about each power of two up to 2^55, since the last
 // ones lie below 2^54. Where a width has no such word, the nearest stands for it.
 pub fn half_words(n: u32) -> Vec<u64> {

@@ -6,6 +6,7 @@ use census::digest::take_kind;
 use census::digest::take_refusal;
 use census::digest::take_signed;
 use order::order::Comparison;
+use word::reading::Kind;
 use word::reading::Reading;
 
 pub(crate) fn take_made(digest: u64, made: Made) -> u64 {
@@ -29,15 +30,19 @@ pub(crate) fn take_comparison(digest: u64, comparison: Comparison) -> u64 {
     }
 }
 
+// Its own fraction bits come last; a refused word has no reading, and none.
 pub(crate) fn take_reading(digest: u64, reading: Reading) -> u64 {
-    match reading {
-        Reading::Zero => take(digest, 0),
-        Reading::Nar => take(digest, 1),
-        Reading::Number { negative, h, m, p } => {
+    let kind = reading.kind;
+    let own = reading.own as u64;
+    match kind {
+        Kind::Zero => take_kind(digest, 0, own),
+        Kind::Nar => take_kind(digest, 1, own),
+        Kind::Number { negative, h, m, p } => {
             let signed = take_kind(digest, 2, negative as u64);
-            take_kind(take_signed_32(signed, h), m, p as u64)
+            let value = take_kind(take_signed_32(signed, h), m, p as u64);
+            take(value, own)
         }
-        Reading::Refused(refusal) => take_refusal(digest, refusal),
+        Kind::Refused(refusal) => take_refusal(digest, refusal),
     }
 }
 

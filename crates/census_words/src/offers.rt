@@ -4,7 +4,7 @@ use census::bits::ALL_BITS;
 use census::bits::TOP_BIT;
 use census::bits::bounded;
 use census::exponent::ORIGIN;
-use word::reading::Reading;
+use word::reading::Kind;
 use word::reading::read;
 ghost use Prim.Native.Nat.{_+_, _≤_};
 
@@ -18,12 +18,13 @@ pub(crate) struct Size {
 pub(crate) fn size_of(n: u32, word: u64) -> Size
     ensures { λ r. ⌜ (400 ≤ r .place) × (r .place ≤ 1400) ⌝ }
 {
-    let Reading::Number {
+    let kind = read(Width { bits: n }, word).kind;
+    let Kind::Number {
         negative: _,
         h,
         m,
         p,
-    } = read(Width { bits: n }, word)
+    } = kind
     else {
         return Size {
             m: 0,

@@ -9,28 +9,39 @@ use bounds::width::Limit;
 use bounds::width::Made;
 use bounds::width::Width;
 use round::value::Rule;
-use word::reading::Reading;
+use word::reading::Kind;
 use word::reading::read;
 use write::moving::move_word;
 use write::value::Value;
 use write::writing::write;
 
 pub(crate) fn print_word(n: u32, word: u64) {
-    print_width(n);
-    print_bytes(b" word ");
-    print_hex(word);
+    let kind = read(Width { bits: n }, word).kind;
+    print_word_of_width(n, word);
     print_bytes(b" is ");
-    print_reading(read(Width { bits: n }, word));
+    match kind {
+        Kind::Zero => print_number(0),
+        Kind::Nar => print_bytes(b"nar"),
+        Kind::Number { negative, h, m, p } => print_value(negative, h, m, p),
+        Kind::Refused(refusal) => print_refusal(refusal),
+    }
     print_bytes(b"\n");
 }
 
-fn print_reading(reading: Reading) {
-    match reading {
-        Reading::Zero => print_number(0),
-        Reading::Nar => print_bytes(b"nar"),
-        Reading::Number { negative, h, m, p } => print_value(negative, h, m, p),
-        Reading::Refused(refusal) => print_refusal(refusal),
+// How many fraction bits of a word are its own.
+pub(crate) fn print_own_bits(n: u32, word: u64) {
+    let reading = read(Width { bits: n }, word);
+    let kind = reading.kind;
+    print_word_of_width(n, word);
+    print_bytes(b" own bits ");
+    match kind {
+        Kind::Refused(refusal) => {
+            print_bytes(b"is ");
+            print_refusal(refusal);
+        }
+        _ => print_number(reading.own as u64),
     }
+    print_bytes(b"\n");
 }
 
 pub(crate) fn print_limit(n: u32) {
@@ -94,6 +105,12 @@ fn print_rule(rule: Rule) {
         Rule::Rounded => print_bytes(b" rounded"),
         Rule::Strict => print_bytes(b" strict"),
     }
+}
+
+pub(crate) fn print_word_of_width(n: u32, word: u64) {
+    print_width(n);
+    print_bytes(b" word ");
+    print_hex(word);
 }
 
 pub(crate) fn print_width(n: u32) {

@@ -7,6 +7,7 @@ mod value;
 use crate::lines::print_limit;
 use crate::lines::print_made;
 use crate::lines::print_move;
+use crate::lines::print_own_bits;
 use crate::lines::print_word;
 use crate::lines::print_writing;
 use crate::numbers::print_binary64_in;
@@ -29,6 +30,9 @@ fn main() {
     print_halves();
     print_last_halves();
     print_binary64();
+    print_own_bits_of_tags();
+    print_own_bits_below_12();
+    print_own_bits_from_12();
 }
 
 fn print_words() {
@@ -202,6 +206,50 @@ fn print_binary64() {
     print_binary64_out(16, 0);
     print_binary64_out(16, 0x8000);
     print_binary64_out(16, 0x10000);
+}
+
+// The words that the lister's printed case has, zero, and what is refused.
+fn print_own_bits_of_tags() {
+    print_own_bits(16, 0x5a00);
+    print_own_bits(16, 0x8000);
+    print_own_bits(16, 0);
+    print_own_bits(16, 0x10000);
+    print_own_bits(65, 0);
+}
+
+// Zeros that are appended are none of them: 0x7f has 0 at width 8, and every word of width 2.
+fn print_own_bits_below_12() {
+    print_own_bits(8, 0x7f);
+    print_own_bits(8, 0x40);
+    print_own_bits(8, 0x4f);
+    print_own_bits(8, 0x50);
+    print_own_bits(8, 0x81);
+    print_own_bits(8, 0xc0);
+    print_own_bits(8, 0xff);
+    print_own_bits(2, 0b00);
+    print_own_bits(2, 0b01);
+    print_own_bits(2, 0b10);
+    print_own_bits(2, 0b11);
+    print_own_bits(5, 8);
+    print_own_bits(6, 0x10);
+    print_own_bits(6, 0x14);
+    print_own_bits(11, 0x200);
+    print_own_bits(11, 0x7ff);
+}
+
+// From width 12 on every fraction bit is one: 1 has 59 at width 64.
+fn print_own_bits_from_12() {
+    print_own_bits(12, 0x400);
+    print_own_bits(12, 0xfff);
+    print_own_bits(13, 1);
+    print_own_bits(16, 0xbc00);
+    print_own_bits(16, 0x7000);
+    print_own_bits(16, 0x7fff);
+    print_own_bits(32, 0x5a01_8000);
+    print_own_bits(64, 0x4000_0000_0000_0000);
+    print_own_bits(64, 0);
+    print_own_bits(64, 0x8000_0000_0000_0000);
+    print_own_bits(64, 1);
 }
 
 fn plus(m: u64, k: i32) -> Value {

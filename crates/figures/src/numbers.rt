@@ -2,6 +2,7 @@
 use crate::lines::print_answer;
 use crate::lines::print_refusal;
 use crate::lines::print_width;
+use crate::lines::print_word_of_width;
 use crate::text::print_bytes;
 use crate::text::print_hex;
 use crate::text::print_signed;
@@ -23,9 +24,7 @@ pub(crate) fn print_whole_in(n: u32, rule: Rule, x: i64) {
 }
 
 pub(crate) fn print_whole_out(n: u32, rule: Taking, word: u64) {
-    print_width(n);
-    print_bytes(b" word ");
-    print_hex(word);
+    print_word_of_width(n, word);
     print_taking(rule);
     print_bytes(b" is ");
     match take_whole(Width { bits: n }, rule, word) {
@@ -51,9 +50,7 @@ pub(crate) fn print_binary64_in(n: u32, rule: Rule, x: f64) {
 }
 
 pub(crate) fn print_binary64_out(n: u32, word: u64) {
-    print_width(n);
-    print_bytes(b" word ");
-    print_hex(word);
+    print_word_of_width(n, word);
     print_bytes(b" as binary64 is ");
     match take_binary64(Width { bits: n }, word) {
         Binary64::Number(x) => print_pattern(x),

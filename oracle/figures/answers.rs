@@ -24,6 +24,7 @@ fn answer_of(question: &str) -> Result<String, Refusal> {
     let parts: Vec<&str> = question.split(' ').collect();
     match parts[..] {
         ["width", n, "word", w] => Ok(format!(" is {}", value_text(read(decimal(n), hex(w))?.kind))),
+        ["width", n, "word", w, "own", "bits"] => Ok(format!(" {}", read(decimal(n), hex(w))?.own_fraction_bits)),
         ["width", n] => Err(make_width(decimal(n)).expect_err("none is asked of a good width")),
         ["width", n, "limit"] => Ok(format!(" {}", exact_count_limit(decimal(n))?)),
         ["width", n, "writing", m, "*", power, rule] => word_by_rule(write(decimal(n), &offer(m, power)), rule),

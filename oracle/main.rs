@@ -2,13 +2,13 @@
 //! binary64 in and out, reads and writes sheet blocks, and prints the census and the figures. It is written from the
 //! papers alone.
 //!
-//! The papers are paper 01 (the requirements), paper 02, Wish 1 (blocks that are written) and Wish 2 (whole numbers by
-//! nearest), document 004, Definition 2 (the linear takum), and docs/CENSUS.md and docs/FIGURES.md (the lines to
-//! print). Nothing here was taken from the library. Every word is turned into its exact value. The sign, h and m of a
-//! reading and every comparison are found from exact values; a reading's p is the word's own fraction count, and
-//! negation is two's complement negation of the word, held against the exact value. Writing and moving find the nearest
-//! word by exact values too, and so do whole numbers out and binary64 out with the nearest number; no floating point is
-//! used. All is meant to be obvious, not quick.
+//! The papers are paper 01 (the requirements), paper 02, Wish 1 (blocks that are written), Wish 2 (whole numbers by
+//! nearest) and Wish 3 (how fine a reading is), document 004, Definition 2 (the linear takum), and docs/CENSUS.md and
+//! docs/FIGURES.md (the lines to print). Nothing here was taken from the library. Every word is turned into its exact
+//! value. The sign, h and m of a reading and every comparison are found from exact values; a reading's p and its own
+//! fraction bits are taken from the word's string, and negation is two's complement negation of the word, held against
+//! the exact value. Writing and moving find the nearest word by exact values too, and so do whole numbers out and
+//! binary64 out with the nearest number; no floating point is used. All is meant to be obvious, not quick.
 //!
 //! The assertions are statements of the papers, or follow from them. If one of them fails, the program stops.
 //!

@@ -1,6 +1,6 @@
 //! The digest of a line, and how it takes an answer in (docs/CENSUS.md); written from the papers alone.
 
-use crate::words::reading::Reading;
+use crate::words::reading::{Kind, Reading};
 use crate::words::refusals::Refusal;
 use crate::words::sequence::{scramble, D0};
 use crate::writing::answers::Answers;
@@ -57,9 +57,18 @@ impl Digest {
     pub fn take_reading(&mut self, answer: Result<Reading, Refusal>) {
         match answer {
             Err(refusal) => self.take_refusal(refusal),
-            Ok(Reading::Zero) => self.take(0),
-            Ok(Reading::NaR) => self.take(1),
-            Ok(Reading::Number { minus, h, m, p }) => {
+            Ok(reading) => {
+                self.take_kind(reading.kind);
+                self.take(reading.own_fraction_bits as u64);
+            }
+        }
+    }
+
+    fn take_kind(&mut self, kind: Kind) {
+        match kind {
+            Kind::Zero => self.take(0),
+            Kind::NaR => self.take(1),
+            Kind::Number { minus, h, m, p } => {
                 self.take(2);
                 self.take(u64::from(minus));
                 self.take_signed(h);

@@ -44,10 +44,11 @@ fn listing(input: &[u8]) -> String {
     String::from_utf8(output).expect("the lines are plain text")
 }
 
-/// "It prints exactly" the two lines; what the paper says of refused blocks, of a short last piece and of empty input.
+/// "It prints exactly" the two lines, and by paper 02, Wish 3, "the printed case of document 01 ends its lines in ` 8`
+/// and ` 0`"; what the paper says of refused blocks, of a short last piece and of empty input.
 fn check_lister() {
     let case = case();
-    let lines = "1 0 5a00 512\n1 1 8000 nar\n";
+    let lines = "1 0 5a00 512 8\n1 1 8000 nar 0\n";
     assert!(listing(&case) == lines);
     assert!(listing(&[]).is_empty());
     for size in 1..512 {
@@ -58,25 +59,28 @@ fn check_lister() {
     let sheet = [&damaged[..], &case, &damaged, &case[..1]].concat();
     assert!(listing(&sheet) == format!("block 0 refused 9\n{lines}block 2 refused 9\nblock 3 refused 7\n"));
     // An empty block has no line. All digits, a minus sign, `over` of both signs, and the greatest block number. -1.5
-    // goes to the even number: "The lister prints by the new rule" (paper 02, Wish 2).
+    // goes to the even number: "The lister prints by the new rule" (paper 02, Wish 2). The last fields are 32 - r - 5,
+    // but 0 for zero: the words start with 1 1 000, 1 0 111, 0 1 111, 1 0 000 and 1 0 010, so r is 0, 0, 7, 7 and 5.
     let block = good_block(32, u32::MAX, &[0, 0xC000_0000, 0xBC00_0000, 0x7FFF_FFFF, 0x8000_0001, 0x9000_0000]);
     let sheet = [&good_block(8, 5, &[])[..], &block].concat();
     let expected = [
-        "4294967295 0 00000000 0",
-        "4294967295 1 c0000000 -1",
-        "4294967295 2 bc000000 -2",
-        "4294967295 3 7fffffff over",
-        "4294967295 4 80000001 over",
-        "4294967295 5 90000000 -9223372036854775808",
+        "4294967295 0 00000000 0 0",
+        "4294967295 1 c0000000 -1 27",
+        "4294967295 2 bc000000 -2 27",
+        "4294967295 3 7fffffff over 20",
+        "4294967295 4 80000001 over 20",
+        "4294967295 5 90000000 -9223372036854775808 22",
     ];
     assert!(listing(&sheet) == expected.join("\n") + "\n");
+    // Two digits at 8 bits. "Appended zeros are no precision": 7 is 0 1 001 1 11, and 0x7F is 0 1 111 111.
+    assert!(listing(&good_block(8, 6, &[0x4F, 0x7F, 0x80])) == "6 0 4f 7 2\n6 1 7f over 0\n6 2 80 nar 0\n");
 }
 
 /// "A refused block prints `block I refused N`, I being its place in the input from 0, and the lister goes on; a short
 /// last piece is refused 7": in the sheet of sheets/stack.rs.
 fn check_stack() {
     let listing = listing(&stack_sheet());
-    let refused: Vec<&str> = listing.lines().filter(|line| line.starts_with("block")).collect();
+    let (refused, listed): (Vec<&str>, Vec<&str>) = listing.lines().partition(|line| line.starts_with("block"));
     let expected = [
         "block 0 refused 8",
         "block 5 refused 9",
@@ -90,7 +94,7 @@ fn check_stack() {
     ];
     assert!(refused == expected);
     for answer in ["nar", "over", "0", "-1", "7", "515", "-9223372036854775808"] {
-        assert!(listing.lines().any(|line| line.ends_with(&format!(" {answer}"))), "{answer} is listed");
+        assert!(listed.iter().any(|line| line.split(' ').nth(3) == Some(answer)), "{answer} is listed");
     }
 }
 

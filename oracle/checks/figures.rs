@@ -1,13 +1,14 @@
 //! Checks of the printed figures against papers 01 and 02; written from the papers alone.
 //!
-//! Each line stands below the sentence of paper 01 that gives it, or that it follows from, and in HALVES of paper 02,
-//! Wish 2; the marks P are left out. The words that the papers don't name were worked out by hand from the fields of
-//! Definition 2: S, D, R, C and F from the top.
+//! Each line stands below the sentence of paper 01 that gives it, or that it follows from, in HALVES of paper 02,
+//! Wish 2, and in OWN_BITS of Wish 3; the marks P are left out. The words that the papers don't name were worked out by
+//! hand from the fields of Definition 2: S, D, R, C and F from the top.
 
 /// Every line below is printed, and no other is.
 pub fn check(lines: &[String]) {
     let expected =
-        [&READING[..], &LIMITS, &WRITING, &ERRORS_THAT_LOOK_RIGHT, &WHOLE_NUMBERS, &HALVES, &BINARY64].concat();
+        [&READING[..], &LIMITS, &WRITING, &ERRORS_THAT_LOOK_RIGHT, &WHOLE_NUMBERS, &HALVES, &BINARY64, &OWN_BITS]
+            .concat();
     for line in &expected {
         assert!(lines.iter().any(|printed| printed == line), "not printed: {line}");
     }
@@ -190,4 +191,53 @@ const BINARY64: [&str; 13] = [
     "width 16 word 0 as binary64 is 0",
     "width 16 word 8000 as binary64 is no reading",
     "width 16 word 10000 as binary64 is refused 2",
+];
+
+/// Paper 02, Wish 3: "n - r - 5 for a finite word, or 0 where that is negative, since appended zeros are no precision;
+/// and 0 for zero and NaR."
+const OWN_BITS: [&str; 32] = [
+    // "The printed case of document 01 ends its lines in ` 8` and ` 0`." 0x5A00 is 0 1 011 and r = 3.
+    "width 16 word 5a00 own bits 8",
+    "width 16 word 8000 own bits 0",
+    "width 16 word 0 own bits 0",
+    // A refused word has no reading: "a refusal hands back its number ... and nothing else".
+    "width 16 word 10000 own bits is refused 2",
+    "width 65 word 0 own bits is refused 1",
+    // 0x7F is 0 1 111 111, and four of its seven bits C are appended: 8 - 7 - 5 is negative.
+    "width 8 word 7f own bits 0",
+    // 1 is 0 1 000 000, 7 is 0 1 001 1 11, and 8 is 0 1 010 00 0.
+    "width 8 word 40 own bits 3",
+    "width 8 word 4f own bits 2",
+    "width 8 word 50 own bits 1",
+    // 1 0 000 001 with r = 7, 1 1 000 000 with r = 0, and 1 1 111 111 with r = 7.
+    "width 8 word 81 own bits 0",
+    "width 8 word c0 own bits 3",
+    "width 8 word ff own bits 0",
+    // No string of two bits reaches the regime.
+    "width 2 word 0 own bits 0",
+    "width 2 word 1 own bits 0",
+    "width 2 word 2 own bits 0",
+    "width 2 word 3 own bits 0",
+    // 0 1 000 has just the five bits before F, 0 1 000 0 one more. 0 1 010 0 has one of its two bits C.
+    "width 5 word 8 own bits 0",
+    "width 6 word 10 own bits 1",
+    "width 6 word 14 own bits 0",
+    // On either side of width 12, with r = 0 and with r = 7. At 11 one of the seven bits C is appended, at 12 they are
+    // all there, and at 13 there is one bit F.
+    "width 11 word 200 own bits 6",
+    "width 11 word 7ff own bits 0",
+    "width 12 word 400 own bits 7",
+    "width 12 word fff own bits 0",
+    "width 13 word 1 own bits 1",
+    // 1 0 111 with r = 0; 0 1 110 with r = 6, which is 2^63 and too large for a whole number; 0 1 111 with r = 7.
+    "width 16 word bc00 own bits 11",
+    "width 16 word 7000 own bits 5",
+    "width 16 word 7fff own bits 4",
+    // 515 has the r of 512.
+    "width 32 word 5a018000 own bits 24",
+    // 1 is 0 1 000; then zero, NaR, and 0 0 000 with r = 7.
+    "width 64 word 4000000000000000 own bits 59",
+    "width 64 word 0 own bits 0",
+    "width 64 word 8000000000000000 own bits 0",
+    "width 64 word 1 own bits 52",
 ];

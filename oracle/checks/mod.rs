@@ -14,6 +14,7 @@ mod midpoints;
 mod moving;
 mod nearest;
 mod offers;
+mod own_bits;
 mod patterns;
 mod reading;
 mod whole;
@@ -24,6 +25,7 @@ mod written;
 pub fn check_words() {
     exact::check();
     reading::check();
+    own_bits::check();
     offers::check();
     writing::check();
     moving::check();

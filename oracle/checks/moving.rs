@@ -2,7 +2,7 @@
 
 use crate::census::writing::Draw;
 use crate::checks::writing::{exactly, only_rounded};
-use crate::words::reading::{read, Reading};
+use crate::words::reading::{read, Kind};
 use crate::words::refusals::Refusal;
 use crate::words::sequence::Sequence;
 use crate::words::values::{value, Value};
@@ -35,10 +35,10 @@ fn check_moves() {
         for _place in 0..32 {
             let Draw { word, target, .. } = Draw::next(&mut sequence, from);
             let answers = move_word(from, target, word);
-            match read(from, word).unwrap() {
-                Reading::NaR => assert!(answers == Answers::alike(nar_word(target))),
-                Reading::Zero => assert!(answers == exactly(0)),
-                Reading::Number { minus, h, m, p } => {
+            match read(from, word).unwrap().kind {
+                Kind::NaR => assert!(answers == Answers::alike(nar_word(target))),
+                Kind::Zero => assert!(answers == exactly(0)),
+                Kind::Number { minus, h, m, p } => {
                     let offer = Offer { minus, m: u128::from(m), k: (h - p) as i32 };
                     assert!(Value::Number(offer.number()) == fine_or_nar(from, word));
                     assert!(answers == write(target, &offer));

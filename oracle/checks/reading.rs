@@ -2,7 +2,7 @@
 
 use crate::exact::number::Whole;
 use crate::exact::search::last_not_above;
-use crate::words::reading::{order, read, Reading};
+use crate::words::reading::{order, read, Kind, Reading};
 use crate::words::refusals::{count_of_words, make_width, Refusal};
 use crate::words::values::{value, Value, SCALE};
 use crate::words::widths::{exact_count_limit, largest_word, nar_word, smallest_word};
@@ -57,15 +57,23 @@ fn check_figures() {
     assert!(value(12, 0xFFF) == number(-1, -254));
 
     // Whole answers of reading, worked out by hand. The negative words are the ones that are easy to get wrong: 0xC000
-    // and 0xFFF have F = 0, and their h is e + 1, not e.
-    assert!(read(16, 0x0000) == Ok(Reading::Zero));
-    assert!(read(16, 0x8000) == Ok(Reading::NaR));
-    assert!(read(16, 0x4400) == Ok(Reading::Number { minus: false, h: 0, m: 3072, p: 11 }));
-    assert!(read(16, 0xBC00) == Ok(Reading::Number { minus: true, h: 0, m: 3072, p: 11 }));
-    assert!(read(16, 0xC000) == Ok(Reading::Number { minus: true, h: 0, m: 2048, p: 11 }));
-    assert!(read(16, 0x0001) == Ok(Reading::Number { minus: false, h: -255, m: 17, p: 4 }));
-    assert!(read(16, 0x7FFF) == Ok(Reading::Number { minus: false, h: 254, m: 31, p: 4 }));
-    assert!(read(12, 0xFFF) == Ok(Reading::Number { minus: true, h: -254, m: 1, p: 0 }));
+    // and 0xFFF have F = 0, and their h is e + 1, not e. Below width 12 p counts the appended zeros too, and the own
+    // fraction bits don't: 0x4F is 0 1 001 1 11, with 0000 appended.
+    let readings = [
+        (16, 0x0000, Kind::Zero, 0),
+        (16, 0x8000, Kind::NaR, 0),
+        (16, 0x4400, Kind::Number { minus: false, h: 0, m: 3072, p: 11 }, 11),
+        (16, 0xBC00, Kind::Number { minus: true, h: 0, m: 3072, p: 11 }, 11),
+        (16, 0xC000, Kind::Number { minus: true, h: 0, m: 2048, p: 11 }, 11),
+        (16, 0x0001, Kind::Number { minus: false, h: -255, m: 17, p: 4 }, 4),
+        (16, 0x7FFF, Kind::Number { minus: false, h: 254, m: 31, p: 4 }, 4),
+        (12, 0xFFF, Kind::Number { minus: true, h: -254, m: 1, p: 0 }, 0),
+        (8, 0x4F, Kind::Number { minus: false, h: 2, m: 112, p: 6 }, 2),
+        (2, 0b01, Kind::Number { minus: false, h: 0, m: 128, p: 7 }, 0),
+    ];
+    for (width, word, kind, own_fraction_bits) in readings {
+        assert!(read(width, word) == Ok(Reading { kind, own_fraction_bits }), "reading {word:#x} of width {width}");
+    }
 
     assert!(make_width(0) == Err(Refusal::Width) && make_width(65) == Err(Refusal::Width));
     assert!(read(16, 0x10000) == Err(Refusal::Stray));

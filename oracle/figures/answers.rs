@@ -2,7 +2,7 @@
 
 use crate::numbers::binary64::{binary64_in, binary64_out, Binary64, NAN};
 use crate::numbers::whole::{whole_in, whole_out_nearest, whole_out_strict};
-use crate::words::reading::{read, Reading};
+use crate::words::reading::{read, Kind};
 use crate::words::refusals::{make_width, Refusal};
 use crate::words::widths::exact_count_limit;
 use crate::writing::answers::{write, Answers};
@@ -23,7 +23,8 @@ pub fn line_of(question: &str) -> String {
 fn answer_of(question: &str) -> Result<String, Refusal> {
     let parts: Vec<&str> = question.split(' ').collect();
     match parts[..] {
-        ["width", n, "word", w] => Ok(format!(" is {}", value_text(read(decimal(n), hex(w))?))),
+        ["width", n, "word", w] => Ok(format!(" is {}", value_text(read(decimal(n), hex(w))?.kind))),
+        ["width", n, "word", w, "own", "bits"] => Ok(format!(" {}", read(decimal(n), hex(w))?.own_fraction_bits)),
         ["width", n] => Err(make_width(decimal(n)).expect_err("none is asked of a good width")),
         ["width", n, "limit"] => Ok(format!(" {}", exact_count_limit(decimal(n))?)),
         ["width", n, "writing", m, "*", power, rule] => word_by_rule(write(decimal(n), &offer(m, power)), rule),
@@ -55,11 +56,11 @@ fn word_by_rule(answers: Answers, rule: &str) -> Result<String, Refusal> {
 
 /// "A value is said as `M * 2^K` with M odd and its sign before it, `nar` if it is NaR and `0` if it is zero." No sign
 /// is plus, as in the questions.
-fn value_text(reading: Reading) -> String {
-    match reading {
-        Reading::Zero => "0".to_string(),
-        Reading::NaR => "nar".to_string(),
-        Reading::Number { minus, h, m, p } => {
+fn value_text(kind: Kind) -> String {
+    match kind {
+        Kind::Zero => "0".to_string(),
+        Kind::NaR => "nar".to_string(),
+        Kind::Number { minus, h, m, p } => {
             // The size is m * 2^(h-p). Every 2 that divides m goes over into the power.
             let twos = m.trailing_zeros();
             let sign = if minus { "-" } else { "" };

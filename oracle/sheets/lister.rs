@@ -1,7 +1,8 @@
-//! What the lister must print (paper 01, "The lister"; paper 02, Wish 2); written from the papers alone.
+//! What the lister must print (paper 01, "The lister"; paper 02, Wishes 2 and 3); written from the papers alone.
 
 use crate::numbers::whole::whole_out_nearest;
 use crate::sheets::blocks::{read_block, BLOCK_SIZE};
+use crate::words::reading::read;
 use crate::words::refusals::Refusal;
 use std::io::{Result, Write};
 
@@ -17,7 +18,8 @@ pub fn list(input: &[u8], output: &mut impl Write) -> Result<()> {
                 let digits = heading.width as usize / 4;
                 for (position, &word) in words[..heading.count].iter().enumerate() {
                     let whole = whole_text(heading.width, word);
-                    writeln!(output, "{} {position} {word:0digits$x} {whole}", heading.number)?;
+                    let own_bits = own_fraction_bits(heading.width, word);
+                    writeln!(output, "{} {position} {word:0digits$x} {whole} {own_bits}", heading.number)?;
                 }
             }
         }
@@ -33,4 +35,10 @@ fn whole_text(width: u32, word: u64) -> String {
         Err(Refusal::Over) => "over".to_string(),
         Err(refusal) => panic!("a word of a block is never refused {}", refusal as u64),
     }
+}
+
+/// The own fraction bits of the word's reading, also where it is `nar` or `over`; paper 02, Wish 3: "the lister adds it
+/// as a last field".
+fn own_fraction_bits(width: u32, word: u64) -> i64 {
+    read(width, word).expect("a word of a block is never refused").own_fraction_bits
 }

@@ -1,29 +1,46 @@
-//! Reading, order and negation (paper 01, "The word"); written from the papers alone.
+//! Reading, order and negation (paper 01, "The word"; how fine a reading is by paper 02, Wish 3); written from the
+//! papers alone.
 
 use crate::exact::number::Whole;
 use crate::words::refusals::{accept_word, count_of_words, Refusal};
 use crate::words::values::{bits_of, quantities, value, Value, SCALE, SCALED_POWERS};
 use std::cmp::Ordering;
 
-/// The answer of reading a word.
+/// The record that reading a word hands back.
 #[derive(Clone, Debug, PartialEq, Eq)]
-pub enum Reading {
+pub struct Reading {
+    pub kind: Kind,
+    /// "The word's own fraction bits": how many there are.
+    pub own_fraction_bits: i64,
+}
+
+/// What was read: "zero; NaR; or sign, exponent h and significand m".
+#[derive(Clone, Debug, PartialEq, Eq)]
+pub enum Kind {
     Zero,
     NaR,
     /// The size is m * 2^(h-p), with 2^p <= m < 2^(p+1).
     Number { minus: bool, h: i64, m: u64, p: i64 },
 }
 
-/// Reads a word. The sign, h and m are found from the exact value alone; only p is taken from the word's fields.
+/// Reads a word. Paper 02, Wish 3, has 0 own fraction bits "for zero and NaR".
 pub fn read(width: u32, word: u64) -> Result<Reading, Refusal> {
     accept_word(width, word)?;
-    let number = match value(width, word) {
-        Value::NaR => return Ok(Reading::NaR),
-        Value::Number(number) if number.is_zero() => return Ok(Reading::Zero),
-        Value::Number(number) => number,
-    };
+    Ok(match value(width, word) {
+        Value::NaR => Reading { kind: Kind::NaR, own_fraction_bits: 0 },
+        Value::Number(number) if number.is_zero() => Reading { kind: Kind::Zero, own_fraction_bits: 0 },
+        Value::Number(number) => {
+            let bits = bits_of(width, word);
+            Reading { kind: kind_of_number(&number, &bits), own_fraction_bits: own_fraction_bits(width, &bits) }
+        }
+    })
+}
+
+/// What is read of a number. The sign, h and m are found from the exact value alone; only p is taken from the fields of
+/// the word's string.
+fn kind_of_number(number: &Whole, bits: &[bool]) -> Kind {
     let size = number.size();
-    let p = quantities(&bits_of(width, word)).fraction_count;
+    let p = quantities(bits).fraction_count;
     let h = exponent_of_highest_power(&size);
     // The size is m * 2^(h-p), so m is the size divided by 2^(h-p). The division stops the program if it leaves a
     // remainder.
@@ -31,7 +48,22 @@ pub fn read(width: u32, word: u64) -> Result<Reading, Refusal> {
     assert!(Whole::power_of_two(p) <= m && m < Whole::power_of_two(p + 1));
     // As p is at most 59, m is below 2^60.
     let m = m.to_unsigned() as u64;
-    Ok(Reading::Number { minus: number.is_negative(), h, m, p })
+    Kind::Number { minus: number.is_negative(), h, m, p }
+}
+
+/// The own fraction bits of a number: "n - r - 5 for a finite word, or 0 where that is negative, since appended zeros
+/// are no precision" (paper 02, Wish 3). Nothing is subtracted here. Below each bit of the string stands the letter of
+/// its field, in Definition 2's order (S, D, R, C, F). The word's own bits are the first n, and what was appended comes
+/// after them. The letters F below the own bits are counted.
+fn own_fraction_bits(width: u32, bits: &[bool]) -> i64 {
+    let word_is = quantities(bits);
+    let mut letters = "SDRRR".to_string() + &"C".repeat(word_is.regime as usize);
+    while letters.len() < bits.len() {
+        letters.push('F');
+    }
+    let count_of_f = |letters: &str| letters.matches('F').count() as i64;
+    assert!(count_of_f(&letters) == word_is.fraction_count);
+    count_of_f(&letters[..width as usize])
 }
 
 /// The exponent of the highest power of two that is not above the size, by comparing with one power after the other.

@@ -19,6 +19,8 @@ pub enum Value {
 pub struct Quantities {
     /// S: 0 or 1.
     sign: i64,
+    /// r: how many characteristic bits there are.
+    pub regime: i64,
     /// p: how many fraction bits there are.
     pub fraction_count: i64,
     /// uint(F): the fraction bits as a whole number, so f = uint(F) / 2^p.
@@ -81,7 +83,7 @@ pub fn quantities(bits: &[bool]) -> Quantities {
     let exponent = sign_factor * (characteristic + sign);
     assert!((-255..=254).contains(&exponent));
 
-    Quantities { sign, fraction_count, fraction: uint(fraction_bits), characteristic, exponent }
+    Quantities { sign, regime, fraction_count, fraction: uint(fraction_bits), characteristic, exponent }
 }
 
 /// The value of a word of a good width: equation (7).

@@ -1,7 +1,7 @@
 //! The text of what the independent program answers.
 use crate::numbers::binary64::Binary64;
 use crate::sheets::columns::ColumnRefusal;
-use crate::words::reading::Reading;
+use crate::words::reading::{Kind, Reading};
 use crate::words::refusals::Refusal;
 
 /// The text of a refusal: paper 01's number and name.
@@ -37,12 +37,17 @@ pub fn sign(minus: bool) -> &'static str {
     }
 }
 
+/// The text of a reading: what was read, and its own fraction bits, also of zero and NaR.
 pub fn reading(answer: Result<Reading, Refusal>) -> String {
-    text(answer, |reading| match reading {
-        Reading::Zero => "zero".to_string(),
-        Reading::NaR => "nar".to_string(),
-        Reading::Number { minus, h, m, p } => format!("number {} {h} {m} {p}", sign(minus)),
-    })
+    text(answer, |reading| format!("{} {}", kind(reading.kind), reading.own_fraction_bits))
+}
+
+fn kind(kind: Kind) -> String {
+    match kind {
+        Kind::Zero => "zero".to_string(),
+        Kind::NaR => "nar".to_string(),
+        Kind::Number { minus, h, m, p } => format!("number {} {h} {m} {p}", sign(minus)),
+    }
 }
 
 pub fn binary64(answer: Result<Binary64, Refusal>) -> String {

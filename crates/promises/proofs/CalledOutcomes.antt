@@ -16,9 +16,8 @@ use lib.Seq.{ext-getD}
 use Rattle.bounds.specs.Refusals.{IsWord}
 use Rattle.bounds.proofs.Powers.{not-more}
 use Rattle.word.specs.declared.reading.Kind.{Kind}
-use Rattle.word.specs.declared.reading.Reading.{Reading}
 use Rattle.word.specs.Takum.{Takum, real, NaR, takum, fractionBits}
-use Rattle.word.specs.Reads.{num, den, signedSize, IsKind, IsReading}
+use Rattle.word.specs.Reads.{num, den, signedSize, IsKind}
 use Rattle.word.specs.Orders.{opposite}
 use Rattle.word.proofs.Binades.{kind-one}
 use Rattle.word.proofs.Values.{real-inj, not-NaR, words-differ}
@@ -41,7 +40,7 @@ use Rattle.ledusprig.specs.declared.handed.numbers.HandedNumber.{HandedNumber}
 use Rattle.ledusprig.specs.declared.handed.columns.HandedColumn.{HandedColumn}
 use Rattle.ledusprig.specs.declared.handed.columns.HandedBlock.{HandedBlock}
 use Rattle.ledusprig.specs.declared.handed.columns.HandedWriting.{HandedWriting}
-use Rattle.ledusprig.specs.Handed.{kindHanded, readingHanded}
+use Rattle.ledusprig.specs.Handed.{kindHanded}
 use Rattle.promises.specs.Nearest.{OneNumberIsTheNearest}
 use Rattle.promises.specs.Numbers.{IsWhole}
 use Rattle.promises.specs.Refusals.{Line, line, width, stray, nar, over, room, size, mark, check, blockWidth, count, fill, writtenWidth, writtenCount}

@@ -16,9 +16,8 @@ use Rattle.bounds.proofs.Powers.{not-more}
 use Rattle.bounds.proofs.Verdicts.{width-through, word-through, words-through}
 use Rattle.order.specs.declared.order.Comparison.{Comparison}
 use Rattle.word.specs.declared.reading.Kind.{Kind}
-use Rattle.word.specs.declared.reading.Reading.{Reading}
 use Rattle.word.specs.Takum.{Takum, real, NaR, takum, fractionBits, ownFractionBits}
-use Rattle.word.specs.Reads.{IsKind, IsReading, refusedReading, Reads}
+use Rattle.word.specs.Reads.{IsKind, refusedReading, Reads}
 use Rattle.word.specs.Orders.{signed, order, opposite, negated}
 use Rattle.order.specs.Orders.{Compares, Negates}
 use Rattle.word.proofs.Values.{order-of-values, order-same, NaR-below, above-NaR, words-differ, negated-word, negation-negates}

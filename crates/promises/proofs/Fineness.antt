@@ -1,18 +1,17 @@
 -- How fine a reading is: what the bits before the fraction leave of the word, before and after zeros are appended. Assumes nothing.
 use mathlib.Core.Path.{_≡_, refl, sym, ap, _∙_, subst}
-use mathlib.Core.Logic.{inl, inr, ⊎-elim}
+use mathlib.Core.Logic.{⊎-elim}
 use Prim.Native.Nat.{ℕ, _+_, _-_, _*_, _^_, _≤_, _<_}
-use native.Mathlib.Nat.{zero-mul, max-eq-left}
+use native.Mathlib.Nat.{zero-mul}
 use native.Mathlib.Omega.{arith}
 use lib.IntN.{pos}
 use lib.Pow.{pow-pos}
 use Rattle.bounds.specs.declared.answer.Answer.{Answer}
 use Rattle.bounds.specs.Refusals.{IsWord}
 use Rattle.bounds.proofs.Powers.{pow-sum, shl-below}
-use Rattle.word.specs.declared.reading.Kind.{Kind}
 use Rattle.word.specs.declared.reading.Reading.{Reading}
 use Rattle.word.specs.Takum as Takum
-use Rattle.word.specs.Takum.{real, NaR, r, N, padded, takum, fractionBits, ownFractionBits}
+use Rattle.word.specs.Takum.{real, r, N, padded, takum, fractionBits, ownFractionBits}
 use Rattle.word.specs.Reads.{IsNumber, IsKind, Reads}
 use Rattle.word.proofs.Binades.{number-not-zero, number-not-NaR}
 use Rattle.word.proofs.Own.{zero-has-none, NaR-has-none, number-has, same-regime}

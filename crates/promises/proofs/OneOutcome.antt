@@ -15,12 +15,11 @@ use Rattle.order.specs.declared.order.Comparison.{Comparison}
 use Rattle.word.specs.declared.reading.Reading.{Reading}
 use Rattle.bounds.specs.declared.width.Limit.{Limit}
 use Rattle.bounds.specs.declared.width.Made.{Made}
-use Rattle.word.specs.Takum.{takum, fractionBits}
 use Rattle.word.specs.Cuts.{Cuts}
 use Rattle.sizes.specs.Sizes.{Sizes}
 use Rattle.bounds.specs.Refusals.{numberOf, widthTest, wordTest, roomTest, _then_}
 use Rattle.bounds.specs.Widths.{Greatest, greatest, none, IsLimit, Makes, GivesWord, GivesLimit}
-use Rattle.word.specs.Reads.{IsReading, Reads}
+use Rattle.word.specs.Reads.{Reads}
 use Rattle.word.specs.Orders.{signed, order, negated}
 use Rattle.order.specs.Orders.{Compares, Negates}
 use Rattle.bounds.proofs.Answers.{wordOf, GivesAWord}

@@ -3,8 +3,9 @@
 use mathlib.Core.Path.{_≡_, refl, sym, ap, _∙_, subst, subst₃}
 use mathlib.Core.Bool.{Bool, true, false, cond}
 use Prim.Native.Nat.{ℕ, suc, _+_, _-_, _*_, _/_, _^_, _≤_, _<_}
-use native.Mathlib.Nat.{mod-lt, one-mul, mul-one, pow-suc, sub-zero, pos-of-ne-zero, le-antisymm, le-of-suc-le-suc, div-lt-iff-lt-mul}
+use native.Mathlib.Nat.{add-zero, mod-lt, mod-self, mod-eq-of-lt, le-of-eq, lt-of-not-le, one-mul, mul-one, pow-suc, sub-zero, pos-of-ne-zero, le-antisymm, le-of-suc-le-suc, div-lt-iff-lt-mul}
 use native.Mathlib.Numerals.{add-one}
+use native.Mathlib.Decide.{decLe}
 use native.Mathlib.Omega.{arith}
 use borrow.Author.Tests.{eq-eqb, ne-eqb}
 use lib.Dec.{eqb}
@@ -12,6 +13,7 @@ use lib.IntN.{ℤ, pos, negsuc, negℤ, _+ℤ_, _-ℤ_, _*ℤ_, +ℤ-assoc, +ℤ
 use lib.Pow.{pow-pos, pow-add, pow-mono}
 use lib.Signed.{mag}
 use Rattle.word.specs.Takum.{Takum, real, characteristicOf, S, D, r, p, C, F, c, e, value}
+use Rattle.word.specs.Parts.{exponentOf, fractionOf}
 use Rattle.word.specs.Reads.{num, den, IsSize, signedSize, IsNumber}
 use Rattle.bounds.proofs.Powers.{twice}
 use Rattle.word.proofs.Integers.{sub-add, neg-add, neg-mul}
@@ -43,6 +45,16 @@ characteristic-range d r C hr hC = by (eqb d 1)
 pub characteristic-of-string : (n T : ℕ) → mag (c n T) ≤ 254
 unfolding c C
 characteristic-of-string n T = characteristic-range (D n T) (r n T) (C n T) (regime-le n T) (mod-lt (T / 2 ^ p n T) (pow-pos (r n T)))
+
+-- a fraction of p bits stays one
+pub fraction-short : (s : Bool) (p f : ℕ) → f < 2 ^ p → fractionOf s p f < 2 ^ p
+unfolding fractionOf
+fraction-short false p f h = h
+fraction-short true p f h = mod-lt (2 ^ p - f) (pow-pos p)
+
+-- the same number by equal parts
+pub same-number : (t : Takum) (b : ℕ) (s : Bool) {h h' : ℤ} {m m' p p' : ℕ} → h ≡ h' → m ≡ m' → p ≡ p' → IsNumber t b s h' m' p' → IsNumber t b s h m p
+same-number t b s qh qm qp x = subst₃ (λ (h : ℤ) (m p : ℕ). IsNumber t b s h m p) (sym qh) (sym qm) (sym qp) x
 
 module _ (n T : ℕ) (lo : 12 ≤ n) (hi : n ≤ 64) (fits : T < 2 ^ n) where
   K : ℕ
@@ -136,6 +148,20 @@ module _ (n T : ℕ) (lo : 12 ≤ n) (hi : n ≤ 64) (fits : T < 2 ^ n) where
   unfolding S
   sign-one f = le-antisymm (le-of-suc-le-suc (div-lt-iff-lt-mul {x = T} {y = 2} (pow-pos (n - 1)) .1 (omega (arith, twice n (omega arith))))) (pos-of-ne-zero f)
 
--- the same number by equal parts
-pub same-number : (t : Takum) (b : ℕ) (s : Bool) {h h' : ℤ} {m m' p p' : ℕ} → h ≡ h' → m ≡ m' → p ≡ p' → IsNumber t b s h' m' p' → IsNumber t b s h m p
-same-number t b s qh qm qp x = subst₃ (λ (h : ℤ) (m p : ℕ). IsNumber t b s h m p) (sym qh) (sym qm) (sym qp) x
+  -- all three at once
+  pub number-of-string : IsNumber (real (value n T)) (p n T) (eqb (S n T) 1) (exponentOf (eqb (S n T) 1) (c n T) (F n T)) (2 ^ p n T + fractionOf (eqb (S n T) 1) (p n T) (F n T)) (p n T)
+  unfolding exponentOf fractionOf
+  number-of-string = by (decLe (S n T) 0) (decLe (F n T) 0)
+    where
+      none : {x : ℕ} → x ≤ 0 → x ≡ 0
+      none h = omega (arith, h)
+
+      by : Dec (S n T ≤ 0) → Dec (F n T ≤ 0) → IsNumber (real (value n T)) (p n T) (eqb (S n T) 1) (exponentOf (eqb (S n T) 1) (c n T) (F n T)) (2 ^ p n T + fractionOf (eqb (S n T) 1) (p n T) (F n T)) (p n T)
+      by (yes s) d = rw (ne-eqb (S n T) 1 (λ q. omega (arith, s, q))) (positive-number (none s))
+      by (no s) (yes f) =
+          let one = sign-one (λ q. s (le-of-eq q)) in
+          rw (eq-eqb (S n T) 1 one, none f, sub-zero (2 ^ p n T), mod-self (2 ^ p n T)) (same-number _ _ true refl (add-zero (2 ^ p n T)) refl (negative-power one (none f)))
+      by (no s) (no f) =
+          let one = sign-one (λ q. s (le-of-eq q)) in
+          let less : 2 ^ p n T - F n T < 2 ^ p n T = omega (arith, pow-pos (p n T), lt-of-not-le f) in
+          rw (eq-eqb (S n T) 1 one, ne-eqb (F n T) 0 (λ q. f (le-of-eq q)), mod-eq-of-lt less) (negative-number one (λ q. f (le-of-eq q)))

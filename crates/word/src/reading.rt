@@ -9,8 +9,10 @@ use bounds::width::Width;
 ghost use mathlib.Core.Path.{_≡_};
 ghost use Prim.Native.Nat.{_≤_, _<_, _^_};
 ghost use lib.IntN.{pos, _-ℤ_};
+ghost use lib.Signed.{mag};
 ghost use Rattle.word.specs.Takum as Takum;
-ghost use Rattle.word.specs.Takum.{real, orZero};
+ghost use Rattle.word.specs.Takum.{real, N, orZero};
+ghost use Rattle.word.specs.Parts.{exponentOf, fractionOf};
 ghost use Rattle.word.specs.Reads.{IsKind, Reads};
 
 // A number is its sign and the size m * 2^(h - p), with 2^p <= m < 2^(p + 1).
@@ -56,20 +58,25 @@ pub fn read(width: Width, word: u64) -> Reading
             own: 0,
         };
     }
-    if n < 12 {
-        let t = word << (12 - n);
-        return Reading {
-            kind: number(12, t),
-            own: own_bits(n, 12, t),
-        };
-    }
+    let long = string_length(n);
+    let t = word << (long - n);
     Reading {
-        kind: number(n, word),
-        own: own_bits(n, n, word),
+        kind: number(long, t),
+        own: own_bits(n, long, t),
     }
 }
 
-// How many of the n bits of a word that is a number are fraction bits; t is its string of `long` bits, with the zeros that were appended.
+// How long a word's string is: below 12 bits zeros are appended.
+fn string_length(n: u32) -> u32
+    ensures { λ long. ⌜ long ≡ N n ⌝ }
+{
+    if n < 12 {
+        return 12;
+    }
+    n
+}
+
+// How many of the n bits of a word that is a number are fraction bits; t is its string of `long` bits.
 fn own_bits(n: u32, long: u32, t: u64) -> u32
     requires { ⌜ (12 ≤ long) × (long ≤ 64) ⌝ }
     ensures { λ own. ⌜ own ≡ orZero (pos n -ℤ pos (Takum.r long t) -ℤ pos 5) ⌝ }
@@ -81,7 +88,7 @@ fn own_bits(n: u32, long: u32, t: u64) -> u32
     n - others
 }
 
-// The number of a string t of n bits, n at least 12, that is neither zero nor NaR.
+// The number of a string t of n bits, n at least 12, that is neither zero nor NaR. The sign is no branch, since nobody can foretell it.
 fn number(n: u32, t: u64) -> Kind
     requires { ⌜ (12 ≤ n) × (n ≤ 64) × (t < 2 ^ n) ⌝ }
     ensures { λ a. ⌜ IsKind (real (Takum.value n t)) (Takum.p n t) a ⌝ }
@@ -89,28 +96,35 @@ fn number(n: u32, t: u64) -> Kind
     let p = n - regime_of(n, t) - 5;
     let c = characteristic_of(n, t);
     let f = low_bits(t, p);
-    if t >> (n - 1) == 0 {
-        return Kind::Number {
-            negative: false,
-            h: c,
-            m: power_of_two(p) + f,
-            p,
-        };
-    }
-    // With sign 1 the fraction counts up from -2: the size is 2 - f = 1 + (1 - f), and 2 where f is 0.
-    if f == 0 {
-        return Kind::Number {
-            negative: true,
-            h: -c,
-            m: power_of_two(p),
-            p,
-        };
-    }
-    let rest = power_of_two(p) - f;
+    let negative = t >> (n - 1) == 1;
     Kind::Number {
-        negative: true,
-        h: -1 - c,
-        m: power_of_two(p) + rest,
+        negative,
+        h: exponent(negative, c, f),
+        m: power_of_two(p) + fraction(negative, p, f),
         p,
     }
+}
+
+// With sign 1 the fraction counts up from -2: the size is 2 - f = 1 + (1 - f), and 2 where f is 0.
+fn exponent(negative: bool, c: i32, f: u64) -> i32
+    requires { ⌜ mag c ≤ 254 ⌝ }
+    ensures { λ h. ⌜ h ≡ exponentOf negative c f ⌝ }
+{
+    if negative {
+        if f == 0 {
+            return -c;
+        }
+        return -1 - c;
+    }
+    c
+}
+
+fn fraction(negative: bool, p: u32, f: u64) -> u64
+    requires { ⌜ (p < 64) × (f < 2 ^ p) ⌝ }
+    ensures { λ r. ⌜ r ≡ fractionOf negative p f ⌝ }
+{
+    if negative {
+        return low_bits(power_of_two(p) - f, p);
+    }
+    f
 }

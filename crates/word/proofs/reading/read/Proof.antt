@@ -1,10 +1,8 @@
 -- `read` meets its contract: zero and NaR by their words, every other word by the number of its padded string. Assumes nothing.
 use mathlib.Core.Path.{_≡_, refl, sym, ap, ap₂, _∙_, subst₂}
-use Prim.Native.Nat.{ℕ, _+_, _*_, _-_, _%_, _^_, _≤_, _<_}
-use native.Mathlib.Nat.{max-eq-left, max-eq-right, le-of-lt, mul-one, sub-self, lt-of-le-of-lt, le-of-eq}
+use Prim.Native.Nat.{ℕ, _+_, _*_, _-_, _%_, _^_, _≤_, _<_, max}
 use native.Mathlib.Omega.{arith}
 use borrow.Author.Needs.{needs}
-use lib.Dec.{lit≤}
 use lib.IntN.{pos, _-ℤ_}
 use lib.Pow.{shl-exact}
 use Rattle.bounds.specs.Refusals.{wordTest, IsWord, through, refused}
@@ -27,40 +25,30 @@ told c h = sym (c .test-word .ensures) ∙ h
 word-in : (c : tie.After-enum-told) → IsWord (c .before .before .before .args .width .bits) (c .before .before .before .args .word)
 word-in c = word-through _ _ (told (c .before .before) (c .enum-told .given .1))
 
+-- the number of the padded string is the word's, and what is left of the word is its own
 module _ (n w : ℕ) (i : IsWord n w) where
-  -- below 12 bits zeros are appended
-  module _ (short : n < 12) where
-    shifted : w * 2 ^ (12 - n) % 2 ^ 64 ≡ w * 2 ^ (12 - n)
-    shifted = shl-exact n (12 - n) 64 (i .fits) (omega arith)
+  string-fits : padded n w < 2 ^ N n
+  unfolding N padded
+  string-fits = shl-below n (max n 12 - n) (max n 12) (i .fits) (omega arith)
 
-    narrow-fits : w * 2 ^ (12 - n) % 2 ^ 64 < 2 ^ 12
-    narrow-fits = lt-of-le-of-lt (le-of-eq shifted) (shl-below n (12 - n) 12 (i .fits) (omega arith))
+  shifted : (m : ℕ) → m ≡ N n → w * 2 ^ (m - n) % 2 ^ 64 ≡ padded n w
+  unfolding N padded
+  shifted m q = ap (λ (m : ℕ). w * 2 ^ (m - n) % 2 ^ 64) q ∙ shl-exact n (max n 12 - n) 64 (i .fits) (omega (arith, i .most))
 
-  -- the number of the padded string is the word's, and what is left of the word is its own
-  of-string : (w ≡ 0 → ⊥) → (w ≡ 2 ^ (n - 1) → ⊥) → (m x : ℕ) → N n ≡ m → padded n w ≡ x → (a : Reading) → IsKind (real (value m x)) (p m x) (a .kind) → a .own ≡ orZero (pos n -ℤ pos (r m x) -ℤ pos 5)
+  of-string : (w ≡ 0 → ⊥) → (w ≡ 2 ^ (n - 1) → ⊥) → (m x : ℕ) → m ≡ N n → x ≡ padded n w → (a : Reading) → IsKind (real (value m x)) (p m x) (a .kind) → a .own ≡ orZero (pos n -ℤ pos (r m x) -ℤ pos 5)
       → IsReading (takum n w) (fractionBits n w) (ownFractionBits n w) a
   unfolding fractionBits
   of-string f g m x qm qx a h own =
       record {
-        what = subst₂ (λ (t : Takum) (k : ℕ). IsKind t k (a .kind)) (sym (takum-number n w (i .least) (i .most) (i .fits) f g ∙ ap₂ (λ (m x : ℕ). real (value m x)) qm qx)) (sym (ap₂ p qm qx)) h;
-        fine = own ∙ or-zero n (r m x) ∙ ap (λ (k : ℕ). n - (k + 5)) (sym (ap₂ r qm qx)) ∙ sym (number-has n w i f g);
+        what = subst₂ (λ (t : Takum) (k : ℕ). IsKind t k (a .kind)) (ap₂ (λ (m x : ℕ). real (value m x)) qm qx ∙ sym (takum-number n w (i .least) (i .most) (i .fits) f g)) (ap₂ p qm qx) h;
+        fine = own ∙ or-zero n (r m x) ∙ ap (λ (k : ℕ). n - (k + 5)) (ap₂ r qm qx) ∙ sym (number-has n w i f g);
       }
 
-  length-narrow : n < 12 → N n ≡ 12
-  unfolding N
-  length-narrow short = max-eq-right (le-of-lt short)
-
-  length-wide : 12 ≤ n → N n ≡ n
-  unfolding N
-  length-wide long = max-eq-left long
-
-  string-narrow : (short : n < 12) → padded n w ≡ w * 2 ^ (12 - n) % 2 ^ 64
-  unfolding padded
-  string-narrow short = ap (λ (m : ℕ). w * 2 ^ (m - n)) (length-narrow short) ∙ sym (shifted short)
-
-  string-wide : 12 ≤ n → padded n w ≡ w
-  unfolding padded
-  string-wide long = ap (λ (m : ℕ). w * 2 ^ (m - n)) (length-wide long) ∙ ap (λ (m : ℕ). w * 2 ^ m) (sub-self n) ∙ mul-one w
+-- the length of the string
+long : (c : tie.After-string-length) → (c .before .before .before .before .before .before .before .args .width .bits ≤ c .string-length .result) × (12 ≤ c .string-length .result) × (c .string-length .result ≤ 64)
+unfolding N
+long c = let i = word-in (c .before .before .before .before) in
+    (omega (arith, c .string-length .ensures), omega (arith, c .string-length .ensures), omega (arith, c .string-length .ensures, i .most))
 
 test-word-requires : tie.Need-test-word-requires
 test-word-requires c κs = search needs
@@ -91,43 +79,33 @@ returns-3 c = let i = word-in (c .before .before .before) in
     let half = c .if2 .taken ∙ c .before .power-of-two .ensures in
     through (told (c .before .before .before .before .before) (c .before .before .before .enum-told .given .1)) (record { what = takum-NaR _ _ (i .least) (i .most) half; fine = sym (NaR-has-none _ _ half) })
 
+string-length-requires : tie.Need-string-length-requires
+string-length-requires c κs = search needs
+
 sub-t : tie.Need-sub-t
-sub-t c = search needs
+sub-t c = long c .0
 
 cast-t : tie.Need-cast-t
 cast-t c = search needs
 
 shl-t : tie.Need-shl-t
-shl-t c = search needs
+shl-t c = omega (arith, word-in (c .before .before .before .before) .least, long c .2)
 
 number-requires : tie.Need-number-requires
 number-requires c κs = let i = word-in (c .before .before .before .before) in
-    (lit≤ tt, lit≤ tt, narrow-fits _ _ i (c .if3 .taken))
+    let l = c .string-length .ensures in
+    (long c .1, long c .2, subst₂ (λ (x m : ℕ). x < 2 ^ m) (sym (shifted _ _ i _ l)) (sym l) (string-fits _ _ i))
 
 own-bits-requires : tie.Need-own-bits-requires
-own-bits-requires c κs = search needs
+own-bits-requires c κs = (long (c .before) .1, long (c .before) .2)
 
 returns-4 : tie.Need-returns-4
 unfolding Reads
 returns-4 c = let s = c .before .before in
     let i = word-in (s .before .before .before .before) in
-    let short = s .if3 .taken in
-    through (told (s .before .before .before .before .before .before) (s .before .before .before .before .enum-told .given .1)) (of-string _ _ i (s .before .before .before .if1 .left) (λ q. s .before .if2 .left (q ∙ sym (s .before .before .power-of-two .ensures))) _ _ (length-narrow _ _ i short) (string-narrow _ _ i short) _ (c .before .number .ensures) (c .own-bits .ensures))
-
-number-requires-2 : tie.Need-number-requires-2
-number-requires-2 c κs = let i = word-in (c .before .before .before .before) in
-    (c .if3 .left, i .most, i .fits)
-
-own-bits-requires-2 : tie.Need-own-bits-requires-2
-own-bits-requires-2 c κs = let i = word-in (c .before .before .before .before .before) in
-    (c .before .if3 .left, i .most)
-
-returns-5 : tie.Need-returns-5
-unfolding Reads
-returns-5 c = let s = c .before .before in
-    let i = word-in (s .before .before .before .before) in
-    let long = s .if3 .left in
-    through (told (s .before .before .before .before .before .before) (s .before .before .before .before .enum-told .given .1)) (of-string _ _ i (s .before .before .before .if1 .left) (λ q. s .before .if2 .left (q ∙ sym (s .before .before .power-of-two .ensures))) _ _ (length-wide _ _ i long) (string-wide _ _ i long) _ (c .before .number2 .ensures) (c .own-bits2 .ensures))
+    let l = s .string-length .ensures in
+    through (told (s .before .before .before .before .before .before) (s .before .before .before .before .enum-told .given .1))
+    (of-string _ _ i (s .before .before .before .if1 .left) (λ q. s .before .if2 .left (q ∙ sym (s .before .before .power-of-two .ensures))) _ _ l (shifted _ _ i _ l) _ (c .before .number .ensures) (c .own-bits .ensures))
 
 pub read-spec : {M : Type 1} → statement M
 read-spec =
@@ -141,12 +119,10 @@ read-spec =
     sub-power-of-two
     power-of-two-requires
     returns-3
+    string-length-requires
     sub-t
     cast-t
     shl-t
     number-requires
     own-bits-requires
-    returns-4
-    number-requires-2
-    own-bits-requires-2
-    returns-5)
+    returns-4)

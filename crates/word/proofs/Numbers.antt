@@ -1,23 +1,22 @@
 -- The number of a string from its fields, as reading gives it: sign 0; sign 1 with a fraction of 0, whose size is the next power of two; sign 1
 -- with another fraction, which counts up from -2. Assumes nothing.
-use mathlib.Core.Path.{_≡_, refl, sym, ap, _∙_, subst, subst₃}
+use mathlib.Core.Path.{_≡_, refl, sym, ap, ap₂, _∙_, subst, subst₃}
 use mathlib.Core.Bool.{Bool, true, false, cond}
-use Prim.Native.Nat.{ℕ, suc, _+_, _-_, _*_, _/_, _^_, _≤_, _<_}
-use native.Mathlib.Nat.{add-zero, mod-lt, mod-self, mod-eq-of-lt, le-of-eq, lt-of-not-le, one-mul, mul-one, pow-suc, sub-zero, pos-of-ne-zero, le-antisymm, le-of-suc-le-suc, div-lt-iff-lt-mul}
+use Prim.Native.Nat.{ℕ, suc, _+_, _-_, _*_, _/_, _%_, _^_, _≤_, _<_}
+use native.Mathlib.Nat.{add-zero, div-self, div-eq-of-lt, mod-lt, mod-self, mod-eq-of-lt, le-of-eq, lt-of-not-le, one-mul, mul-one, pow-suc, sub-zero, pos-of-ne-zero, le-antisymm, le-of-suc-le-suc, div-lt-iff-lt-mul}
 use native.Mathlib.Numerals.{add-one}
 use native.Mathlib.Decide.{decLe}
 use native.Mathlib.Omega.{arith}
 use borrow.Author.Tests.{eq-eqb, ne-eqb}
 use lib.Dec.{eqb}
-use lib.IntN.{ℤ, pos, negsuc, negℤ, _+ℤ_, _-ℤ_, _*ℤ_, +ℤ-assoc, +ℤ-comm, negℤ-+ℤ, -ℤ-+ℤ-cancel}
+use lib.IntN.{ℤ, pos, negsuc, negℤ, _+ℤ_, _-ℤ_, _*ℤ_, +ℤ-assoc, +ℤ-comm, +ℤ-idr, negℤ-+ℤ, -ℤ-+ℤ-cancel}
 use lib.Pow.{pow-pos, pow-add, pow-mono}
 use lib.Signed.{mag}
 use Rattle.word.specs.Takum.{Takum, real, characteristicOf, S, D, r, p, C, F, c, e, value}
-use Rattle.word.specs.Parts.{exponentOf, fractionOf}
 use Rattle.word.specs.Reads.{num, den, IsSize, signedSize, IsNumber}
 use Rattle.bounds.proofs.Powers.{twice}
 use Rattle.word.proofs.Integers.{sub-add, neg-add, neg-mul}
-use Rattle.word.proofs.Signed.{difference, short-by}
+use Rattle.word.proofs.Signed.{difference, short-by, sub-mag}
 use Rattle.word.proofs.Cut.{regime-le}
 use Rattle.word.proofs.Meaning.{value-at, exponent-whole}
 
@@ -46,11 +45,13 @@ pub characteristic-of-string : (n T : ℕ) → mag (c n T) ≤ 254
 unfolding c C
 characteristic-of-string n T = characteristic-range (D n T) (r n T) (C n T) (regime-le n T) (mod-lt (T / 2 ^ p n T) (pow-pos (r n T)))
 
--- a fraction of p bits stays one
-pub fraction-short : (s : Bool) (p f : ℕ) → f < 2 ^ p → fractionOf s p f < 2 ^ p
-unfolding fractionOf
-fraction-short false p f h = h
-fraction-short true p f h = mod-lt (2 ^ p - f) (pow-pos p)
+pub exponent-of-string : (n T : ℕ) → mag (e n T) ≤ 256
+unfolding e
+exponent-of-string n T = by (eqb (S n T) 1)
+  where
+    by : (s : Bool) → mag (cond s (negℤ (c n T +ℤ pos 1)) (c n T)) ≤ 256
+    by true = omega (arith, ap mag (negℤ-+ℤ (c n T) (pos 1) ∙ +ℤ-comm (negℤ (c n T)) (negsuc 0)), sub-mag (negsuc 0) (c n T), characteristic-of-string n T)
+    by false = omega (arith, characteristic-of-string n T)
 
 -- the same number by equal parts
 pub same-number : (t : Takum) (b : ℕ) (s : Bool) {h h' : ℤ} {m m' p p' : ℕ} → h ≡ h' → m ≡ m' → p ≡ p' → IsNumber t b s h' m' p' → IsNumber t b s h m p
@@ -106,6 +107,10 @@ module _ (n T : ℕ) (lo : 12 ≤ n) (hi : n ≤ 64) (fits : T < 2 ^ n) where
   unfolding e
   negative s = rw (eq-eqb (S n T) 1 s)
 
+  -- where the fraction is 0 the exponent is one more
+  next : S n T ≡ 1 → negℤ (c n T) ≡ e n T +ℤ pos 1
+  next s = sym (ap (λ (z : ℤ). z +ℤ pos 1) (negative s ∙ negℤ-+ℤ (c n T) (pos 1)) ∙ -ℤ-+ℤ-cancel (negℤ (c n T)) (pos 1))
+
   pub negative-power : S n T ≡ 1 → F n T ≡ 0 → IsNumber (real (value n T)) (p n T) true (negℤ (c n T)) (2 ^ p n T) (p n T)
   negative-power s f =
       record {
@@ -117,12 +122,9 @@ module _ (n T : ℕ) (lo : 12 ≤ n) (hi : n ≤ 64) (fits : T < 2 ^ n) where
         high = omega (arith, double, pow-pos (p n T));
       }
     where
-      above : negℤ (c n T) ≡ e n T +ℤ pos 1
-      above = sym (ap (λ (z : ℤ). z +ℤ pos 1) (negative s ∙ negℤ-+ℤ (c n T) (pos 1)) ∙ -ℤ-+ℤ-cancel (negℤ (c n T)) (pos 1))
-
       up : negℤ (c n T) -ℤ pos (p n T) +ℤ pos 307 ≡ pos (suc K)
       up =
-          ap (λ (z : ℤ). z -ℤ pos (p n T) +ℤ pos 307) above ∙ ap (λ (z : ℤ). z +ℤ pos 307) (sym (sub-add (e n T) (pos (p n T)) (pos 1)))
+          ap (λ (z : ℤ). z -ℤ pos (p n T) +ℤ pos 307) (next s) ∙ ap (λ (z : ℤ). z +ℤ pos 307) (sym (sub-add (e n T) (pos (p n T)) (pos 1)))
           ∙ +ℤ-assoc (e n T -ℤ pos (p n T)) (pos 1) (pos 307) ∙ sym (+ℤ-assoc (e n T -ℤ pos (p n T)) (pos 307) (pos 1))
           ∙ ap (λ (z : ℤ). z +ℤ pos 1) whole ∙ ap pos (add-one K)
 
@@ -148,20 +150,31 @@ module _ (n T : ℕ) (lo : 12 ≤ n) (hi : n ≤ 64) (fits : T < 2 ^ n) where
   unfolding S
   sign-one f = le-antisymm (le-of-suc-le-suc (div-lt-iff-lt-mul {x = T} {y = 2} (pow-pos (n - 1)) .1 (omega (arith, twice n (omega arith))))) (pos-of-ne-zero f)
 
+  -- what the size has above 1, in steps of the last of p bits; where that is 1, the exponent is one more
+  unfoldable pub above-one : ℕ
+  above-one = cond (eqb (S n T) 1) (2 ^ p n T - F n T) (F n T)
+
   -- all three at once
-  pub number-of-string : IsNumber (real (value n T)) (p n T) (eqb (S n T) 1) (exponentOf (eqb (S n T) 1) (c n T) (F n T)) (2 ^ p n T + fractionOf (eqb (S n T) 1) (p n T) (F n T)) (p n T)
-  unfolding exponentOf fractionOf
+  pub number-of-string : IsNumber (real (value n T)) (p n T) (eqb (S n T) 1) (e n T +ℤ pos (above-one / 2 ^ p n T)) (2 ^ p n T + above-one % 2 ^ p n T) (p n T)
+  unfolding above-one
   number-of-string = by (decLe (S n T) 0) (decLe (F n T) 0)
     where
       none : {x : ℕ} → x ≤ 0 → x ≡ 0
       none h = omega (arith, h)
 
-      by : Dec (S n T ≤ 0) → Dec (F n T ≤ 0) → IsNumber (real (value n T)) (p n T) (eqb (S n T) 1) (exponentOf (eqb (S n T) 1) (c n T) (F n T)) (2 ^ p n T + fractionOf (eqb (S n T) 1) (p n T) (F n T)) (p n T)
-      by (yes s) d = rw (ne-eqb (S n T) 1 (λ q. omega (arith, s, q))) (positive-number (none s))
+      Is : Bool → ℕ → Type 0
+      Is s x = IsNumber (real (value n T)) (p n T) s (e n T +ℤ pos (x / 2 ^ p n T)) (2 ^ p n T + x % 2 ^ p n T) (p n T)
+
+      short : (s : Bool) (h : ℤ) (x : ℕ) → x < 2 ^ p n T → e n T ≡ h → IsNumber (real (value n T)) (p n T) s h (2 ^ p n T + x) (p n T) → Is s x
+      short s h x l q k = same-number _ _ s (ap₂ (λ (z : ℤ) (i : ℕ). z +ℤ pos i) q (div-eq-of-lt l) ∙ +ℤ-idr h) (ap (λ (i : ℕ). 2 ^ p n T + i) (mod-eq-of-lt l)) refl k
+
+      by : Dec (S n T ≤ 0) → Dec (F n T ≤ 0) → Is (eqb (S n T) 1) (cond (eqb (S n T) 1) (2 ^ p n T - F n T) (F n T))
+      by (yes s) d = rw (ne-eqb (S n T) 1 (λ q. omega (arith, s, q))) (short false (c n T) (F n T) fraction-lt (same (none s)) (positive-number (none s)))
       by (no s) (yes f) =
           let one = sign-one (λ q. s (le-of-eq q)) in
-          rw (eq-eqb (S n T) 1 one, none f, sub-zero (2 ^ p n T), mod-self (2 ^ p n T)) (same-number _ _ true refl (add-zero (2 ^ p n T)) refl (negative-power one (none f)))
+          rw (eq-eqb (S n T) 1 one, none f, sub-zero (2 ^ p n T))
+          (same-number _ _ true (ap (λ (i : ℕ). e n T +ℤ pos i) (div-self (pow-pos (p n T))) ∙ sym (next one)) (ap (λ (i : ℕ). 2 ^ p n T + i) (mod-self (2 ^ p n T)) ∙ add-zero (2 ^ p n T)) refl (negative-power one (none f)))
       by (no s) (no f) =
           let one = sign-one (λ q. s (le-of-eq q)) in
-          let less : 2 ^ p n T - F n T < 2 ^ p n T = omega (arith, pow-pos (p n T), lt-of-not-le f) in
-          rw (eq-eqb (S n T) 1 one, ne-eqb (F n T) 0 (λ q. f (le-of-eq q)), mod-eq-of-lt less) (negative-number one (λ q. f (le-of-eq q)))
+          rw (eq-eqb (S n T) 1 one)
+          (short true (negsuc 0 -ℤ c n T) (2 ^ p n T - F n T) (omega (arith, pow-pos (p n T), lt-of-not-le f)) (negative one ∙ negℤ-+ℤ (c n T) (pos 1) ∙ +ℤ-comm (negℤ (c n T)) (negsuc 0)) (negative-number one (λ q. f (le-of-eq q))))

@@ -1,6 +1,5 @@
 -- What the contracts of this crate cite.
 pub mod Cuts
 pub mod Orders
-pub mod Parts
 pub mod Reads
 pub mod Takum

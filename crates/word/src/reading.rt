@@ -6,13 +6,13 @@ use crate::fields::regime_of;
 use bounds::refusal::Refusal;
 use bounds::refusal::Verdict;
 use bounds::width::Width;
+ghost use mathlib.Core.Bool.{cond};
 ghost use mathlib.Core.Path.{_≡_};
-ghost use Prim.Native.Nat.{_≤_, _<_, _^_};
-ghost use lib.IntN.{pos, _-ℤ_};
+ghost use Prim.Native.Nat.{_-_, _≤_, _<_, _^_};
+ghost use lib.IntN.{pos, negℤ, _+ℤ_, _-ℤ_};
 ghost use lib.Signed.{mag};
 ghost use Rattle.word.specs.Takum as Takum;
 ghost use Rattle.word.specs.Takum.{real, N, orZero};
-ghost use Rattle.word.specs.Parts.{exponentOf, fractionOf};
 ghost use Rattle.word.specs.Reads.{IsKind, Reads};
 
 // A number is its sign and the size m * 2^(h - p), with 2^p <= m < 2^(p + 1).
@@ -88,43 +88,39 @@ fn own_bits(n: u32, long: u32, t: u64) -> u32
     n - others
 }
 
-// The number of a string t of n bits, n at least 12, that is neither zero nor NaR. The sign is no branch, since nobody can foretell it.
+// The number of a string t of n bits, n at least 12, that is neither zero nor NaR. With sign 1 the fraction counts up from -2: the size is 2 - f, which
+// is 1 + (1 - f), or where f is 0 the next power of two. The sign is no branch, since nobody can foretell it.
 fn number(n: u32, t: u64) -> Kind
     requires { ⌜ (12 ≤ n) × (n ≤ 64) × (t < 2 ^ n) ⌝ }
     ensures { λ a. ⌜ IsKind (real (Takum.value n t)) (Takum.p n t) a ⌝ }
 {
     let p = n - regime_of(n, t) - 5;
-    let c = characteristic_of(n, t);
-    let f = low_bits(t, p);
     let negative = t >> (n - 1) == 1;
+    let above_one = fraction(negative, p, low_bits(t, p));
     Kind::Number {
         negative,
-        h: exponent(negative, c, f),
-        m: power_of_two(p) + fraction(negative, p, f),
+        h: exponent(negative, characteristic_of(n, t)) + (above_one >> p) as i32,
+        m: power_of_two(p) + low_bits(above_one, p),
         p,
     }
 }
 
-// With sign 1 the fraction counts up from -2: the size is 2 - f = 1 + (1 - f), and 2 where f is 0.
-fn exponent(negative: bool, c: i32, f: u64) -> i32
-    requires { ⌜ mag c ≤ 254 ⌝ }
-    ensures { λ h. ⌜ h ≡ exponentOf negative c f ⌝ }
+fn fraction(negative: bool, p: u32, f: u64) -> u64
+    requires { ⌜ (p < 64) × (f < 2 ^ p) ⌝ }
+    ensures { λ r. ⌜ r ≡ cond negative (2 ^ p - f) f ⌝ }
 {
     if negative {
-        if f == 0 {
-            return -c;
-        }
+        return power_of_two(p) - f;
+    }
+    f
+}
+
+fn exponent(negative: bool, c: i32) -> i32
+    requires { ⌜ mag c ≤ 254 ⌝ }
+    ensures { λ e. ⌜ e ≡ cond negative (negℤ (c +ℤ pos 1)) c ⌝ }
+{
+    if negative {
         return -1 - c;
     }
     c
-}
-
-fn fraction(negative: bool, p: u32, f: u64) -> u64
-    requires { ⌜ (p < 64) × (f < 2 ^ p) ⌝ }
-    ensures { λ r. ⌜ r ≡ fractionOf negative p f ⌝ }
-{
-    if negative {
-        return low_bits(power_of_two(p) - f, p);
-    }
-    f
 }

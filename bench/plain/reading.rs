@@ -26,7 +26,7 @@ pub fn read_word(n: u32, word: u64) -> Result<Reading, u32> {
     let bits = ((string ^ down) << 5 >> 1 >> (63 - r)) as i32;
     let c = ((1 << r) - 1 + bits) ^ down as i32;
     let f = string << 5 << r;
-    // With sign 1 the fraction counts up from -2: the size is 2 - f, and only where f is 0 a power of two higher.
+    // With sign 1 the fraction counts up from -2: the size is 2 - f, which is 1 + (1 - f), or where f is 0 the next power of two.
     let negative = string >= TOP;
     let h = if negative { -c - (f != 0) as i32 } else { c };
     let fraction = if negative { f.wrapping_neg() } else { f };

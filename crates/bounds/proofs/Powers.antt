@@ -34,8 +34,11 @@ pub one-shl : (b l : ℕ) → l < b → 1 * 2 ^ l % 2 ^ b ≡ 2 ^ l
 one-shl b l h = shl-exact {a = 1} 1 l b (lit< tt) (omega (arith, h)) ∙ one-mul (2 ^ l)
 
 -- a shift to the left in 64 bits loses the bits at the top
+pub shl-mod : (m j k : ℕ) → m * 2 ^ k % 2 ^ (j + k) ≡ m % 2 ^ j * 2 ^ k
+shl-mod m j k = mod-pow-add (m * 2 ^ k) j k ∙ ap₂ (λ (x y : ℕ). x % 2 ^ j * 2 ^ k + y) (shl-shr m k) (mul-mod-left m (2 ^ k)) ∙ omega arith
+
 pub shl-out : (m k : ℕ) → k ≤ 64 → m * 2 ^ k % 2 ^ 64 ≡ m % 2 ^ (64 - k) * 2 ^ k
-shl-out m k h = ap (λ (j : ℕ). m * 2 ^ k % 2 ^ j) whole ∙ mod-pow-add (m * 2 ^ k) (64 - k) k ∙ ap₂ (λ (x y : ℕ). x % 2 ^ (64 - k) * 2 ^ k + y) (shl-shr m k) (mul-mod-left m (2 ^ k)) ∙ omega arith
+shl-out m k h = ap (λ (j : ℕ). m * 2 ^ k % 2 ^ j) whole ∙ shl-mod m (64 - k) k
   where
     whole : 64 ≡ 64 - k + k
     whole = omega (arith, h)

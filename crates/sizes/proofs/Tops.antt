@@ -1,13 +1,13 @@
 -- A word at the top of 64 bits: the string without its sign has the word's size in the normal form. Assumes nothing.
 use mathlib.Core.Path.{_≡_, refl, sym, ap, ap₂, _∙_, subst, subst₂}
-use mathlib.Core.Bool.{Bool, false}
-use Prim.Native.Nat.{ℕ, _+_, _-_, _*_, _%_, _^_, _≤_, _<_}
-use native.Mathlib.Nat.{add-mul, mul-comm, mul-one, mul-sub, mul-lt-mul-of-pos-right, div-eq-of-lt, eq-of-mul-eq-mul-right, le-of-lt, le-of-eq, lt-of-lt-of-le}
+use mathlib.Core.Bool.{false}
+use Prim.Native.Nat.{ℕ, _+_, _-_, _*_, _^_, _≤_, _<_}
+use native.Mathlib.Nat.{add-mul, mul-comm, mul-one, mul-sub, mul-lt-mul-of-pos-right, div-eq-of-lt, le-of-lt, le-of-eq, lt-of-lt-of-le}
 use native.Mathlib.Omega.{arith}
 use borrow.Author.Tests.{lt-ltb, le-ltb}
 use lib.Dec.{ltb, lit≤}
 use lib.IntN.{ℤ, pos, negℤ, natAbs, _-ℤ_}
-use lib.Pow.{pow-pos, shl-exact}
+use lib.Pow.{pow-pos}
 use Rattle.bounds.specs.Refusals.{IsWord}
 use Rattle.sizes.specs.declared.size.Size.{Size}
 use Rattle.word.specs.Takum.{real, S, p, F, c, value, takum}
@@ -16,6 +16,7 @@ use Rattle.sizes.specs.Sizes.{withoutSign, Sizes}
 use Rattle.bounds.proofs.Powers.{pow-sum, shl-below}
 use Rattle.word.proofs.Sizes.{size}
 use Rattle.word.proofs.Meaning.{string-positive}
+use Rattle.word.proofs.Top.{NaR-shifted}
 use Rattle.word.proofs.Words.{Lies, at-zero, above, at-NaR, under, lies, takum-positive, takum-negative}
 use Rattle.word.proofs.Values.{real-inj}
 use Rattle.word.proofs.Numbers.{positive-number, same-number}
@@ -61,19 +62,9 @@ module _ (u : ℕ) (half : u < 2 ^ 63) where
       }
 
 -- ---- a word of any width
-pub nar-shifted : (n : ℕ) → 2 ≤ n → n ≤ 64 → 2 ^ (n - 1) * 2 ^ (64 - n) ≡ 2 ^ 63
-nar-shifted n lo hi = pow-sum (n - 1) (64 - n) 63 (omega (arith, lo, hi))
-
 module _ (n w : ℕ) (i : IsWord n w) where
   T : ℕ
   T = w * 2 ^ (64 - n)
-
-  -- a word that is shifted to the top loses nothing, and NaR is the same there
-  pub shifted-is : w * 2 ^ (64 - n) % 2 ^ 64 ≡ w * 2 ^ (64 - n)
-  shifted-is = shl-exact n (64 - n) 64 (i .fits) (omega (arith, i .most))
-
-  pub NaR-at-top : w * 2 ^ (64 - n) % 2 ^ 64 ≡ 2 ^ 63 → w ≡ 2 ^ (n - 1)
-  NaR-at-top q = eq-of-mul-eq-mul-right (2 ^ (64 - n)) (pow-pos (64 - n)) w (2 ^ (n - 1)) (sym shifted-is ∙ q ∙ sym (nar-shifted n (i .least) (i .most)))
 
   -- the complement of a word, shifted, is that of its string
   complement : (2 ^ n - w) * 2 ^ (64 - n) ≡ 2 ^ 63 + 2 ^ 63 - T
@@ -93,7 +84,7 @@ module _ (n w : ℕ) (i : IsWord n w) where
             rw (lt-ltb T (2 ^ 63) low, le-ltb (2 ^ 63) T (le-of-lt low)) (low, takum-positive n w (i .least) (i .most) h b)
         by (at-NaR q) = absurd (other q)
         by (under b) =
-            let high : 2 ^ 63 < T = subst (λ (x : ℕ). x < T) (nar-shifted n (i .least) (i .most)) (mul-lt-mul-of-pos-right b (pow-pos (64 - n))) in
+            let high : 2 ^ 63 < T = subst (λ (x : ℕ). x < T) (NaR-shifted n (i .least) (i .most)) (mul-lt-mul-of-pos-right b (pow-pos (64 - n))) in
             rw (le-ltb T (2 ^ 63) (le-of-lt high), lt-ltb (2 ^ 63) T high) (omega (arith, high), takum-negative n w (i .least) (i .most) b (i .fits) ∙ ap (λ (x : ℕ). real (negℤ (pos (size x)))) complement)
 
     -- so the word's number is the string's, with its sign
@@ -101,5 +92,4 @@ module _ (n w : ℕ) (i : IsWord n w) where
     unfolding T string-number
     word-number s x =
         let y = string-number (withoutSign (2 ^ 63) T) (by-string .0) in
-        subst (λ (b : Bool). IsNumber (takum n w) 63 b (s .h) (s .m) 63) (sym (x .sign))
-        (same-number (takum n w) 63 (ltb (2 ^ 63) T) (x .characteristic) (x .significand) refl (record { v = y .v; means = by-string .1; size = y .size; count = refl; low = y .low; high = y .high }))
+        same-number (takum n w) 63 (x .sign) (x .characteristic) (x .significand) refl (record { v = y .v; means = by-string .1; size = y .size; count = refl; low = y .low; high = y .high })

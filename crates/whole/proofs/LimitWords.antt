@@ -22,7 +22,7 @@ use Rattle.nearest.specs.Nearest.{HasValue}
 use Rattle.nearest.proofs.Places.{wordOf, Place, has-value, place-of}
 use Rattle.round.proofs.Rules.{zero-value}
 use Rattle.round.proofs.Sized.{has-form}
-use Rattle.sizes.proofs.Tops.{nar-shifted}
+use Rattle.word.proofs.Top.{NaR-shifted}
 use Rattle.whole.specs.Limits as promise
 use Rattle.whole.proofs.LimitBinades.{beginning, WholeBinade, whole-binade}
 use Rattle.whole.proofs.LimitStrings.{wholeBits, whole-some, whole-below, whole-size}
@@ -49,7 +49,7 @@ module _ (n : ℕ) (lo : 2 ≤ n) (hi : n ≤ 64) where
   word-of-string s w u z cut some below is = subst (λ (x : ℕ). HasValue n s x (wordOf n s w)) (grown-suc n w some ∙ ap size cut ∙ is) (has-value n lo hi s w some short)
     where
       short : w < 2 ^ (n - 1)
-      short = lt-of-mul-lt-mul-right (2 ^ (64 - n)) (subst₂ (λ (x y : ℕ). x < y) (sym cut) (sym (nar-shifted n lo hi)) below)
+      short = lt-of-mul-lt-mul-right (2 ^ (64 - n)) (subst₂ (λ (x y : ℕ). x < y) (sym cut) (sym (NaR-shifted n lo hi)) below)
 
   -- 1 has a word at every width, also where no number is one of the rule
   one-has-a-word : (s : Bool) → HasValue n s (1 * 2 ^ 307) (wordOf n s (2 ^ (n - 2)))

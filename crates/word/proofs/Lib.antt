@@ -20,6 +20,8 @@ pub mod Own
 pub mod Values
 -- the number of a string from its fields, as reading gives it
 pub mod Numbers
+-- a word and its string at the top of 64 bits, with zeros behind them
+pub mod Top
 -- one size in two units: a power of two moves between significand and exponent
 pub mod Units
 -- a word that is neither zero nor NaR is a number: sign, exponent and significand

@@ -54,8 +54,12 @@ exponent-of-string n T = by (eqb (S n T) 1)
     by false = omega (arith, characteristic-of-string n T)
 
 -- the same number by equal parts
-pub same-number : (t : Takum) (b : ℕ) (s : Bool) {h h' : ℤ} {m m' p p' : ℕ} → h ≡ h' → m ≡ m' → p ≡ p' → IsNumber t b s h' m' p' → IsNumber t b s h m p
-same-number t b s qh qm qp x = subst₃ (λ (h : ℤ) (m p : ℕ). IsNumber t b s h m p) (sym qh) (sym qm) (sym qp) x
+pub same-number : (t : Takum) (b : ℕ) {s s' : Bool} {h h' : ℤ} {m m' p p' : ℕ} → s ≡ s' → h ≡ h' → m ≡ m' → p ≡ p' → IsNumber t b s' h' m' p' → IsNumber t b s h m p
+same-number t b {s} {h' = h'} {m' = m'} {p' = p'} qs qh qm qp x = subst₃ (λ (h : ℤ) (m p : ℕ). IsNumber t b s h m p) (sym qh) (sym qm) (sym qp) (subst (λ (s : Bool). IsNumber t b s h' m' p') (sym qs) x)
+
+-- what the size has above 1, in steps of the last of p bits; where that is 1, the exponent is one more
+unfoldable pub above-one : ℕ → ℕ → ℕ
+above-one n T = cond (eqb (S n T) 1) (2 ^ p n T - F n T) (F n T)
 
 module _ (n T : ℕ) (lo : 12 ≤ n) (hi : n ≤ 64) (fits : T < 2 ^ n) where
   K : ℕ
@@ -150,12 +154,8 @@ module _ (n T : ℕ) (lo : 12 ≤ n) (hi : n ≤ 64) (fits : T < 2 ^ n) where
   unfolding S
   sign-one f = le-antisymm (le-of-suc-le-suc (div-lt-iff-lt-mul {x = T} {y = 2} (pow-pos (n - 1)) .1 (omega (arith, twice n (omega arith))))) (pos-of-ne-zero f)
 
-  -- what the size has above 1, in steps of the last of p bits; where that is 1, the exponent is one more
-  unfoldable pub above-one : ℕ
-  above-one = cond (eqb (S n T) 1) (2 ^ p n T - F n T) (F n T)
-
   -- all three at once
-  pub number-of-string : IsNumber (real (value n T)) (p n T) (eqb (S n T) 1) (e n T +ℤ pos (above-one / 2 ^ p n T)) (2 ^ p n T + above-one % 2 ^ p n T) (p n T)
+  pub number-of-string : IsNumber (real (value n T)) (p n T) (eqb (S n T) 1) (e n T +ℤ pos (above-one n T / 2 ^ p n T)) (2 ^ p n T + above-one n T % 2 ^ p n T) (p n T)
   unfolding above-one
   number-of-string = by (decLe (S n T) 0) (decLe (F n T) 0)
     where
@@ -166,14 +166,14 @@ module _ (n T : ℕ) (lo : 12 ≤ n) (hi : n ≤ 64) (fits : T < 2 ^ n) where
       Is s x = IsNumber (real (value n T)) (p n T) s (e n T +ℤ pos (x / 2 ^ p n T)) (2 ^ p n T + x % 2 ^ p n T) (p n T)
 
       short : (s : Bool) (h : ℤ) (x : ℕ) → x < 2 ^ p n T → e n T ≡ h → IsNumber (real (value n T)) (p n T) s h (2 ^ p n T + x) (p n T) → Is s x
-      short s h x l q k = same-number _ _ s (ap₂ (λ (z : ℤ) (i : ℕ). z +ℤ pos i) q (div-eq-of-lt l) ∙ +ℤ-idr h) (ap (λ (i : ℕ). 2 ^ p n T + i) (mod-eq-of-lt l)) refl k
+      short s h x l q k = same-number _ _ refl (ap₂ (λ (z : ℤ) (i : ℕ). z +ℤ pos i) q (div-eq-of-lt l) ∙ +ℤ-idr h) (ap (λ (i : ℕ). 2 ^ p n T + i) (mod-eq-of-lt l)) refl k
 
       by : Dec (S n T ≤ 0) → Dec (F n T ≤ 0) → Is (eqb (S n T) 1) (cond (eqb (S n T) 1) (2 ^ p n T - F n T) (F n T))
       by (yes s) d = rw (ne-eqb (S n T) 1 (λ q. omega (arith, s, q))) (short false (c n T) (F n T) fraction-lt (same (none s)) (positive-number (none s)))
       by (no s) (yes f) =
           let one = sign-one (λ q. s (le-of-eq q)) in
           rw (eq-eqb (S n T) 1 one, none f, sub-zero (2 ^ p n T))
-          (same-number _ _ true (ap (λ (i : ℕ). e n T +ℤ pos i) (div-self (pow-pos (p n T))) ∙ sym (next one)) (ap (λ (i : ℕ). 2 ^ p n T + i) (mod-self (2 ^ p n T)) ∙ add-zero (2 ^ p n T)) refl (negative-power one (none f)))
+          (same-number _ _ refl (ap (λ (i : ℕ). e n T +ℤ pos i) (div-self (pow-pos (p n T))) ∙ sym (next one)) (ap (λ (i : ℕ). 2 ^ p n T + i) (mod-self (2 ^ p n T)) ∙ add-zero (2 ^ p n T)) refl (negative-power one (none f)))
       by (no s) (no f) =
           let one = sign-one (λ q. s (le-of-eq q)) in
           rw (eq-eqb (S n T) 1 one)

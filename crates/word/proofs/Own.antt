@@ -1,15 +1,15 @@
 -- How many fraction bits a word has of its own, by where it lies; zeros appended leave the regime. Assumes nothing.
 use mathlib.Core.Path.{_≡_, sym, ap, ap₂, _∙_}
-use Prim.Native.Nat.{ℕ, _+_, _-_, _*_, _/_, _%_, _^_, _≤_, max}
+use Prim.Native.Nat.{ℕ, _+_, _-_, _*_, _%_, _^_, _≤_, max}
 use native.Mathlib.Nat.{mul-assoc, zero-mod, mod-self, mod-eq-of-lt, mod-eq-sub-mod, le-of-lt, lt-of-not-le, ne-of-gt}
 use native.Mathlib.Decide.{decLe}
 use native.Mathlib.Omega.{arith}
 use borrow.Author.Tests.{eq-eqb, ne-eqb}
 use lib.IntN.{ℤ, pos, _-ℤ_}
-use lib.Pow.{shl-shr, shr-shr}
 use Rattle.bounds.specs.Refusals.{IsWord}
 use Rattle.bounds.proofs.Powers.{pow-sum, twice}
-use Rattle.word.specs.Takum.{regimeOf, D, R, r, N, padded, orZero, ownFractionBits}
+use Rattle.word.specs.Takum.{r, N, padded, orZero, ownFractionBits}
+use Rattle.word.proofs.Cut.{r-appended}
 use Rattle.word.proofs.Signed.{difference, short-by}
 use Rattle.word.proofs.Words.{Lies, at-zero, above, at-NaR, under, lies}
 
@@ -49,16 +49,9 @@ module _ (n w : ℕ) where
           rest = mod-eq-sub-mod (le-of-lt b) ∙ mod-eq-of-lt (omega (arith, b, i .fits, twice n (i .least)))
 
 -- ---- zeros appended leave the regime
-regime-appended : (m i T : ℕ) → 5 ≤ m → r (m + i) (T * 2 ^ i) ≡ r m T
-unfolding r D R
-regime-appended m i T long = ap₂ (λ (x y : ℕ). regimeOf (x % 2) (y % 8)) (shift (m + i - 2) (m - 2) (omega (arith, long))) (shift (m + i - 5) (m - 5) (omega (arith, long)))
-  where
-    shift : (j q : ℕ) → j ≡ i + q → T * 2 ^ i / 2 ^ j ≡ T / 2 ^ q
-    shift j q e = ap (λ (j : ℕ). T * 2 ^ i / 2 ^ j) e ∙ sym (shr-shr (T * 2 ^ i) i q) ∙ ap (λ (x : ℕ). x / 2 ^ q) (shl-shr T i)
-
 pub same-regime : (n k w : ℕ) → r (N (n + k)) (padded (n + k) (w * 2 ^ k)) ≡ r (N n) (padded n w)
 unfolding N padded
-same-regime n k w = ap₂ r long appended ∙ regime-appended (max n 12) i (w * 2 ^ d) (omega arith)
+same-regime n k w = ap₂ r long appended ∙ r-appended (max n 12) i (w * 2 ^ d) (omega arith)
   where
     d : ℕ
     d = max n 12 - n

@@ -18,37 +18,26 @@ pub struct Fields {
 pub fn cut(t: u64) -> Fields
     ensures { λ x. ⌜ Cuts t x ⌝ }
 {
-    let r = regime_of(64, t);
+    let r = regime_of(t);
     // Behind the first five bits stand those of the characteristic, and then the fraction.
     let after = t << 5;
     Fields {
-        c: characteristic(direction(64, t), r, (after >> 1) >> (63 - r)),
+        c: characteristic(direction(t), r, (after >> 1) >> (63 - r)),
         f: after << r,
     }
 }
 
-// The regime of a string t of n bits, n at least 12.
-pub(crate) fn regime_of(n: u32, t: u64) -> u32
-    requires { ⌜ (12 ≤ n) × (n ≤ 64) ⌝ }
-    ensures { λ r. ⌜ r ≡ Takum.r n t ⌝ }
+// Its regime.
+pub(crate) fn regime_of(t: u64) -> u32
+    ensures { λ r. ⌜ r ≡ Takum.r 64 t ⌝ }
 {
-    regime(direction(n, t), low_bits(t >> (n - 5), 3))
+    regime(direction(t), low_bits(t >> 59, 3))
 }
 
-// Its characteristic.
-pub(crate) fn characteristic_of(n: u32, t: u64) -> i32
-    requires { ⌜ (12 ≤ n) × (n ≤ 64) ⌝ }
-    ensures { λ c. ⌜ c ≡ Takum.c n t ⌝ }
+fn direction(t: u64) -> u64
+    ensures { λ d. ⌜ d ≡ Takum.D 64 t ⌝ }
 {
-    let r = regime_of(n, t);
-    characteristic(direction(n, t), r, low_bits(t >> (n - r - 5), r))
-}
-
-fn direction(n: u32, t: u64) -> u64
-    requires { ⌜ (12 ≤ n) × (n ≤ 64) ⌝ }
-    ensures { λ d. ⌜ d ≡ Takum.D n t ⌝ }
-{
-    low_bits(t >> (n - 2), 1)
+    low_bits(t >> 62, 1)
 }
 
 fn regime(direction: u64, bits: u64) -> u32

@@ -1,14 +1,13 @@
 // Reading a word: what its fields mean, in the letters of document 004, Definition 2.
 use crate::bits::low_bits;
-use crate::bits::power_of_two;
-use crate::fields::characteristic_of;
+use crate::fields::cut;
 use crate::fields::regime_of;
 use bounds::refusal::Refusal;
 use bounds::refusal::Verdict;
 use bounds::width::Width;
 ghost use mathlib.Core.Bool.{cond};
 ghost use mathlib.Core.Path.{_≡_};
-ghost use Prim.Native.Nat.{_-_, _≤_, _<_, _^_};
+ghost use Prim.Native.Nat.{_-_, _/_, _%_, _≤_, _^_};
 ghost use lib.IntN.{pos, negℤ, _+ℤ_, _-ℤ_};
 ghost use lib.Signed.{mag};
 ghost use Rattle.word.specs.Takum as Takum;
@@ -52,17 +51,16 @@ pub fn read(width: Width, word: u64) -> Reading
             own: 0,
         };
     }
-    if word == power_of_two(n - 1) {
+    let string = word << (64 - n);
+    if string == 1 << 63 {
         return Reading {
             kind: Kind::Nar,
             own: 0,
         };
     }
-    let long = string_length(n);
-    let t = word << (long - n);
     Reading {
-        kind: number(long, t),
-        own: own_bits(n, long, t),
+        kind: number(string_length(n), string),
+        own: own_bits(n, string),
     }
 }
 
@@ -76,41 +74,43 @@ fn string_length(n: u32) -> u32
     n
 }
 
-// How many of the n bits of a word that is a number are fraction bits; t is its string of `long` bits.
-fn own_bits(n: u32, long: u32, t: u64) -> u32
-    requires { ⌜ (12 ≤ long) × (long ≤ 64) ⌝ }
-    ensures { λ own. ⌜ own ≡ orZero (pos n -ℤ pos (Takum.r long t) -ℤ pos 5) ⌝ }
+// How many of the n bits of a word that is a number are fraction bits; it stands at the top of t.
+fn own_bits(n: u32, t: u64) -> u32
+    ensures { λ own. ⌜ own ≡ orZero (pos n -ℤ pos (Takum.r 64 t) -ℤ pos 5) ⌝ }
 {
-    let others = regime_of(long, t) + 5;
+    let others = regime_of(t) + 5;
     if n < others {
         return 0;
     }
     n - others
 }
 
-// The number of a string t of n bits, n at least 12, that is neither zero nor NaR. With sign 1 the fraction counts up from -2: the size is 2 - f, which
-// is 1 + (1 - f), or where f is 0 the next power of two. The sign is no branch, since nobody can foretell it.
+// The number of a string of n bits, n at least 12, that is neither zero nor NaR; it stands at the top of t, with zeros behind it. With sign 1 the
+// fraction counts up from -2: the size is 2 - f, which is 1 + (1 - f), or where f is 0 the next power of two. The sign is no branch, since nobody can
+// foretell it.
 fn number(n: u32, t: u64) -> Kind
-    requires { ⌜ (12 ≤ n) × (n ≤ 64) × (t < 2 ^ n) ⌝ }
-    ensures { λ a. ⌜ IsKind (real (Takum.value n t)) (Takum.p n t) a ⌝ }
+    requires { ⌜ (12 ≤ n) × (n ≤ 64) × (t % 2 ^ (64 - n) ≡ 0) ⌝ }
+    ensures { λ a. ⌜ IsKind (real (Takum.value n (t / 2 ^ (64 - n)))) (Takum.p n (t / 2 ^ (64 - n))) a ⌝ }
 {
-    let p = n - regime_of(n, t) - 5;
-    let negative = t >> (n - 1) == 1;
-    let above_one = fraction(negative, p, low_bits(t, p));
+    let p = n - regime_of(t) - 5;
+    let negative = t >> 63 == 1;
+    let fields = cut(t);
+    let above_one = fraction(negative, fields.f >> 1);
     Kind::Number {
         negative,
-        h: exponent(negative, characteristic_of(n, t)) + (above_one >> p) as i32,
-        m: power_of_two(p) + low_bits(above_one, p),
+        h: exponent(negative, fields.c) + (above_one >> 63) as i32,
+        m: ((1 << 63) + low_bits(above_one, 63)) >> (63 - p),
         p,
     }
 }
 
-fn fraction(negative: bool, p: u32, f: u64) -> u64
-    requires { ⌜ (p < 64) × (f < 2 ^ p) ⌝ }
-    ensures { λ r. ⌜ r ≡ cond negative (2 ^ p - f) f ⌝ }
+// What the size has above 1, in steps of 2^-63, as f is.
+fn fraction(negative: bool, f: u64) -> u64
+    requires { ⌜ f ≤ 2 ^ 63 ⌝ }
+    ensures { λ r. ⌜ r ≡ cond negative (2 ^ 63 - f) f ⌝ }
 {
     if negative {
-        return power_of_two(p) - f;
+        return (1 << 63) - f;
     }
     f
 }

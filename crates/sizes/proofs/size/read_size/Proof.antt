@@ -1,6 +1,6 @@
 -- `read_size` meets its contract: the refusals, zero and NaR, and the size of any other word's string. Assumes nothing.
 use mathlib.Core.Path.{_≡_, refl, sym, ap, _∙_, subst}
-use Prim.Native.Nat.{ℕ, _-_, _*_, _^_}
+use Prim.Native.Nat.{ℕ, _-_}
 use native.Mathlib.Omega.{arith}
 use borrow.Author.Needs.{needs}
 use Rattle.bounds.specs.Refusals.{wordTest, IsWord, through, refused}
@@ -9,7 +9,8 @@ use Rattle.bounds.proofs.Verdicts.{word-through}
 use Rattle.word.specs.Takum.{takum}
 use Rattle.sizes.specs.Sizes.{Sizes, IsWordSize, ReadsSize}
 use Rattle.word.proofs.Words.{takum-zero, takum-NaR}
-use Rattle.sizes.proofs.Tops.{nar-shifted, shifted-is, NaR-at-top, word-number}
+use Rattle.word.proofs.Top.{shifted-is, NaR-at-top, at-top-NaR}
+use Rattle.sizes.proofs.Tops.{word-number}
 use Rattle.sizes.proofs.size.read_size.Statement.{statement}
 use Rattle.sizes.proofs.size.read_size.Tie as tie
 
@@ -71,7 +72,7 @@ unfolding ReadsSize IsWordSize
 returns-4 c = let g = c .before .before .before .before in
     let i = is-word g in
     through (let-through g)
-    (word-number (n g) (word g) i (c .before .before .before .if1 .left) (λ q. c .before .if2 .left (shifted-is (n g) (word g) i ∙ ap (λ (x : ℕ). x * 2 ^ (64 - n g)) q ∙ nar-shifted (n g) (i .least) (i .most))) _ (subst (λ (t : ℕ). Sizes t (c .size-of .result)) (shifted-is (n g) (word g) i) (c .size-of .ensures)))
+    (word-number (n g) (word g) i (c .before .before .before .if1 .left) (λ q. c .before .if2 .left (at-top-NaR (n g) (word g) i q)) _ (subst (λ (t : ℕ). Sizes t (c .size-of .result)) (shifted-is (n g) (word g) i) (c .size-of .ensures)))
 
 pub read-size-spec : {M : Type 1} → statement M
 read-size-spec =

@@ -9,15 +9,6 @@ use Rattle.word.proofs.fields.regime_of.Tie as tie
 direction-requires : tie.Need-direction-requires
 direction-requires c κs = search needs
 
-sub-low-bits : tie.Need-sub-low-bits
-sub-low-bits c = search needs
-
-cast-low-bits : tie.Need-cast-low-bits
-cast-low-bits c = search needs
-
-shr-low-bits : tie.Need-shr-low-bits
-shr-low-bits c = search needs
-
 low-bits-requires : tie.Need-low-bits-requires
 low-bits-requires c κs = search needs
 
@@ -29,13 +20,4 @@ unfolding Takum.r R
 returns c = c .regime .ensures ∙ ap₂ regimeOf (c .before .before .direction .ensures) (c .before .low-bits .ensures)
 
 pub regime-of-spec : {M : Type 1} → statement M
-regime-of-spec =
-    tie.close
-    (tie.spec
-    direction-requires
-    sub-low-bits
-    cast-low-bits
-    shr-low-bits
-    low-bits-requires
-    regime-requires
-    returns)
+regime-of-spec = tie.close (tie.spec direction-requires low-bits-requires regime-requires returns)

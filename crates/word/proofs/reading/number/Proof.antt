@@ -1,95 +1,109 @@
--- `number` meets its contract: each local is the field of Definition 2 that it is named after. Assumes nothing.
+-- `number` meets its contract: the string's fields stand at the top of t, and its size is there in steps of 2^-63. Assumes nothing.
 use mathlib.Core.Path.{_≡_, sym, ap, ap₂, _∙_, subst}
-use mathlib.Core.Bool.{Bool, true, false, cond}
-use Prim.Native.Nat.{ℕ, _+_, _-_, _/_, _%_, _^_, _≤_, _<_}
-use native.Mathlib.Nat.{lt-of-le-of-lt, le-of-eq, mod-lt, div-lt-iff-lt-mul}
+use mathlib.Core.Bool.{cond}
+use Prim.Native.Nat.{ℕ, _+_, _-_, _*_, _/_, _%_, _^_, _≤_, _<_}
 use native.Mathlib.Omega.{arith}
 use borrow.Author.Needs.{needs, sfits-of}
-use lib.Signed.{mag}
-use lib.Pow.{pow-pos, pow-mono}
 use lib.Dec.{eqb}
 use lib.IntN.{ℤ, pos, negℤ, _+ℤ_}
+use lib.Pow.{shr-lt}
+use lib.Signed.{mag}
 use mir.Facts.{toZ-pos, toZ-ofZ}
 use mir.Syntax.{w32}
 use mir.Val.{SFits, toZ, ofZ}
 use Rattle.word.specs.Reads.{IsKind}
-use Rattle.word.proofs.Cut.{regime-le}
-use Rattle.word.proofs.Signed.{add-mag}
 use Rattle.word.specs.Takum as Takum
-use Rattle.word.proofs.Numbers.{characteristic-of-string, exponent-of-string, same-number, above-one, number-of-string}
 use Rattle.word.specs.Takum.{S, F}
+use Rattle.word.proofs.Cut.{regime-le}
+use Rattle.word.proofs.Numbers.{characteristic-of-string, exponent-of-string, same-number, above-one, number-of-string}
+use Rattle.word.proofs.Signed.{add-mag}
+use Rattle.word.proofs.Top as top
 use Rattle.word.proofs.reading.number.Statement.{statement}
 use Rattle.word.proofs.reading.number.Tie as tie
 
--- the locals as fields of Definition 2
 regime-small : (c : tie.After-regime-of) → c .regime-of .result ≤ 7
 regime-small c = subst (λ (x : ℕ). x ≤ 7) (sym (c .regime-of .ensures)) (regime-le _ _)
 
-count-is : (c : tie.After-regime-of) → c .before .args .n - c .regime-of .result - 5 ≡ Takum.p (c .before .args .n) (c .before .args .t)
-unfolding Takum.p
-count-is c = ap (λ (x : ℕ). c .before .args .n - x - 5) (c .regime-of .ensures)
-
-power-is : (c : tie.After-regime-of) → 2 ^ (c .before .args .n - c .regime-of .result - 5) ≡ 2 ^ Takum.p (c .before .args .n) (c .before .args .t)
-power-is c = ap (λ (x : ℕ). 2 ^ x) (count-is c)
-
-module _ (c : tie.After-low-bits) where
+module _ (c : tie.After-regime-of) where
   abbrev n : ℕ
-  n = c .before .before .args .n
+  n = c .before .args .n
 
   abbrev t : ℕ
-  t = c .before .before .args .t
+  t = c .before .args .t
 
-  fraction-is : c .low-bits .result ≡ F n t
-  unfolding F
-  fraction-is = c .low-bits .ensures ∙ ap (λ (x : ℕ). t % 2 ^ x) (count-is (c .before))
+  -- the string, and its fraction bit count
+  abbrev T : ℕ
+  T = t / 2 ^ (64 - n)
 
-  fraction-below : c .low-bits .result < 2 ^ (n - c .before .regime-of .result - 5)
-  fraction-below = lt-of-le-of-lt (le-of-eq (c .low-bits .ensures)) (mod-lt _ (pow-pos _))
+  abbrev P : ℕ
+  P = Takum.p n T
 
-  power-small : 2 ^ (n - c .before .regime-of .result - 5) ≤ 2 ^ 59
-  power-small = pow-mono {i = n - c .before .regime-of .result - 5} {j = 59} (omega (arith, c .before .before .pre .1))
+  fits : T < 2 ^ n
+  fits = let all : 64 ≡ n + (64 - n) = omega (arith, c .before .pre .1) in
+      shr-lt n (64 - n) (subst (λ (k : ℕ). t < 2 ^ k) all (c .before .fits .t .fits))
 
--- what the size has above 1 is no more than 1, so its carry is 0 or 1
+  few : P ≤ 63
+  unfolding Takum.p
+  few = omega (arith, c .before .pre .1)
+
+  count-is : n - c .regime-of .result - 5 ≡ P
+  unfolding Takum.p top.string
+  count-is = ap (λ (x : ℕ). n - x - 5) (c .regime-of .ensures ∙ top.regime-at-top n t (c .before .pre .0) (c .before .pre .1) (c .before .pre .2))
+
+  sign-is : t / 2 ^ 63 ≡ S n T
+  unfolding top.string S
+  sign-is = top.sign-at-top n t (c .before .pre .0) (c .before .pre .1) (c .before .pre .2)
+
+-- what the size has above 1, in steps of 2^-63
 module _ (c : tie.After-fraction) where
-  abbrev p : ℕ
-  p = n (c .before) - c .before .before .regime-of .result - 5
+  abbrev start : tie.After-regime-of
+  start = c .before .before .before
 
-  above-le : (s : Bool) (f : ℕ) → f < 2 ^ p → cond s (2 ^ p - f) f ≤ 2 ^ p
-  above-le true f h = omega arith
-  above-le false f h = omega (arith, h)
+  above-is : c .fraction .result ≡ above-one (n start) (T start) * 2 ^ (63 - P start)
+  unfolding top.string above-one
+  above-is =
+      let pre = start .before .pre in
+      c .fraction .ensures
+      ∙ ap₂ (λ (x f : ℕ). cond (eqb x 1) (2 ^ 63 - f) f) (sign-is start) (ap (λ (x : ℕ). x / 2 ^ 1) (c .before .before .cut .ensures .fraction) ∙ top.fraction-at-top (n start) (t start) (pre .0) (pre .1) (pre .2))
+      ∙ top.above-at-top (P start) (few start) (eqb (S (n start) (T start)) 1) (F (n start) (T start))
 
-  carry-lt : c .fraction .result / 2 ^ p < 2
-  carry-lt =
-      let most = above-le (eqb (t (c .before) / 2 ^ (n (c .before) - 1)) 1) (c .before .low-bits .result) (fraction-below (c .before)) in
-      div-lt-iff-lt-mul {x = c .fraction .result} {y = 2} (pow-pos p) .1 (omega (arith, c .fraction .ensures, most, pow-pos p))
-
-  above-is : c .fraction .result ≡ above-one (n (c .before)) (t (c .before)) (c .before .before .before .pre .0) (c .before .before .before .pre .1) (c .before .before .before .pre .2)
-  unfolding above-one S
-  above-is = c .fraction .ensures ∙ ap₂ (λ (x f : ℕ). cond (eqb (t (c .before) / 2 ^ (n (c .before) - 1)) 1) (2 ^ x - f) f) (count-is (c .before .before)) (fraction-is (c .before))
-
--- the characteristic as the machine holds it
-held : (c : tie.After-characteristic-of) → toZ w32 (ofZ w32 (c .characteristic-of .result)) ≡ Takum.c (c .before .before .before .before .args .n) (c .before .before .before .before .args .t)
-held c = toZ-ofZ (sfits-of (c .characteristic-of .ok)) ∙ c .characteristic-of .ensures
-
-small : (c : tie.After-characteristic-of) → mag (toZ w32 (ofZ w32 (c .characteristic-of .result))) ≤ 254
-small c = subst (λ (z : ℤ). mag z ≤ 254) (sym (held c)) (characteristic-of-string _ _)
-
--- the exponent and its carry
-module _ (c : tie.After-exponent) where
   abbrev carry : ℕ
-  carry = c .before .before .fraction .result / 2 ^ p (c .before .before)
+  carry = c .fraction .result / 2 ^ 63
 
-  exponent-is : toZ w32 (ofZ w32 (c .exponent .result)) ≡ Takum.e (n (c .before .before .before)) (t (c .before .before .before))
-  unfolding Takum.e S
-  exponent-is = toZ-ofZ (sfits-of (c .exponent .ok)) ∙ c .exponent .ensures ∙ ap (λ (z : ℤ). cond (eqb (t (c .before .before .before) / 2 ^ (n (c .before .before .before) - 1)) 1) (negℤ (z +ℤ pos 1)) z) (held (c .before))
+  carry-is : carry ≡ above-one (n start) (T start) / 2 ^ P start
+  carry-is = ap (λ (x : ℕ). x / 2 ^ 63) above-is ∙ top.carry-at-top (P start) (few start) (above-one (n start) (T start))
 
   carry-held : toZ w32 carry ≡ pos carry
-  carry-held = toZ-pos w32 {n = carry} (omega (arith, carry-lt (c .before .before)))
+  carry-held = toZ-pos w32 {n = carry} (omega (arith, c .fraction .ok))
 
-  sum-fits : SFits w32 (toZ w32 (ofZ w32 (c .exponent .result)) +ℤ toZ w32 carry)
+-- the characteristic as the machine holds it
+module _ (c : tie.After-struct-told) where
+  abbrev whole : tie.After-fraction
+  whole = c .before
+
+  abbrev first : tie.After-regime-of
+  first = start whole
+
+  characteristic-is : whole .before .before .cut .result .c ≡ Takum.c (n first) (T first)
+  unfolding top.string
+  characteristic-is = whole .before .before .cut .ensures .characteristic ∙ top.characteristic-at-top (n first) (t first) (first .before .pre .0) (first .before .pre .1) (first .before .pre .2)
+
+  characteristic-small : mag (whole .before .before .cut .result .c) ≤ 254
+  characteristic-small = subst (λ (z : ℤ). mag z ≤ 254) (sym characteristic-is) (characteristic-of-string _ _)
+
+  held : toZ w32 (ofZ w32 (whole .before .before .cut .result .c)) ≡ whole .before .before .cut .result .c
+  held = toZ-ofZ (record { sfits = omega (arith, characteristic-small) })
+
+-- the exponent, and with its carry
+module _ (c : tie.After-exponent) where
+  exponent-is : toZ w32 (ofZ w32 (c .exponent .result)) ≡ Takum.e (n (first (c .before))) (T (first (c .before)))
+  unfolding Takum.e
+  exponent-is = toZ-ofZ (sfits-of (c .exponent .ok)) ∙ c .exponent .ensures ∙ ap₂ (λ (x : ℕ) (z : ℤ). cond (eqb x 1) (negℤ (z +ℤ pos 1)) z) (sign-is (first (c .before))) (held (c .before) ∙ characteristic-is (c .before))
+
+  sum-fits : SFits w32 (toZ w32 (ofZ w32 (c .exponent .result)) +ℤ toZ w32 (carry (c .before .before)))
   sum-fits =
-      subst (λ (z : ℤ). SFits w32 (toZ w32 (ofZ w32 (c .exponent .result)) +ℤ z)) (sym carry-held)
-      (record { sfits = omega (arith, add-mag (toZ w32 (ofZ w32 (c .exponent .result))) (pos carry), ap mag exponent-is, exponent-of-string (n (c .before .before .before)) (t (c .before .before .before)), carry-lt (c .before .before)) })
+      subst (λ (z : ℤ). SFits w32 (toZ w32 (ofZ w32 (c .exponent .result)) +ℤ z)) (sym (carry-held (c .before .before)))
+      (record { sfits = omega (arith, add-mag (toZ w32 (ofZ w32 (c .exponent .result))) (pos (carry (c .before .before))), ap mag exponent-is, exponent-of-string (n (first (c .before))) (T (first (c .before))), c .before .before .fraction .ok) })
 
 regime-of-requires : tie.Need-regime-of-requires
 regime-of-requires c κs = search needs
@@ -100,62 +114,45 @@ sub-p c = omega (arith, regime-small c)
 sub-p-2 : tie.Need-sub-p-2
 sub-p-2 c = omega (arith, regime-small c, c .before .pre .0)
 
-sub-negative : tie.Need-sub-negative
-sub-negative c = search needs
+cut-requires : tie.Need-cut-requires
+cut-requires c κs = search needs
 
-cast-negative : tie.Need-cast-negative
-cast-negative c = search needs
+fraction-requires : tie.Need-fraction-requires
+fraction-requires c κs = search needs
 
-shr-negative : tie.Need-shr-negative
-shr-negative c = search needs
+exponent-requires : tie.Need-exponent-requires
+exponent-requires c κs = subst (λ (z : ℤ). mag z ≤ 254) (sym (held c)) (characteristic-small c)
+
+cast-t11 : tie.Need-cast-t11
+cast-t11 c = search needs
+
+add-t12 : tie.Need-add-t12
+add-t12 c = sum-fits c
 
 low-bits-requires : tie.Need-low-bits-requires
 low-bits-requires c κs = search needs
 
-fraction-requires : tie.Need-fraction-requires
-fraction-requires c κs = (omega (arith, c .before .before .pre .1), fraction-below c)
+add-t15 : tie.Need-add-t15
+add-t15 c = search needs
 
-characteristic-of-requires : tie.Need-characteristic-of-requires
-characteristic-of-requires c κs = search needs
+sub-t7 : tie.Need-sub-t7
+sub-t7 c = search needs
 
-exponent-requires : tie.Need-exponent-requires
-exponent-requires c κs = small c
+cast-t16 : tie.Need-cast-t16
+cast-t16 c = search needs
 
-cast-t9 : tie.Need-cast-t9
-cast-t9 c = search needs
-
-shr-t8 : tie.Need-shr-t8
-shr-t8 c = search needs
-
-cast-t12 : tie.Need-cast-t12
-cast-t12 c = record { sfits = omega (arith, carry-lt (c .before .before)) }
-
-add-t13 : tie.Need-add-t13
-add-t13 c = sum-fits c
-
-power-of-two-requires : tie.Need-power-of-two-requires
-power-of-two-requires c κs = search needs
-
-low-bits-requires-2 : tie.Need-low-bits-requires-2
-low-bits-requires-2 c κs = search needs
-
-add-t16 : tie.Need-add-t16
-add-t16 c =
-    let known = c .before .before .before .before .before in
-    let below = lt-of-le-of-lt (le-of-eq (c .low-bits2 .ensures)) (mod-lt _ (pow-pos (n known - known .before .regime-of .result - 5))) in
-    record { fits = omega (arith, c .before .power-of-two .ensures, below, power-small known) }
+shr-t17 : tie.Need-shr-t17
+shr-t17 c = search needs
 
 returns : tie.Need-returns
-unfolding IsKind S
+unfolding IsKind
 returns c =
-    let e = c .before .before in
-    let x = e .before .before in
-    let s = x .before .before .before in
-    let count = count-is (x .before .before) in
-    same-number _ _ _
-    (toZ-ofZ (sum-fits e) ∙ ap₂ (λ (y z : ℤ). y +ℤ z) (exponent-is e) (carry-held e ∙ ap pos (ap₂ (λ (y q : ℕ). y / 2 ^ q) (above-is x) count)))
-    (ap₂ (λ (y z : ℕ). y + z) (c .before .power-of-two .ensures ∙ power-is (x .before .before)) (c .low-bits2 .ensures ∙ ap₂ (λ (y q : ℕ). y % 2 ^ q) (above-is x) count)) count
-    (number-of-string (s .args .n) (s .args .t) (s .pre .0) (s .pre .1) (s .pre .2))
+    let x = c .before .before .before in
+    let s = start x in
+    let pre = s .before .pre in
+    same-number _ _ (ap (λ (y : ℕ). eqb y 1) (sign-is s)) (toZ-ofZ (sum-fits (c .before)) ∙ ap₂ (λ (y z : ℤ). y +ℤ z) (exponent-is (c .before)) (carry-held x ∙ ap pos (carry-is x)))
+    (ap₂ (λ (y k : ℕ). (2 ^ 63 + y) / 2 ^ (63 - k)) (c .low-bits .ensures ∙ ap (λ (y : ℕ). y % 2 ^ 63) (above-is x)) (count-is s) ∙ top.size-at-top (P s) (few s) (above-one (n s) (T s))) (count-is s)
+    (number-of-string (n s) (T s) (pre .0) (pre .1) (fits s))
 
 pub number-spec : {M : Type 1} → statement M
 number-spec =
@@ -164,18 +161,14 @@ number-spec =
     regime-of-requires
     sub-p
     sub-p-2
-    sub-negative
-    cast-negative
-    shr-negative
-    low-bits-requires
+    cut-requires
     fraction-requires
-    characteristic-of-requires
     exponent-requires
-    cast-t9
-    shr-t8
-    cast-t12
-    add-t13
-    power-of-two-requires
-    low-bits-requires-2
-    add-t16
+    cast-t11
+    add-t12
+    low-bits-requires
+    add-t15
+    sub-t7
+    cast-t16
+    shr-t17
     returns)

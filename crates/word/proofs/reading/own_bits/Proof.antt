@@ -13,7 +13,7 @@ use Rattle.word.proofs.reading.own_bits.Tie as tie
 regime-small : (c : tie.After-regime-of) → c .regime-of .result ≤ 7
 regime-small c = subst (λ (x : ℕ). x ≤ 7) (sym (c .regime-of .ensures)) (regime-le _ _)
 
-left : (c : tie.After-regime-of) → orZero (pos (c .before .args .n) -ℤ pos (r (c .before .args .long) (c .before .args .t)) -ℤ pos 5) ≡ c .before .args .n - (c .regime-of .result + 5)
+left : (c : tie.After-regime-of) → orZero (pos (c .before .args .n) -ℤ pos (r 64 (c .before .args .t)) -ℤ pos 5) ≡ c .before .args .n - (c .regime-of .result + 5)
 left c = or-zero _ _ ∙ ap (λ (k : ℕ). c .before .args .n - (k + 5)) (sym (c .regime-of .ensures))
 
 regime-of-requires : tie.Need-regime-of-requires

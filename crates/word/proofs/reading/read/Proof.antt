@@ -1,19 +1,21 @@
 -- `read` meets its contract: zero and NaR by their words, every other word by the number of its padded string. Assumes nothing.
 use mathlib.Core.Path.{_≡_, refl, sym, ap, ap₂, _∙_, subst₂}
-use Prim.Native.Nat.{ℕ, _+_, _*_, _-_, _%_, _^_, _≤_, _<_, max}
+use Prim.Native.Nat.{ℕ, _+_, _*_, _-_, _/_, _%_, _^_, _≤_, max}
+use native.Mathlib.Nat.{mul-assoc, mul-mod-left}
 use native.Mathlib.Omega.{arith}
 use borrow.Author.Needs.{needs}
 use lib.IntN.{pos, _-ℤ_}
-use lib.Pow.{shl-exact}
+use lib.Pow.{shl-shr}
 use Rattle.bounds.specs.Refusals.{wordTest, IsWord, through, refused}
 use Rattle.word.specs.Reads.{IsKind, IsReading, Reads}
 use Rattle.word.specs.declared.reading.Reading.{Reading}
-use Rattle.bounds.proofs.Powers.{shl-below}
+use Rattle.bounds.proofs.Powers.{pow-sum}
 use Rattle.word.specs.Takum.{Takum, real, value, r, p, N, padded, takum, fractionBits, orZero, ownFractionBits}
 use Rattle.bounds.proofs.Verdicts.{word-through}
 use Rattle.word.proofs.Words.{takum-zero, takum-NaR, takum-number}
 use Rattle.word.proofs.Own.{or-zero, zero-has-none, NaR-has-none, number-has}
 use Rattle.bounds.specs.declared.refusal.Verdict.{Verdict}
+use Rattle.word.proofs.Top as top
 use Rattle.word.proofs.reading.read.Statement.{statement}
 use Rattle.word.proofs.reading.read.Tie as tie
 
@@ -25,30 +27,35 @@ told c h = sym (c .test-word .ensures) ∙ h
 word-in : (c : tie.After-enum-told) → IsWord (c .before .before .before .args .width .bits) (c .before .before .before .args .word)
 word-in c = word-through _ _ (told (c .before .before) (c .enum-told .given .1))
 
--- the number of the padded string is the word's, and what is left of the word is its own
-module _ (n w : ℕ) (i : IsWord n w) where
-  string-fits : padded n w < 2 ^ N n
+-- the word at the top of 64 bits: its string, of m bits, stands there too, with zeros behind it
+module _ (n w : ℕ) (i : IsWord n w) (x : ℕ) (at-top : x ≡ w * 2 ^ (64 - n)) (m : ℕ) (long : m ≡ N n) where
+  behind : x ≡ padded n w * 2 ^ (64 - m)
   unfolding N padded
-  string-fits = shl-below n (max n 12 - n) (max n 12) (i .fits) (omega arith)
+  behind = at-top ∙ ap (λ (y : ℕ). w * y) (sym (pow-sum (max n 12 - n) (64 - m) (64 - n) (omega (arith, i .most, long)))) ∙ sym (mul-assoc w (2 ^ (max n 12 - n)) (2 ^ (64 - m)))
 
-  shifted : (m : ℕ) → m ≡ N n → w * 2 ^ (m - n) % 2 ^ 64 ≡ padded n w
-  unfolding N padded
-  shifted m q = ap (λ (m : ℕ). w * 2 ^ (m - n) % 2 ^ 64) q ∙ shl-exact n (max n 12 - n) 64 (i .fits) (omega (arith, i .most))
+  zeros : x % 2 ^ (64 - m) ≡ 0
+  zeros = ap (λ (y : ℕ). y % 2 ^ (64 - m)) behind ∙ mul-mod-left (padded n w) (2 ^ (64 - m))
 
-  of-string : (w ≡ 0 → ⊥) → (w ≡ 2 ^ (n - 1) → ⊥) → (m x : ℕ) → m ≡ N n → x ≡ padded n w → (a : Reading) → IsKind (real (value m x)) (p m x) (a .kind) → a .own ≡ orZero (pos n -ℤ pos (r m x) -ℤ pos 5)
+  string : x / 2 ^ (64 - m) ≡ padded n w
+  string = ap (λ (y : ℕ). y / 2 ^ (64 - m)) behind ∙ shl-shr (padded n w) (64 - m)
+
+  longer : 12 ≤ m
+  unfolding N
+  longer = omega (arith, long)
+
+  most : m ≤ 64
+  unfolding N
+  most = omega (arith, long, i .most)
+
+  -- so its number is the word's, and what is left of the word is its own
+  of-string : (w ≡ 0 → ⊥) → (w ≡ 2 ^ (n - 1) → ⊥) → (a : Reading) → IsKind (real (value m (x / 2 ^ (64 - m)))) (p m (x / 2 ^ (64 - m))) (a .kind) → a .own ≡ orZero (pos n -ℤ pos (r 64 x) -ℤ pos 5)
       → IsReading (takum n w) (fractionBits n w) (ownFractionBits n w) a
-  unfolding fractionBits
-  of-string f g m x qm qx a h own =
+  unfolding fractionBits top.string
+  of-string f g a h own =
       record {
-        what = subst₂ (λ (t : Takum) (k : ℕ). IsKind t k (a .kind)) (ap₂ (λ (m x : ℕ). real (value m x)) qm qx ∙ sym (takum-number n w (i .least) (i .most) (i .fits) f g)) (ap₂ p qm qx) h;
-        fine = own ∙ or-zero n (r m x) ∙ ap (λ (k : ℕ). n - (k + 5)) (ap₂ r qm qx) ∙ sym (number-has n w i f g);
+        what = subst₂ (λ (t : Takum) (k : ℕ). IsKind t k (a .kind)) (ap₂ (λ (m x : ℕ). real (value m x)) long string ∙ sym (takum-number n w (i .least) (i .most) (i .fits) f g)) (ap₂ p long string) h;
+        fine = own ∙ or-zero n (r 64 x) ∙ ap (λ (k : ℕ). n - (k + 5)) (top.regime-at-top m x longer most zeros ∙ ap₂ r long string) ∙ sym (number-has n w i f g);
       }
-
--- the length of the string
-long : (c : tie.After-string-length) → (c .before .before .before .before .before .before .before .args .width .bits ≤ c .string-length .result) × (12 ≤ c .string-length .result) × (c .string-length .result ≤ 64)
-unfolding N
-long c = let i = word-in (c .before .before .before .before) in
-    (omega (arith, c .string-length .ensures), omega (arith, c .string-length .ensures), omega (arith, c .string-length .ensures, i .most))
 
 test-word-requires : tie.Need-test-word-requires
 test-word-requires c κs = search needs
@@ -67,45 +74,38 @@ returns-2 : tie.Need-returns-2
 unfolding Reads IsKind
 returns-2 c = through (told (c .before .before .before) (c .before .enum-told .given .1)) (record { what = ap (takum _) (c .if1 .taken) ∙ takum-zero _; fine = sym (zero-has-none _ _ (c .if1 .taken)) })
 
-sub-power-of-two : tie.Need-sub-power-of-two
-sub-power-of-two c = omega (arith, word-in (c .before) .least)
+sub-string : tie.Need-sub-string
+sub-string c = word-in (c .before) .most
 
-power-of-two-requires : tie.Need-power-of-two-requires
-power-of-two-requires c κs = omega (arith, word-in (c .before) .most)
+cast-string : tie.Need-cast-string
+cast-string c = search needs
+
+shl-string : tie.Need-shl-string
+shl-string c = omega (arith, word-in (c .before) .least)
 
 returns-3 : tie.Need-returns-3
 unfolding Reads IsKind
-returns-3 c = let i = word-in (c .before .before .before) in
-    let half = c .if2 .taken ∙ c .before .power-of-two .ensures in
-    through (told (c .before .before .before .before .before) (c .before .before .before .enum-told .given .1)) (record { what = takum-NaR _ _ (i .least) (i .most) half; fine = sym (NaR-has-none _ _ half) })
+returns-3 c = let i = word-in (c .before .before) in
+    let NaR = top.NaR-at-top _ _ i (c .if2 .taken) in
+    through (told (c .before .before .before .before) (c .before .before .enum-told .given .1)) (record { what = takum-NaR _ _ (i .least) (i .most) NaR; fine = sym (NaR-has-none _ _ NaR) })
 
 string-length-requires : tie.Need-string-length-requires
 string-length-requires c κs = search needs
 
-sub-t : tie.Need-sub-t
-sub-t c = long c .0
-
-cast-t : tie.Need-cast-t
-cast-t c = search needs
-
-shl-t : tie.Need-shl-t
-shl-t c = omega (arith, word-in (c .before .before .before .before) .least, long c .2)
-
 number-requires : tie.Need-number-requires
-number-requires c κs = let i = word-in (c .before .before .before .before) in
+number-requires c κs = let i = word-in (c .before .before .before) in
     let l = c .string-length .ensures in
-    (long c .1, long c .2, subst₂ (λ (x m : ℕ). x < 2 ^ m) (sym (shifted _ _ i _ l)) (sym l) (string-fits _ _ i))
+    (longer _ _ i _ (top.shifted-is _ _ i) _ l, most _ _ i _ (top.shifted-is _ _ i) _ l, zeros _ _ i _ (top.shifted-is _ _ i) _ l)
 
 own-bits-requires : tie.Need-own-bits-requires
-own-bits-requires c κs = (long (c .before) .1, long (c .before) .2)
+own-bits-requires c κs = search needs
 
 returns-4 : tie.Need-returns-4
 unfolding Reads
 returns-4 c = let s = c .before .before in
-    let i = word-in (s .before .before .before .before) in
-    let l = s .string-length .ensures in
-    through (told (s .before .before .before .before .before .before) (s .before .before .before .before .enum-told .given .1))
-    (of-string _ _ i (s .before .before .before .if1 .left) (λ q. s .before .if2 .left (q ∙ sym (s .before .before .power-of-two .ensures))) _ _ l (shifted _ _ i _ l) _ (c .before .number .ensures) (c .own-bits .ensures))
+    let i = word-in (s .before .before .before) in
+    through (told (s .before .before .before .before .before) (s .before .before .before .enum-told .given .1))
+    (of-string _ _ i _ (top.shifted-is _ _ i) _ (s .string-length .ensures) (s .before .before .if1 .left) (λ q. s .before .if2 .left (top.at-top-NaR _ _ i q)) _ (c .before .number .ensures) (c .own-bits .ensures))
 
 pub read-spec : {M : Type 1} → statement M
 read-spec =
@@ -116,13 +116,11 @@ read-spec =
     returns
     enum-told
     returns-2
-    sub-power-of-two
-    power-of-two-requires
+    sub-string
+    cast-string
+    shl-string
     returns-3
     string-length-requires
-    sub-t
-    cast-t
-    shl-t
     number-requires
     own-bits-requires
     returns-4)

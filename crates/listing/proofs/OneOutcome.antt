@@ -66,10 +66,7 @@ own-one n w t u (a, d, x, p, e) (b, d', y, q, f) =
 line-one : (number position n w : ℕ) (t u : List ℕ) → IsLine number position n w t → IsLine number position n w u → t ≡ u
 unfolding IsLine
 line-one number position n w t u (b, p, x, o, hb, hp, hx, ho, e) (b', p', x', o', kb, kp, kx, ko, f) =
-    e ∙ after (after (after (field-one number b b' hb kb) (field-one position p p' hp kp)) (word-one n w x x' hx kx)) (own-one n w o o' ho ko) ∙ sym f
-  where
-    after : {s t u v : List ℕ} → s ≡ t → u ≡ v → s ++ u ≡ t ++ v
-    after p q = ap₂ (λ (y z : List ℕ). y ++ z) p q
+    e ∙ rw (field-one number b b' hb kb, field-one position p p' hp kp, word-one n w x x' hx kx, own-one n w o o' ho ko) (sym f)
 
 lines-one : (number n position : ℕ) (ws t u : List ℕ) → AreLines number n position ws t → AreLines number n position ws u → t ≡ u
 unfolding AreLines

@@ -58,8 +58,9 @@ pub fn read(width: Width, word: u64) -> Reading
             own: 0,
         };
     }
+    let long = string_length(n);
     Reading {
-        kind: number(string_length(n), string),
+        kind: number(long, string),
         own: own_bits(n, string),
     }
 }

@@ -22,7 +22,7 @@ use Rattle.whole.proofs.OneOutcome.{takes-whole-one}
 use Rattle.listing.specs.declared.blocks.Listed.{Listed}
 use Rattle.listing.specs.Listing.{ListsBlock, IsListed, ListsInto}
 use Rattle.listing.specs.Puts.{PutsSome}
-use Rattle.listing.specs.Text.{minus, space, newline, blockText, refusedText, hexOf, IsDecimal, IsSigned, IsShown, IsField, IsWordText, IsOwnText, IsLine, AreLines, IsRefusedLine}
+use Rattle.listing.specs.Text.{minus, space, newline, blockText, refusedText, IsDecimal, IsSigned, IsShown, IsField, IsWholeText, IsOwnText, IsLine, AreLines, IsRefusedLine}
 
 -- two counts of digits that are each the fewest
 no-more : (n j k : ℕ) → Fewest 10 1 n j → Fewest 10 1 n k → k ≤ j
@@ -53,20 +53,20 @@ field-one : (n : ℕ) (t u : List ℕ) → IsField n t → IsField n u → t ≡
 unfolding IsField
 field-one n t u (d, p, e) (d', q, f) = e ∙ ap (λ (x : List ℕ). x ++ (space ∷ [])) (decimal-one n d d' p q) ∙ sym f
 
-word-one : (n w : ℕ) (t u : List ℕ) → IsWordText n w t → IsWordText n w u → t ≡ u
-unfolding IsWordText
-word-one n w t u (a, d, x, p, e) (b, d', y, q, f) =
-    e ∙ ap (λ (x : List ℕ). hexOf n w ++ (space ∷ []) ++ x) (shown-one b d d' (subst (λ (a : Whole). IsShown a d) (takes-whole-one n Taking.Nearest w a b x y) p) q) ∙ sym f
+whole-one : (n w : ℕ) (t u : List ℕ) → IsWholeText n w t → IsWholeText n w u → t ≡ u
+unfolding IsWholeText
+whole-one n w t u (a, d, x, p, e) (b, d', y, q, f) =
+    e ∙ ap (λ (x : List ℕ). (space ∷ []) ++ x) (shown-one b d d' (subst (λ (a : Whole). IsShown a d) (takes-whole-one n Taking.Nearest w a b x y) p) q) ∙ sym f
 
 own-one : (n w : ℕ) (t u : List ℕ) → IsOwnText n w t → IsOwnText n w u → t ≡ u
 unfolding IsOwnText
 own-one n w t u (a, d, x, p, e) (b, d', y, q, f) =
-    e ∙ ap (λ (x : List ℕ). (space ∷ []) ++ x ++ (newline ∷ [])) (decimal-one (b .own) d d' (subst (λ (a : Reading). IsDecimal (a .own) d) (reads-one n w a b x y) p) q) ∙ sym f
+    e ∙ ap (λ (x : List ℕ). (space ∷ []) ++ x) (decimal-one (b .own) d d' (subst (λ (a : Reading). IsDecimal (a .own) d) (reads-one n w a b x y) p) q) ∙ sym f
 
 line-one : (number position n w : ℕ) (t u : List ℕ) → IsLine number position n w t → IsLine number position n w u → t ≡ u
 unfolding IsLine
 line-one number position n w t u (b, p, x, o, hb, hp, hx, ho, e) (b', p', x', o', kb, kp, kx, ko, f) =
-    e ∙ rw (field-one number b b' hb kb, field-one position p p' hp kp, word-one n w x x' hx kx, own-one n w o o' ho ko) (sym f)
+    e ∙ rw (field-one number b b' hb kb, field-one position p p' hp kp, whole-one n w x x' hx kx, own-one n w o o' ho ko) (sym f)
 
 lines-one : (number n position : ℕ) (ws t u : List ℕ) → AreLines number n position ws t → AreLines number n position ws u → t ≡ u
 unfolding AreLines

@@ -57,17 +57,17 @@ IsShown (Whole.Refused q) t = t ≡ refusalText q
 unfoldable pub IsField : ℕ → List ℕ → Type 0
 IsField n t = (d : List ℕ) × IsDecimal n d × (t ≡ d ++ (space ∷ []))
 
--- a word of n bits, a space and its whole number
-unfoldable pub IsWordText : ℕ → ℕ → List ℕ → Type 0
-IsWordText n w t = (a : Whole) × (d : List ℕ) × TakesWhole n Taking.Nearest w a × IsShown a d × (t ≡ hexOf n w ++ (space ∷ []) ++ d)
+-- a space and the word's whole number
+unfoldable pub IsWholeText : ℕ → ℕ → List ℕ → Type 0
+IsWholeText n w t = (a : Whole) × (d : List ℕ) × TakesWhole n Taking.Nearest w a × IsShown a d × (t ≡ (space ∷ []) ++ d)
 
--- a space, how fine the reading of the word is, and the end of the line
+-- a space and how fine the word's reading is
 unfoldable pub IsOwnText : ℕ → ℕ → List ℕ → Type 0
-IsOwnText n w t = (a : Reading) × (d : List ℕ) × Reads n w a × IsDecimal (a .own) d × (t ≡ (space ∷ []) ++ d ++ (newline ∷ []))
+IsOwnText n w t = (a : Reading) × (d : List ℕ) × Reads n w a × IsDecimal (a .own) d × (t ≡ (space ∷ []) ++ d)
 
 -- a line: block number, position, word, whole number and own fraction bits, one space between
 unfoldable pub IsLine : ℕ → ℕ → ℕ → ℕ → List ℕ → Type 0
-IsLine number position n w t = (b p x o : List ℕ) × IsField number b × IsField position p × IsWordText n w x × IsOwnText n w o × (t ≡ b ++ p ++ x ++ o)
+IsLine number position n w t = (b p x o : List ℕ) × IsField number b × IsField position p × IsWholeText n w x × IsOwnText n w o × (t ≡ b ++ p ++ hexOf n w ++ x ++ o ++ (newline ∷ []))
 
 -- the lines of words, the first of them at a position
 unfoldable pub AreLines : ℕ → ℕ → ℕ → List ℕ → List ℕ → Type 0

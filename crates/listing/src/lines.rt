@@ -13,7 +13,7 @@ use word::reading::read;
 ghost use Prim.Native.Nat.{_+_, _≤_};
 ghost use lib.ListN.{length};
 ghost use Rattle.listing.specs.Puts.{Puts, PutsSome};
-ghost use Rattle.listing.specs.Text.{refusalText, IsShown, IsField, IsWordText, IsOwnText, IsLine};
+ghost use Rattle.listing.specs.Text.{hexOf, refusalText, IsShown, IsField, IsWholeText, IsOwnText, IsLine};
 
 // The line of one word.
 pub(crate) fn put_line(
@@ -29,8 +29,10 @@ pub(crate) fn put_line(
 {
     let block = put_field(out, at, number as u64);
     let place = put_field(out, block, position as u64);
-    let whole = put_word(out, place, width, word);
-    put_own(out, whole, width, word)
+    let hex = put_hex(out, place, width, word);
+    let whole = put_whole(out, hex, width, word);
+    let own = put_own(out, whole, width, word);
+    put_byte(out, own, 0x0a)
 }
 
 // A number and a space.
@@ -42,26 +44,32 @@ fn put_field(out: &mut [u8], at: usize, n: u64) -> usize
     put_byte(out, next, 0x20)
 }
 
-// The word in hex, and its whole number, rounded.
-fn put_word(out: &mut [u8], at: usize, width: u32, word: u64) -> usize
-    requires { ⌜ (width ≤ 64) × (at + 38 ≤ length (now out)) ⌝ }
-    ensures { λ r. ⌜ PutsSome (IsWordText width word) (now (out .entry)) at (now (out .exit)) r × (r ≤ at + 38) ⌝ }
+// The word in hex, with all its digits.
+fn put_hex(out: &mut [u8], at: usize, width: u32, word: u64) -> usize
+    requires { ⌜ (width ≤ 64) × (at + 16 ≤ length (now out)) ⌝ }
+    ensures { λ r. ⌜ Puts (now (out .entry)) at (hexOf width word) (now (out .exit)) r × (r ≤ at + 16) ⌝ }
+{
+    put_digits(out, at, word, 16, (width / 4) as usize)
+}
+
+// A space and the word's whole number, rounded.
+fn put_whole(out: &mut [u8], at: usize, width: u32, word: u64) -> usize
+    requires { ⌜ at + 22 ≤ length (now out) ⌝ }
+    ensures { λ r. ⌜ PutsSome (IsWholeText width word) (now (out .entry)) at (now (out .exit)) r × (r ≤ at + 22) ⌝ }
 {
     let shown = take_whole(Width { bits: width }, Taking::Nearest, word);
-    let hex = put_digits(out, at, word, 16, (width / 4) as usize);
-    let next = put_byte(out, hex, 0x20);
+    let next = put_byte(out, at, 0x20);
     put_shown(out, next, shown)
 }
 
-// How many fraction bits the word has of its own, and the end of the line.
+// A space and the word's own fraction bits.
 fn put_own(out: &mut [u8], at: usize, width: u32, word: u64) -> usize
-    requires { ⌜ at + 22 ≤ length (now out) ⌝ }
-    ensures { λ r. ⌜ PutsSome (IsOwnText width word) (now (out .entry)) at (now (out .exit)) r × (r ≤ at + 22) ⌝ }
+    requires { ⌜ at + 21 ≤ length (now out) ⌝ }
+    ensures { λ r. ⌜ PutsSome (IsOwnText width word) (now (out .entry)) at (now (out .exit)) r × (r ≤ at + 21) ⌝ }
 {
     let reading = read(Width { bits: width }, word);
     let next = put_byte(out, at, 0x20);
-    let last = put_decimal(out, next, reading.own as u64);
-    put_byte(out, last, 0x0a)
+    put_decimal(out, next, reading.own as u64)
 }
 
 // The whole number, `nar` or `over`.

@@ -6,9 +6,9 @@ use Prim.Native.Nat.{ℕ, _-_, _^_, _≤_, _<_}
 use native.Mathlib.Omega.{arith}
 use lib.Pow.{pow-pos}
 use Rattle.order.specs.declared.order.Comparison.{Comparison}
-use Rattle.word.specs.Takum.{takum}
+use Rattle.word.specs.Takum.{takum, fractionBits}
 use Rattle.bounds.specs.Widths.{narWord, largest, smallest}
-use Rattle.word.specs.Reads.{Reads}
+use Rattle.word.specs.Reads.{IsKind, Reads}
 use Rattle.order.specs.Orders.{Compares, Negates}
 use Rattle.word.specs.Orders.{negated}
 use Rattle.bounds.proofs.Powers.{twice}
@@ -28,7 +28,7 @@ reading-is-the-definition n w a i x = answered (word-passes n w i) x
 
 pub reading-tells-words-apart : ReadingTellsWordsApart
 unfolding ReadingTellsWordsApart Reads
-reading-tells-words-apart n x y a ix iy hx hy = words-differ n x y ix iy (meaning-one (takum n x) (takum n y) _ _ (a .kind) (answered (word-passes n x ix) hx .what) (answered (word-passes n y iy) hy .what))
+reading-tells-words-apart n x y a b ix iy hx hy same = words-differ n x y ix iy (meaning-one (takum n x) (takum n y) _ _ (b .kind) (subst (IsKind (takum n x) (fractionBits n x)) same (answered (word-passes n x ix) hx .what)) (answered (word-passes n y iy) hy .what))
 
 pub a-size-is-the-words-value : ASizeIsTheWordsValue
 unfolding ASizeIsTheWordsValue narWord

@@ -223,9 +223,10 @@ unfolding passes FigureHolds ReadingIsTheDefinition
 holds (reads n w x) ok = λ a h.
     let y = both (is-word n w) (said x (takum n w)) ok in
     (takum n w, said-is x (takum n w) (y .1), reading-is-the-definition n w a (word-is n w (y .0)) h)
-holds (hasOwn n w k) ok = λ a h.
+holds (hasOwn n w k) ok =
     let y = both (is-word n w) (eqb (ownFractionBits n w) k) ok in
-    reading-is-the-definition n w a (word-is n w (y .0)) h .fine ∙ eqb→eq (ownFractionBits n w) k (y .1)
+    let i = word-is n w (y .0) in
+    (i, λ a h. reading-is-the-definition n w a i h .fine ∙ eqb→eq (ownFractionBits n w) k (y .1))
 holds (writes n rule M w) ok = given-holds n rule M w (low-word n M) ok
 holds (refuses n rule M number) ok = not-given-holds n rule M number (low-word n M) ok
 holds (writesWhole n rule M w) ok = λ a x. given-holds n rule M w (low-word n M) ok a (as-value n rule M a x)

@@ -133,6 +133,8 @@ a-wider-number-has-what-was-appended n k w w' p rule a a' x is h =
 
 pub a-number-that-was-cut-has-less : promise.ANumberThatWasCutHasLess
 unfolding promise.ANumberThatWasCutHasLess
-a-number-that-was-cut-has-less n k w w' p rule a a' x is h some =
+a-number-that-was-cut-has-less n k w w' p rule a a' x is h =
     let s = not-special n w p a (x .word) (x .before) is in
-    (omega (arith, h, own-before n k w w' rule a a' x (s .0) (s .1)), omega (arith, h, some, own-after n k w w' rule a a' x (s .0) (s .1)))
+    let first = own-before n k w w' rule a a' x (s .0) (s .1) in
+    let last = own-after n k w w' rule a a' x (s .0) (s .1) in
+    (omega (arith, h, first), λ g. omega (arith, g, last), λ g. omega (arith, g, last), λ some. omega (arith, h, some, last))

@@ -29,9 +29,9 @@ pub record RefusedAs (A : Type 0) (refused : Refusal → A) (number : ℕ) (answ
 unfoldable pub ReadingIsTheDefinition : Type 0
 ReadingIsTheDefinition = (n w : ℕ) (a : Reading) → IsWord n w → Reads n w a → IsReading (takum n w) (fractionBits n w) (ownFractionBits n w) a
 
--- two words of one width with the same reading are one word
+-- two words of one width whose readings say the same are one word; how fine they are is not needed to tell them apart
 unfoldable pub ReadingTellsWordsApart : Type 0
-ReadingTellsWordsApart = (n x y : ℕ) (a : Reading) → IsWord n x → IsWord n y → Reads n x a → Reads n y a → x ≡ y
+ReadingTellsWordsApart = (n x y : ℕ) (a b : Reading) → IsWord n x → IsWord n y → Reads n x a → Reads n y b → a .kind ≡ b .kind → x ≡ y
 
 -- a word that is neither zero nor NaR, at the top of 64 bits: its sign and size are those of the value that Definition 2 gives, the size m * 2^(h - 63)
 unfoldable pub ASizeIsTheWordsValue : Type 0

@@ -5,6 +5,7 @@ use mathlib.Core.List.{List, [], _∷_}
 use Prim.Native.Nat.{ℕ}
 use lib.IntN.{ℤ, pos, negℤ}
 use Rattle.bounds.specs.declared.answer.Answer.{Answer}
+use Rattle.bounds.specs.Refusals.{IsWord}
 use Rattle.word.specs.declared.reading.Reading.{Reading}
 use Rattle.word.specs.Takum.{Takum, real, NaR, fractionBits, ownFractionBits}
 use Rattle.word.specs.Reads.{IsSize, signedSize, IsReading, Reads}
@@ -32,9 +33,9 @@ IsSaid (plus M k) t = (z : ℕ) × IsSize M k z × (t ≡ real (signedSize false
 IsSaid (minus M k) t = (z : ℕ) × IsSize M k z × (t ≡ real (signedSize true z))
 IsSaid nar t = t ≡ NaR
 
--- reads n w x: the word w of n bits is x; hasOwn n w k: it has k fraction bits of its own; writes n rule M w: the value M, written in n bits by the rule, is the word w; refuses n rule M number:
--- it is the refusal with this number; writesWhole and refusesWhole: the same of M as a whole number, which is the call a tally goes through; takes n
--- rule w x: the word w of n bits goes out as the whole number x by the rule
+-- reads n w x: the word w of n bits is x; hasOwn n w k: it has k fraction bits of its own; writes n rule M w: the value M, written in n bits by the rule,
+-- is the word w; refuses n rule M number: it is the refusal with this number; writesWhole and refusesWhole: the same of M as a whole number, which is the
+-- call a tally goes through; takes n rule w x: the word w of n bits goes out as the whole number x by the rule
 pub data Figure : Type 0 where
   reads : ℕ → ℕ → Said → Figure
   hasOwn : ℕ → ℕ → ℕ → Figure
@@ -99,12 +100,17 @@ figures =
     ∷ hasOwn 16 0x4000 11
     ∷ reads 12 0x7F0 (plus 1 (pos 239))
     ∷ hasOwn 12 0x7F0 0
+    -- a word and its negation can differ: 2 and -2
+    ∷ reads 16 0x4800 (plus 2 (pos 0))
+    ∷ hasOwn 16 0x4800 10
+    ∷ reads 16 0xB800 (minus 2 (pos 0))
+    ∷ hasOwn 16 0xB800 11
     ∷ []
 
 -- whatever reading or answer the contract allows is the figure's
 unfoldable pub FigureHolds : Figure → Type 0
 FigureHolds (reads n w x) = (a : Reading) → Reads n w a → (t : Takum) × IsSaid x t × IsReading t (fractionBits n w) (ownFractionBits n w) a
-FigureHolds (hasOwn n w k) = (a : Reading) → Reads n w a → a .own ≡ k
+FigureHolds (hasOwn n w k) = IsWord n w × ((a : Reading) → Reads n w a → a .own ≡ k)
 FigureHolds (writes n rule M w) = (a : Answer) → Writes n rule (whole M) a → a ≡ Answer.Word w
 FigureHolds (refuses n rule M number) = (a : Answer) → Writes n rule (whole M) a → RefusedAs Answer Answer.Refused number a
 FigureHolds (writesWhole n rule M w) = (a : Answer) → WritesWhole n rule (pos M) a → a ≡ Answer.Word w

@@ -44,7 +44,9 @@ FromWidth12TheCountIsP = (n w p : ℕ) (a : Reading) → IsWord n w → Reads n 
 unfoldable pub TheCountNeverExceedsP : Type 0
 TheCountNeverExceedsP = (n w p : ℕ) (a : Reading) → IsWord n w → Reads n w a → IsNumberOf p a → a .own ≤ p
 
--- ---- wider is not finer
+-- ---- wider
+-- The value stays, and the count needn't: zeros that a move appends are bits of the wider word, and nothing more is known by them. No such move is refused
+-- (`WiderNeverChangesNorRefuses`).
 -- the word w of n bits and, after a move to k bits more, by either rule, the word w', with their readings
 pub record Widened (n k w w' : ℕ) (rule : Rule) (a a' : Reading) : Type 0 where
   pub word : IsWord n w
@@ -61,6 +63,7 @@ AWiderWordSaysTheSame = (n k w w' : ℕ) (rule : Rule) (a a' : Reading) → Wide
 unfoldable pub AWiderNumberHasWhatWasAppended : Type 0
 AWiderNumberHasWhatWasAppended = (n k w w' p : ℕ) (rule : Rule) (a a' : Reading) → Widened n k w w' rule a a' → IsNumberOf p a → bitsBefore n w ≤ n → a' .own ≡ a .own + k
 
--- and by less where it was
+-- and where it was cut, by what is left of them when the bits before the fraction are made up, which is less
 unfoldable pub ANumberThatWasCutHasLess : Type 0
-ANumberThatWasCutHasLess = (n k w w' p : ℕ) (rule : Rule) (a a' : Reading) → Widened n k w w' rule a a' → IsNumberOf p a → n < bitsBefore n w → 0 < k → (a .own ≡ 0) × (a' .own < k)
+ANumberThatWasCutHasLess = (n k w w' p : ℕ) (rule : Rule) (a a' : Reading) → Widened n k w w' rule a a' → IsNumberOf p a → n < bitsBefore n w
+    → (a .own ≡ 0) × (bitsBefore n w ≤ n + k → a' .own + bitsBefore n w ≡ n + k) × (n + k ≤ bitsBefore n w → a' .own ≡ 0) × (0 < k → a' .own < k)

@@ -16,7 +16,7 @@ pub record DemandOne : Type 0 where
   pub buffer : ARefusedWriteLeavesTheBuffer
 
 pub record DemandTwo : Type 0 where
-  -- "For widths 2 to 64, the reading of each word, alone
+  -- "For widths 2 to 64, the reading of each word (with its own fraction bits: paper 02, Wish 3), alone
   pub alone : ReadingIsTheDefinition
   -- or at any place in a column
   pub in-a-column : EachWordOfAColumnIsMoved

@@ -1,4 +1,4 @@
--- What is promised, as statements that a reader can hold against the letter and paper 01, in reading order.
+-- What is promised, as statements that a reader can hold against the letter and papers 01 and 02, in reading order.
 
 -- the letter's three demands, each as one statement of those below
 pub mod Letter

@@ -49,7 +49,7 @@ pub record IsReading (meaning : Takum) (fraction-bits own-bits : ℕ) (a : Readi
   pub what : IsKind meaning fraction-bits (a .kind)
   pub fine : a .own ≡ own-bits
 
--- a word that is refused has no fraction bits
+-- a refusal, and nothing else
 abbrev pub refusedReading : Refusal → Reading
 refusedReading q = record { kind = Kind.Refused q; own = 0 }
 

@@ -1,4 +1,4 @@
--- What a word means: document 004, Definition 2, in the paper's letters.
+-- What a word means: document 004, Definition 2, in the paper's letters; and how many fraction bits are its own (paper 02, Wish 3).
 use mathlib.Core.Bool.{cond}
 use Prim.Native.Nat.{ℕ, _+_, _-_, _*_, _/_, _%_, _^_, max}
 use lib.Dec.{eqb}

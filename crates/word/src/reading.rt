@@ -1,4 +1,4 @@
-// Reading a word: what its fields mean, in the letters of document 004, Definition 2.
+// Reading a word: what its fields mean, in the letters of document 004, Definition 2, and how many fraction bits are its own.
 use crate::bits::low_bits;
 use crate::fields::cut;
 use crate::fields::regime_of;
@@ -27,7 +27,7 @@ pub enum Kind {
     Refused(Refusal),
 }
 
-// What a word says, and how fine: its own fraction bits, of which zero, NaR and a refused word have none.
+// What a word says, and how fine: how many fraction bits are its own. Zero and NaR have none, and a refusal comes with none.
 pub struct Reading {
     pub kind: Kind,
     pub own: u32,
@@ -58,16 +58,16 @@ pub fn read(width: Width, word: u64) -> Reading
             own: 0,
         };
     }
-    let long = string_length(n);
+    let length = string_length(n);
     Reading {
-        kind: number(long, string),
+        kind: number(length, string),
         own: own_bits(n, string),
     }
 }
 
 // How long a word's string is: below 12 bits zeros are appended.
 fn string_length(n: u32) -> u32
-    ensures { λ long. ⌜ long ≡ N n ⌝ }
+    ensures { λ length. ⌜ length ≡ N n ⌝ }
 {
     if n < 12 {
         return 12;
@@ -86,9 +86,8 @@ fn own_bits(n: u32, t: u64) -> u32
     n - others
 }
 
-// The number of a string of n bits, n at least 12, that is neither zero nor NaR; it stands at the top of t, with zeros behind it. With sign 1 the
-// fraction counts up from -2: the size is 2 - f, which is 1 + (1 - f), or where f is 0 the next power of two. The sign is no branch, since nobody can
-// foretell it.
+// The number of a string of n bits, n at least 12, that is neither zero nor NaR; it stands at the top of t, with zeros behind it. What the size has above
+// its power of two is 1 where the sign is 1 and f is 0, and that is the next power of two.
 fn number(n: u32, t: u64) -> Kind
     requires { ⌜ (12 ≤ n) × (n ≤ 64) × (t % 2 ^ (64 - n) ≡ 0) ⌝ }
     ensures { λ a. ⌜ IsKind (real (Takum.value n (t / 2 ^ (64 - n)))) (Takum.p n (t / 2 ^ (64 - n))) a ⌝ }
@@ -105,7 +104,8 @@ fn number(n: u32, t: u64) -> Kind
     }
 }
 
-// What the size has above 1, in steps of 2^-63, as f is.
+// What the size has above 1, in steps of 2^-63, as f is. With sign 1 the fraction counts up from -2, so the size is 2 - f, which is 1 + (1 - f). This and
+// `exponent` are so little that the machine makes both cases and takes one: it doesn't jump on a sign that nobody can foretell.
 fn fraction(negative: bool, f: u64) -> u64
     requires { ⌜ f ≤ 2 ^ 63 ⌝ }
     ensures { λ r. ⌜ r ≡ cond negative (2 ^ 63 - f) f ⌝ }
@@ -116,6 +116,7 @@ fn fraction(negative: bool, f: u64) -> u64
     f
 }
 
+// The exponent e of (6), from c.
 fn exponent(negative: bool, c: i32) -> i32
     requires { ⌜ mag c ≤ 254 ⌝ }
     ensures { λ e. ⌜ e ≡ cond negative (negℤ (c +ℤ pos 1)) c ⌝ }

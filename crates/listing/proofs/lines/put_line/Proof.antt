@@ -2,7 +2,7 @@
 use mathlib.Core.Path.{refl}
 use native.Mathlib.Omega.{arith}
 use Rattle.listing.specs.Puts.{PutsSome}
-use Rattle.listing.specs.Text.{IsLine}
+use Rattle.listing.specs.Text.{newline, IsLine}
 use Rattle.listing.proofs.Digits.{short-field}
 use Rattle.listing.proofs.Placed as Placed
 use Rattle.listing.proofs.Placed.{joined}
@@ -16,34 +16,62 @@ put-field-requires c κs = search needs
 put-field-requires-2 : tie.Need-put-field-requires-2
 put-field-requires-2 c κs = search needs
 
-put-word-requires : tie.Need-put-word-requires
-put-word-requires c κs = search needs
+put-hex-requires : tie.Need-put-hex-requires
+put-hex-requires c κs = search needs
+
+put-whole-requires : tie.Need-put-whole-requires
+put-whole-requires c κs = search needs
 
 put-own-requires : tie.Need-put-own-requires
 unfolding PutsSome
 put-own-requires c κs =
-    let s = c .before .before .before .before .before .before .before .before .before .before .before .before .before .before in
-    let b = c .before .before .before .before .before .before .before .before .before .before .before .put-field .ensures .0 in
-    let p = c .before .before .before .before .before .before .before .put-field2 .ensures .0 in
-    let w = c .before .before .before .put-word .ensures in
-    omega (arith, s .pre .1, short-field _ _ (s .fits .number .fits) (b .1), b .2 .place, Placed.same-length _ _ _ _ _ (b .2), short-field _ _ (s .fits .position .fits) (p .1), p .2 .place, Placed.same-length _ _ _ _ _ (p .2), w .1, Placed.same-length _ _ _ _ _ (w .0 .2))
+    let s = c .before .before .before .before .before .before .before .before .before .before .before .before .before .before .before .before .before .before in
+    let b = c .before .before .before .before .before .before .before .before .before .before .before .before .before .before .before .put-field .ensures in
+    let p = c .before .before .before .before .before .before .before .before .before .before .before .put-field2 .ensures in
+    let h = c .before .before .before .before .before .before .before .put-hex .ensures in
+    let x = c .before .before .before .put-whole .ensures in
+    omega (arith, s .pre .1, short-field _ _ (s .fits .number .fits) (b .0 .1), b .0 .2 .place, Placed.same-length _ _ _ _ _ (b .0 .2), short-field _ _ (s .fits .position .fits) (p .0 .1), p .0 .2 .place, Placed.same-length _ _ _ _ _ (p .0 .2), h .1, Placed.same-length _ _ _ _ _ (h .0), x .1, Placed.same-length _ _ _ _ _ (x .0 .2))
+
+put-byte-requires : tie.Need-put-byte-requires
+unfolding PutsSome
+put-byte-requires c κs =
+    let s = c .before .before .before .before .before .before .before .before .before .before .before .before .before .before .before .before .before .before .before .before .before .before in
+    let b = c .before .before .before .before .before .before .before .before .before .before .before .before .before .before .before .before .before .before .before .put-field .ensures in
+    let p = c .before .before .before .before .before .before .before .before .before .before .before .before .before .before .before .put-field2 .ensures in
+    let h = c .before .before .before .before .before .before .before .before .before .before .before .put-hex .ensures in
+    let x = c .before .before .before .before .before .before .before .put-whole .ensures in
+    let o = c .before .before .before .put-own .ensures in
+    omega (arith, s .pre .1, short-field _ _ (s .fits .number .fits) (b .0 .1), b .0 .2 .place, Placed.same-length _ _ _ _ _ (b .0 .2), short-field _ _ (s .fits .position .fits) (p .0 .1), p .0 .2 .place, Placed.same-length _ _ _ _ _ (p .0 .2), h .1, Placed.same-length _ _ _ _ _ (h .0), x .1, Placed.same-length _ _ _ _ _ (x .0 .2), o .1, Placed.same-length _ _ _ _ _ (o .0 .2))
 
 same-length : tie.Need-same-length
 same-length c = search needs
 
 returns : tie.Need-returns
-unfolding PutsSome IsLine
+unfolding PutsSome IsLine newline
 returns c =
-    let s = c .before .before .before .before .before .before .before .before .before .before .before .before .before .before .before .before .before in
-    let b = c .before .before .before .before .before .before .before .before .before .before .before .before .before .before .put-field .ensures in
-    let p = c .before .before .before .before .before .before .before .before .before .before .put-field2 .ensures in
-    let w = c .before .before .before .before .before .before .put-word .ensures in
-    let o = c .before .before .put-own .ensures in (
-      (_, (_, _, _, _, b .0 .1, p .0 .1, w .0 .1, o .0 .1, refl), joined _ _ _ _ _ _ _ _ (joined _ _ _ _ _ _ _ _ (joined _ _ _ _ _ _ _ _ (b .0 .2) (p .0 .2)) (w .0 .2)) (o .0 .2)),
-      omega (arith, short-field _ _ (s .fits .number .fits) (b .0 .1), b .0 .2 .place, short-field _ _ (s .fits .position .fits) (p .0 .1), p .0 .2 .place, w .1, o .1),
+    let s = c .before .before .before .before .before .before .before .before .before .before .before .before .before .before .before .before .before .before .before .before .before .before .before .before .before in
+    let b = c .before .before .before .before .before .before .before .before .before .before .before .before .before .before .before .before .before .before .before .before .before .before .put-field .ensures in
+    let p = c .before .before .before .before .before .before .before .before .before .before .before .before .before .before .before .before .before .before .put-field2 .ensures in
+    let h = c .before .before .before .before .before .before .before .before .before .before .before .before .before .before .put-hex .ensures in
+    let x = c .before .before .before .before .before .before .before .before .before .before .put-whole .ensures in
+    let o = c .before .before .before .before .before .before .put-own .ensures in
+    let e = c .before .before .put-byte .ensures in
+    let fields = joined _ _ _ _ _ _ _ _ (b .0 .2) (p .0 .2) in
+    let word = joined _ _ _ _ _ _ _ _ fields (h .0) in
+    let whole = joined _ _ _ _ _ _ _ _ word (x .0 .2) in (
+      (_, (_, _, _, _, b .0 .1, p .0 .1, x .0 .1, o .0 .1, refl), joined _ _ _ _ _ _ _ _ (joined _ _ _ _ _ _ _ _ whole (o .0 .2)) e),
+      omega (arith, short-field _ _ (s .fits .number .fits) (b .0 .1), b .0 .2 .place, short-field _ _ (s .fits .position .fits) (p .0 .1), p .0 .2 .place, h .1, x .1, o .1, e .place),
     )
 
 pub put-line-spec : {M : Type 1} → statement M
 put-line-spec =
     tie.close
-    (tie.spec put-field-requires put-field-requires-2 put-word-requires put-own-requires same-length returns)
+    (tie.spec
+    put-field-requires
+    put-field-requires-2
+    put-hex-requires
+    put-whole-requires
+    put-own-requires
+    put-byte-requires
+    same-length
+    returns)

@@ -100,10 +100,10 @@ module _ (c : tie.After-exponent) where
   unfolding Takum.e
   exponent-is = toZ-ofZ (sfits-of (c .exponent .ok)) ∙ c .exponent .ensures ∙ ap₂ (λ (x : ℕ) (z : ℤ). cond (eqb x 1) (negℤ (z +ℤ pos 1)) z) (sign-is (first (c .before))) (held (c .before) ∙ characteristic-is (c .before))
 
-  sum-fits : SFits w32 (toZ w32 (ofZ w32 (c .exponent .result)) +ℤ toZ w32 (carry (c .before .before)))
-  sum-fits =
-      subst (λ (z : ℤ). SFits w32 (toZ w32 (ofZ w32 (c .exponent .result)) +ℤ z)) (sym (carry-held (c .before .before)))
-      (record { sfits = omega (arith, add-mag (toZ w32 (ofZ w32 (c .exponent .result))) (pos (carry (c .before .before))), ap mag exponent-is, exponent-of-string (n (first (c .before))) (T (first (c .before))), c .before .before .fraction .ok) })
+  sum-fits : (x : ℕ) → x ≤ 1 → SFits w32 (toZ w32 (ofZ w32 (c .exponent .result)) +ℤ toZ w32 x)
+  sum-fits x low =
+      subst (λ (z : ℤ). SFits w32 (toZ w32 (ofZ w32 (c .exponent .result)) +ℤ z)) (sym (toZ-pos w32 {n = x} (omega (arith, low))))
+      (record { sfits = omega (arith, add-mag (toZ w32 (ofZ w32 (c .exponent .result))) (pos x), ap mag exponent-is, exponent-of-string (n (first (c .before))) (T (first (c .before))), low) })
 
 regime-of-requires : tie.Need-regime-of-requires
 regime-of-requires c κs = search needs
@@ -127,7 +127,7 @@ cast-t11 : tie.Need-cast-t11
 cast-t11 c = search needs
 
 add-t12 : tie.Need-add-t12
-add-t12 c = sum-fits c
+add-t12 c = sum-fits c (c .before .before .fraction .result / 2 ^ 63) (omega (arith, c .before .before .fraction .ok))
 
 low-bits-requires : tie.Need-low-bits-requires
 low-bits-requires c κs = search needs
@@ -150,7 +150,7 @@ returns c =
     let x = c .before .before .before in
     let s = start x in
     let pre = s .before .pre in
-    same-number _ _ (ap (λ (y : ℕ). eqb y 1) (sign-is s)) (toZ-ofZ (sum-fits (c .before)) ∙ ap₂ (λ (y z : ℤ). y +ℤ z) (exponent-is (c .before)) (carry-held x ∙ ap pos (carry-is x)))
+    same-number _ _ (ap (λ (y : ℕ). eqb y 1) (sign-is s)) (toZ-ofZ (sum-fits (c .before) (carry x) (omega (arith, x .fraction .ok))) ∙ ap₂ (λ (y z : ℤ). y +ℤ z) (exponent-is (c .before)) (carry-held x ∙ ap pos (carry-is x)))
     (ap₂ (λ (y k : ℕ). (2 ^ 63 + y) / 2 ^ (63 - k)) (c .low-bits .ensures ∙ ap (λ (y : ℕ). y % 2 ^ 63) (above-is x)) (count-is s) ∙ top.size-at-top (P s) (few s) (above-one (n s) (T s))) (count-is s)
     (number-of-string (n s) (T s) (pre .0) (pre .1) (fits s))
 

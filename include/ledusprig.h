@@ -137,7 +137,8 @@ typedef struct takum_word_answer {
  * fraction bits (of a word of fewer than 12 bits with zero bits appended up to 12), and `negative` the sign.
  *
  * `own` tells how fine the reading is, whatever its kind: how many fraction bits are the word's own. That is p less the zero bits that were appended,
- * which are no precision, or 0 where it would be negative. So it never exceeds p, and from 12 bits on it is p. Zero and NaR have 0. */
+ * which are no precision, or 0 where it would be negative. So it never exceeds p, and from 12 bits on it is p. Zero and NaR have 0. It is a count of the
+ * word's bits: a move to a wider width keeps the value and can raise it, and a word and its negation can differ (2 at 16 bits has 10, -2 has 11). */
 typedef struct takum_reading_answer {
     uint32_t refusal;
     uint32_t kind;

@@ -66,7 +66,8 @@ pub struct Reading {
     /// What the word is.
     pub kind: Kind,
     /// How many fraction bits are the word's own: `p` less the zero bits that were appended, which are no precision, or 0 where that would be
-    /// negative. So it never exceeds `p`, and from width 12 on it is `p`. Zero and NaR have 0.
+    /// negative. So it never exceeds `p`, and from width 12 on it is `p`. Zero and NaR have 0. It is a count of the word's bits: a move to a wider
+    /// width keeps the value and can raise it, and a word and its negation can differ (2 at width 16 has 10, -2 has 11).
     pub own: u32,
 }
 

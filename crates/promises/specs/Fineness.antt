@@ -44,26 +44,26 @@ FromWidth12TheCountIsP = (n w p : ℕ) (a : Reading) → IsWord n w → Reads n 
 unfoldable pub TheCountNeverExceedsP : Type 0
 TheCountNeverExceedsP = (n w p : ℕ) (a : Reading) → IsWord n w → Reads n w a → IsNumberOf p a → a .own ≤ p
 
--- ---- wider
--- The value stays, and the count needn't: zeros that a move appends are bits of the wider word, and nothing more is known by them. No such move is refused
--- (`WiderNeverChangesNorRefuses`).
--- the word w of n bits and, after a move to k bits more, by either rule, the word w', with their readings
-pub record Widened (n k w w' : ℕ) (rule : Rule) (a a' : Reading) : Type 0 where
-  pub word : IsWord n w
+-- ---- wider and narrower
+-- The value stays, and the count needn't: zeros that a move appends are bits of the wider word, and nothing more is known by them.
+
+-- The word w of n bits and the word w' of k bits more, each with its reading: w' is what w is moved to, by either rule, which is never refused
+-- (`WiderNeverChangesNorRefuses`), or w is what w' is moved to strictly.
+pub record Widened (n k w w' : ℕ) (a a' : Reading) : Type 0 where
   pub room : n + k ≤ 64
-  pub moved : Moves n (n + k) rule w (Answer.Word w')
-  pub before : Reads n w a
-  pub after : Reads (n + k) w' a'
+  pub moved : (IsWord n w × (rule : Rule) × Moves n (n + k) rule w (Answer.Word w')) ⊎ Moves (n + k) n Rule.Strict w' (Answer.Word w)
+  pub narrow : Reads n w a
+  pub wide : Reads (n + k) w' a'
 
--- the value stays, the bits before the fraction stay, and the count is neither lowered nor raised by more than what was appended
+-- the value stays, the bits before the fraction stay, and the wider word's count is not smaller, nor greater by more than what was appended
 unfoldable pub AWiderWordSaysTheSame : Type 0
-AWiderWordSaysTheSame = (n k w w' : ℕ) (rule : Rule) (a a' : Reading) → Widened n k w w' rule a a' → (takum (n + k) w' ≡ takum n w) × (bitsBefore (n + k) w' ≡ bitsBefore n w) × (a .own ≤ a' .own) × (a' .own ≤ a .own + k)
+AWiderWordSaysTheSame = (n k w w' : ℕ) (a a' : Reading) → Widened n k w w' a a' → (takum (n + k) w' ≡ takum n w) × (bitsBefore (n + k) w' ≡ bitsBefore n w) × (a .own ≤ a' .own) × (a' .own ≤ a .own + k)
 
--- of a number it is raised by exactly what was appended where it was not cut at 0,
+-- of a number it is greater by exactly what was appended where it was not cut at 0,
 unfoldable pub AWiderNumberHasWhatWasAppended : Type 0
-AWiderNumberHasWhatWasAppended = (n k w w' p : ℕ) (rule : Rule) (a a' : Reading) → Widened n k w w' rule a a' → IsNumberOf p a → bitsBefore n w ≤ n → a' .own ≡ a .own + k
+AWiderNumberHasWhatWasAppended = (n k w w' p : ℕ) (a a' : Reading) → Widened n k w w' a a' → IsNumberOf p a → bitsBefore n w ≤ n → a' .own ≡ a .own + k
 
 -- and where it was cut, by what is left of them when the bits before the fraction are made up, which is less
 unfoldable pub ANumberThatWasCutHasLess : Type 0
-ANumberThatWasCutHasLess = (n k w w' p : ℕ) (rule : Rule) (a a' : Reading) → Widened n k w w' rule a a' → IsNumberOf p a → n < bitsBefore n w
+ANumberThatWasCutHasLess = (n k w w' p : ℕ) (a a' : Reading) → Widened n k w w' a a' → IsNumberOf p a → n < bitsBefore n w
     → (a .own ≡ 0) × (bitsBefore n w ≤ n + k → a' .own + bitsBefore n w ≡ n + k) × (n + k ≤ bitsBefore n w → a' .own ≡ 0) × (0 < k → a' .own < k)

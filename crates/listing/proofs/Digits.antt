@@ -1,4 +1,4 @@
--- Digits of a number: one more of them stands in front, there are as many as asked for, and a decimal number of 64 bits needs at most 20. Assumes nothing.
+-- Digits of a number: one more of them stands in front, there are as many as asked for, and how many a number needs in decimal. Assumes nothing.
 use mathlib.Core.Path.{_≡_, refl, sym, ap, ap₂, _∙_, subst}
 use mathlib.Core.List.{List, [], _∷_, _++_, append-nil}
 use Prim.Native.Nat.{ℕ, zero, suc, _+_, _-_, _/_, _%_, _^_, _≤_, _<_, zero-le}
@@ -11,7 +11,7 @@ use lib.ListN.{length, take, drop, set, length-append, take-append-drop}
 use Rattle.bounds.proofs.Powers.{not-more}
 use Rattle.io.specs.Digits.{glyph, digits}
 use Rattle.listing.specs.Puts.{Puts}
-use Rattle.listing.specs.Text.{space, IsDecimal, IsField}
+use Rattle.listing.specs.Text.{IsDecimal}
 use Rattle.listing.proofs.Placed.{in-front}
 
 pub one-more : (b j n : ℕ) → digits b (suc j) n ≡ glyph (n / b ^ j % b) ∷ digits b j n
@@ -45,13 +45,13 @@ fewer n k j top h = by (decLt k j)
     by (yes l) = l
     by (no f) = absurd (omega (arith, top, h, pow-le-pow-right {n = 10} (lit< tt) {i = j} {j = k} (not-more f)))
 
--- so one of 64 bits has no more than 20, and the field of one of 32 bits no more than 11 bytes
+-- so one of 64 bits has no more than 20, and one of 32 bits no more than 10
 pub few : (n k : ℕ) → n < 2 ^ 64 → 10 ^ k ≤ n → k < 20
 few n k top h = fewer n k 20 (lt-of-lt-of-le top (lit≤ tt)) h
 
-pub short-field : (n : ℕ) (t : List ℕ) → n < 2 ^ 32 → IsField n t → length t ≤ 11
-unfolding IsField IsDecimal
-short-field n t top (d, (k, fewest, digits-of), is) = subst (λ (x : ℕ). x ≤ 11) (sym (ap length is ∙ length-append d (space ∷ []) ∙ ap (λ (x : ℕ). x + 1) (ap length digits-of ∙ as-many 10 k n))) (omega (arith, by (decLt 1 k)))
+pub short-decimal : (n : ℕ) (t : List ℕ) → n < 2 ^ 32 → IsDecimal n t → length t ≤ 10
+unfolding IsDecimal
+short-decimal n t top (k, fewest, is) = subst (λ (x : ℕ). x ≤ 10) (sym (ap length is ∙ as-many 10 k n)) (by (decLt 1 k))
   where
     by : Dec (1 < k) → k ≤ 10
     by (yes l) = omega (arith, fewer n (k - 1) 10 (lt-of-lt-of-le top (lit≤ tt)) (fewest .2 l))

@@ -27,20 +27,20 @@ pub(crate) fn put_line(
     requires { ⌜ (width ≤ 64) × (at + 96 ≤ length (now out)) ⌝ }
     ensures { λ r. ⌜ PutsSome (IsLine number position width word) (now (out .entry)) at (now (out .exit)) r × (r ≤ at + 96) ⌝ }
 {
-    let block = put_field(out, at, number as u64);
-    let place = put_field(out, block, position as u64);
+    let block = put_field(out, at, number);
+    let place = put_field(out, block, position);
     let hex = put_hex(out, place, width, word);
     let whole = put_whole(out, hex, width, word);
     let own = put_own(out, whole, width, word);
     put_byte(out, own, 0x0a)
 }
 
-// A number and a space.
-fn put_field(out: &mut [u8], at: usize, n: u64) -> usize
+// A number and a space. Of 32 bits it has no more than ten digits.
+fn put_field(out: &mut [u8], at: usize, n: u32) -> usize
     requires { ⌜ at + 21 ≤ length (now out) ⌝ }
-    ensures { λ r. ⌜ PutsSome (IsField n) (now (out .entry)) at (now (out .exit)) r × (r ≤ at + 21) ⌝ }
+    ensures { λ r. ⌜ PutsSome (IsField n) (now (out .entry)) at (now (out .exit)) r × (r ≤ at + 11) ⌝ }
 {
-    let next = put_decimal(out, at, n);
+    let next = put_decimal(out, at, n as u64);
     put_byte(out, next, 0x20)
 }
 

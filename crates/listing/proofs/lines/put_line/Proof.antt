@@ -1,10 +1,8 @@
--- `put_line` meets its contract: the block number and the position have 32 bits, so the line has no more than 96 bytes. Assumes nothing.
+-- `put_line` meets its contract. Assumes nothing.
 use mathlib.Core.Path.{refl}
 use native.Mathlib.Omega.{arith}
 use Rattle.listing.specs.Puts.{PutsSome}
 use Rattle.listing.specs.Text.{newline, IsLine}
-use Rattle.listing.proofs.Digits.{short-field}
-use Rattle.listing.proofs.Placed as Placed
 use Rattle.listing.proofs.Placed.{joined}
 use borrow.Author.Needs.{needs}
 use Rattle.listing.proofs.lines.put_line.Statement.{statement}
@@ -23,25 +21,10 @@ put-whole-requires : tie.Need-put-whole-requires
 put-whole-requires c κs = search needs
 
 put-own-requires : tie.Need-put-own-requires
-unfolding PutsSome
-put-own-requires c κs =
-    let s = c .before .before .before .before .before .before .before .before .before .before .before .before .before .before .before .before .before .before in
-    let b = c .before .before .before .before .before .before .before .before .before .before .before .before .before .before .before .put-field .ensures in
-    let p = c .before .before .before .before .before .before .before .before .before .before .before .put-field2 .ensures in
-    let h = c .before .before .before .before .before .before .before .put-hex .ensures in
-    let x = c .before .before .before .put-whole .ensures in
-    omega (arith, s .pre .1, short-field _ _ (s .fits .number .fits) (b .0 .1), b .0 .2 .place, Placed.same-length _ _ _ _ _ (b .0 .2), short-field _ _ (s .fits .position .fits) (p .0 .1), p .0 .2 .place, Placed.same-length _ _ _ _ _ (p .0 .2), h .1, Placed.same-length _ _ _ _ _ (h .0), x .1, Placed.same-length _ _ _ _ _ (x .0 .2))
+put-own-requires c κs = search needs
 
 put-byte-requires : tie.Need-put-byte-requires
-unfolding PutsSome
-put-byte-requires c κs =
-    let s = c .before .before .before .before .before .before .before .before .before .before .before .before .before .before .before .before .before .before .before .before .before .before in
-    let b = c .before .before .before .before .before .before .before .before .before .before .before .before .before .before .before .before .before .before .before .put-field .ensures in
-    let p = c .before .before .before .before .before .before .before .before .before .before .before .before .before .before .before .put-field2 .ensures in
-    let h = c .before .before .before .before .before .before .before .before .before .before .before .put-hex .ensures in
-    let x = c .before .before .before .before .before .before .before .put-whole .ensures in
-    let o = c .before .before .before .put-own .ensures in
-    omega (arith, s .pre .1, short-field _ _ (s .fits .number .fits) (b .0 .1), b .0 .2 .place, Placed.same-length _ _ _ _ _ (b .0 .2), short-field _ _ (s .fits .position .fits) (p .0 .1), p .0 .2 .place, Placed.same-length _ _ _ _ _ (p .0 .2), h .1, Placed.same-length _ _ _ _ _ (h .0), x .1, Placed.same-length _ _ _ _ _ (x .0 .2), o .1, Placed.same-length _ _ _ _ _ (o .0 .2))
+put-byte-requires c κs = search needs
 
 same-length : tie.Need-same-length
 same-length c = search needs
@@ -49,7 +32,6 @@ same-length c = search needs
 returns : tie.Need-returns
 unfolding PutsSome IsLine newline
 returns c =
-    let s = c .before .before .before .before .before .before .before .before .before .before .before .before .before .before .before .before .before .before .before .before .before .before .before .before .before in
     let b = c .before .before .before .before .before .before .before .before .before .before .before .before .before .before .before .before .before .before .before .before .before .before .put-field .ensures in
     let p = c .before .before .before .before .before .before .before .before .before .before .before .before .before .before .before .before .before .before .put-field2 .ensures in
     let h = c .before .before .before .before .before .before .before .before .before .before .before .before .before .before .put-hex .ensures in
@@ -60,7 +42,7 @@ returns c =
     let word = joined _ _ _ _ _ _ _ _ fields (h .0) in
     let whole = joined _ _ _ _ _ _ _ _ word (x .0 .2) in (
       (_, (_, _, _, _, b .0 .1, p .0 .1, x .0 .1, o .0 .1, refl), joined _ _ _ _ _ _ _ _ (joined _ _ _ _ _ _ _ _ whole (o .0 .2)) e),
-      omega (arith, short-field _ _ (s .fits .number .fits) (b .0 .1), b .0 .2 .place, short-field _ _ (s .fits .position .fits) (p .0 .1), p .0 .2 .place, h .1, x .1, o .1, e .place),
+      omega (arith, b .1, p .1, h .1, x .1, o .1, e .place),
     )
 
 pub put-line-spec : {M : Type 1} → statement M

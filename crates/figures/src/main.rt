@@ -237,7 +237,7 @@ fn print_own_bits_below_12() {
     print_own_bits(11, 0x7ff);
 }
 
-// From width 12 on every fraction bit is one: 1 has 59 at width 64.
+// From width 12 on every fraction bit is the word's own: 1 has 59 at width 64.
 fn print_own_bits_from_12() {
     print_own_bits(12, 0x400);
     print_own_bits(12, 0xfff);

@@ -80,11 +80,12 @@ takum n w = meaning (N n) (padded n w)
 unfoldable pub fractionBits : ℕ → ℕ → ℕ
 fractionBits n w = p (N n) (padded n w)
 
--- The word's own fraction bits (paper 02, Wish 3): n - r - 5 with r of the padded string, and 0 where that is negative, since zeros that were appended
--- are no precision. Zero and NaR have none.
+-- a number, or 0 where it is negative
 unfoldable pub orZero : ℤ → ℕ
 orZero (pos k) = k
 orZero (negsuc k) = 0
 
+-- The own fraction bits of the word w of n bits (paper 02, Wish 3): n - r - 5 with r of the padded string, or 0 where that is negative, since zeros that
+-- were appended are no precision. Zero and NaR, all of whose bits after the sign are zero, have none.
 unfoldable pub ownFractionBits : ℕ → ℕ → ℕ
 ownFractionBits n w = cond (eqb (w % 2 ^ (n - 1)) 0) 0 (orZero (pos n -ℤ pos (r (N n) (padded n w)) -ℤ pos 5))

@@ -86,8 +86,8 @@ fn own_bits(n: u32, t: u64) -> u32
     n - others
 }
 
-// The number of a string of n bits, n at least 12, that is neither zero nor NaR; it stands at the top of t, with zeros behind it. What the size has above
-// its power of two is 1 where the sign is 1 and f is 0, and that is the next power of two.
+// The number of a string of n bits, n at least 12, that is neither zero nor NaR; it stands at the top of t, with zeros behind it. Where the sign is 1 and
+// the fraction 0, what the size has above 1 is 1 itself, and that is carried into the exponent.
 fn number(n: u32, t: u64) -> Kind
     requires { ⌜ (12 ≤ n) × (n ≤ 64) × (t % 2 ^ (64 - n) ≡ 0) ⌝ }
     ensures { λ a. ⌜ IsKind (real (Takum.value n (t / 2 ^ (64 - n)))) (Takum.p n (t / 2 ^ (64 - n))) a ⌝ }
@@ -95,18 +95,15 @@ fn number(n: u32, t: u64) -> Kind
     let p = n - regime_of(t) - 5;
     let negative = t >> 63 == 1;
     let fields = cut(t);
-    let above_one = fraction(negative, fields.f >> 1);
-    Kind::Number {
-        negative,
-        h: exponent(negative, fields.c) + (above_one >> 63) as i32,
-        m: ((1 << 63) + low_bits(above_one, 63)) >> (63 - p),
-        p,
-    }
+    let above = above_one(negative, fields.f >> 1);
+    let h = exponent(negative, fields.c) + (above >> 63) as i32;
+    let m = ((1 << 63) + low_bits(above, 63)) >> (63 - p);
+    Kind::Number { negative, h, m, p }
 }
 
 // What the size has above 1, in steps of 2^-63, as f is. With sign 1 the fraction counts up from -2, so the size is 2 - f, which is 1 + (1 - f). This and
 // `exponent` are so little that the machine makes both cases and takes one: it doesn't jump on a sign that nobody can foretell.
-fn fraction(negative: bool, f: u64) -> u64
+fn above_one(negative: bool, f: u64) -> u64
     requires { ⌜ f ≤ 2 ^ 63 ⌝ }
     ensures { λ r. ⌜ r ≡ cond negative (2 ^ 63 - f) f ⌝ }
 {
@@ -116,7 +113,7 @@ fn fraction(negative: bool, f: u64) -> u64
     f
 }
 
-// The exponent e of (6), from c.
+// The exponent e of (6), from c, which is from -255 to 254.
 fn exponent(negative: bool, c: i32) -> i32
     requires { ⌜ mag c ≤ 254 ⌝ }
     ensures { λ e. ⌜ e ≡ cond negative (negℤ (c +ℤ pos 1)) c ⌝ }

@@ -55,30 +55,30 @@ module _ (c : tie.After-regime-of) where
   sign-is = top.sign-at-top n t (c .before .pre .0) (c .before .pre .1) (c .before .pre .2)
 
 -- what the size has above 1, in steps of 2^-63
-module _ (c : tie.After-fraction) where
+module _ (c : tie.After-above-one) where
   abbrev start : tie.After-regime-of
   start = c .before .before .before
 
-  above-is : c .fraction .result ≡ above-one (n start) (T start) * 2 ^ (63 - P start)
+  above-is : c .above-one .result ≡ above-one (n start) (T start) * 2 ^ (63 - P start)
   unfolding top.string above-one
   above-is =
       let pre = start .before .pre in
-      c .fraction .ensures
+      c .above-one .ensures
       ∙ ap₂ (λ (x f : ℕ). cond (eqb x 1) (2 ^ 63 - f) f) (sign-is start) (ap (λ (x : ℕ). x / 2 ^ 1) (c .before .before .cut .ensures .fraction) ∙ top.fraction-at-top (n start) (t start) (pre .0) (pre .1) (pre .2))
       ∙ top.above-at-top (P start) (few start) (eqb (S (n start) (T start)) 1) (F (n start) (T start))
 
   abbrev carry : ℕ
-  carry = c .fraction .result / 2 ^ 63
+  carry = c .above-one .result / 2 ^ 63
 
   carry-is : carry ≡ above-one (n start) (T start) / 2 ^ P start
   carry-is = ap (λ (x : ℕ). x / 2 ^ 63) above-is ∙ top.carry-at-top (P start) (few start) (above-one (n start) (T start))
 
   carry-held : toZ w32 carry ≡ pos carry
-  carry-held = toZ-pos w32 {n = carry} (omega (arith, c .fraction .ok))
+  carry-held = toZ-pos w32 {n = carry} (omega (arith, c .above-one .ok))
 
 -- the characteristic as the machine holds it
 module _ (c : tie.After-struct-told) where
-  abbrev whole : tie.After-fraction
+  abbrev whole : tie.After-above-one
   whole = c .before
 
   abbrev first : tie.After-regime-of
@@ -117,32 +117,32 @@ sub-p-2 c = omega (arith, regime-small c, c .before .pre .0)
 cut-requires : tie.Need-cut-requires
 cut-requires c κs = search needs
 
-fraction-requires : tie.Need-fraction-requires
-fraction-requires c κs = search needs
+above-one-requires : tie.Need-above-one-requires
+above-one-requires c κs = search needs
 
 exponent-requires : tie.Need-exponent-requires
 exponent-requires c κs = subst (λ (z : ℤ). mag z ≤ 254) (sym (held c)) (characteristic-small c)
 
-cast-t11 : tie.Need-cast-t11
-cast-t11 c = search needs
+cast-h : tie.Need-cast-h
+cast-h c = search needs
 
-add-t12 : tie.Need-add-t12
-add-t12 c = sum-fits c (c .before .before .fraction .result / 2 ^ 63) (omega (arith, c .before .before .fraction .ok))
+add-h : tie.Need-add-h
+add-h c = sum-fits c (c .before .before .above-one .result / 2 ^ 63) (omega (arith, c .before .before .above-one .ok))
 
 low-bits-requires : tie.Need-low-bits-requires
 low-bits-requires c κs = search needs
 
-add-t15 : tie.Need-add-t15
-add-t15 c = search needs
+add-m : tie.Need-add-m
+add-m c = search needs
 
-sub-t7 : tie.Need-sub-t7
-sub-t7 c = search needs
+sub-m : tie.Need-sub-m
+sub-m c = search needs
 
-cast-t16 : tie.Need-cast-t16
-cast-t16 c = search needs
+cast-m : tie.Need-cast-m
+cast-m c = search needs
 
-shr-t17 : tie.Need-shr-t17
-shr-t17 c = search needs
+shr-m : tie.Need-shr-m
+shr-m c = search needs
 
 returns : tie.Need-returns
 unfolding IsKind
@@ -150,7 +150,7 @@ returns c =
     let x = c .before .before .before in
     let s = start x in
     let pre = s .before .pre in
-    same-number _ _ (ap (λ (y : ℕ). eqb y 1) (sign-is s)) (toZ-ofZ (sum-fits (c .before) (carry x) (omega (arith, x .fraction .ok))) ∙ ap₂ (λ (y z : ℤ). y +ℤ z) (exponent-is (c .before)) (carry-held x ∙ ap pos (carry-is x)))
+    same-number _ _ (ap (λ (y : ℕ). eqb y 1) (sign-is s)) (toZ-ofZ (sum-fits (c .before) (carry x) (omega (arith, x .above-one .ok))) ∙ ap₂ (λ (y z : ℤ). y +ℤ z) (exponent-is (c .before)) (carry-held x ∙ ap pos (carry-is x)))
     (ap₂ (λ (y k : ℕ). (2 ^ 63 + y) / 2 ^ (63 - k)) (c .low-bits .ensures ∙ ap (λ (y : ℕ). y % 2 ^ 63) (above-is x)) (count-is s) ∙ top.size-at-top (P s) (few s) (above-one (n s) (T s))) (count-is s)
     (number-of-string (n s) (T s) (pre .0) (pre .1) (fits s))
 
@@ -162,13 +162,13 @@ number-spec =
     sub-p
     sub-p-2
     cut-requires
-    fraction-requires
+    above-one-requires
     exponent-requires
-    cast-t11
-    add-t12
+    cast-h
+    add-h
     low-bits-requires
-    add-t15
-    sub-t7
-    cast-t16
-    shr-t17
+    add-m
+    sub-m
+    cast-m
+    shr-m
     returns)

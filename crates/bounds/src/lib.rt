@@ -2,4 +2,5 @@
 pub mod answer;
 pub mod refusal;
 pub mod room;
+pub mod saying;
 pub mod width;

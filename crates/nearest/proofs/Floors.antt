@@ -2,7 +2,8 @@
 -- cut falls in the fraction, that word and the next are as evenly spaced as the significands. Assumes nothing.
 use mathlib.Core.Path.{_≡_, refl, sym, ap, ap₂, _∙_, subst}
 use Prim.Native.Nat.{ℕ, zero, suc, _+_, _-_, _*_, _/_, _%_, _^_, _≤_, _<_}
-use native.Mathlib.Nat.{add-comm, mul-assoc, mul-le-mul-right, le-of-mul-le-mul-right, lt-of-mul-lt-mul-right, le-of-lt, le-of-eq, le-trans, lt-of-lt-of-le, lt-of-le-of-lt, mod-lt, zero-lt-suc, mul-pos, le-add-right, div-mul-le-self, mul-add-div-right}
+use mathlib.Core.Logic.{_⊎_, inl, inr}
+use native.Mathlib.Nat.{add-comm, eq-of-mul-eq-mul-right, mul-lt-mul-of-pos-right, mul-assoc, mul-le-mul-right, le-of-mul-le-mul-right, lt-of-mul-lt-mul-right, le-of-lt, le-of-eq, le-trans, lt-of-lt-of-le, lt-of-le-of-lt, mod-lt, zero-lt-suc, mul-pos, le-add-right, div-mul-le-self, mul-add-div-right}
 use native.Mathlib.Numerals.{add-one}
 use native.Mathlib.Omega.{arith}
 use lib.IntN.{ℤ, pos, _+ℤ_, _-ℤ_}
@@ -17,7 +18,7 @@ use Rattle.nearest.specs.Offers.{Amounts, IsOffered}
 use Rattle.nearest.specs.Parts.{TellsSide, TellsHalf}
 use Rattle.nearest.proofs.Exponents.{unit-law}
 use Rattle.word.proofs.Units.{unit-some}
-use Rattle.nearest.proofs.Halves.{Within, within, double, cancel}
+use Rattle.nearest.proofs.Halves.{Within, within, past-unit, double, cancel}
 use Rattle.nearest.proofs.Strings.{Binade, below-top, size-in-binade}
 
 -- the significand after its leading one, cut to P bits
@@ -45,6 +46,14 @@ module _ (h : ℤ) (raised bits P K : ℕ) (binade : Binade h raised bits P K) (
   cut-low : (2 ^ P + cutFraction P m) * 2 ^ (63 - P) ≤ m
   unfolding cutFraction
   cut-low = omega (arith, split (m - 2 ^ 63) (63 - P), whole, full)
+
+  -- the bits that are cut off
+  cut-split : (2 ^ P + cutFraction P m) * 2 ^ (63 - P) + m % 2 ^ (63 - P) ≡ m
+  unfolding cutFraction
+  cut-split = ap (λ (y : ℕ). y * 2 ^ (63 - P) + m % 2 ^ (63 - P)) (sym (mul-add-div-right (pow-pos (63 - P)) (2 ^ P) (m - 2 ^ 63)) ∙ ap (λ (y : ℕ). y / 2 ^ (63 - P)) back) ∙ split m (63 - P)
+    where
+      back : 2 ^ P * 2 ^ (63 - P) + (m - 2 ^ 63) ≡ m
+      back = omega (arith, whole, full)
 
   cut-high : suc m ≤ (2 ^ P + suc (cutFraction P m)) * 2 ^ (63 - P)
   unfolding cutFraction
@@ -109,6 +118,20 @@ module _ (h : ℤ) (raised bits P K : ℕ) (binade : Binade h raised bits P K) (
     floor-high room =
         lt-of-mul-lt-mul-right (den x)
         (lt-of-lt-of-le (bounds .high) (le-trans (le-of-eq (ap (λ (y : ℕ). y * unit) (add-one m))) (le-trans (mul-le-mul-right unit cut-high) (le-of-eq (sym (ap (λ (y : ℕ). y * b * den x) (size-ceiling room) ∙ scaled (2 ^ P + suc (cutFraction P m))))))))
+
+    -- the floor is the size itself where nothing lies behind the first bits, and else below it
+    pub floor-exact : m % 2 ^ (63 - P) ≡ 0 → rest ≡ Rest.Nothing → size (floorString bits P m) * b ≡ a
+    unfolding Amounts
+    floor-exact none nothing =
+        eq-of-mul-eq-mul-right (den x) (unit-some x .1) (size (floorString bits P m) * b) a
+        (ap (λ (y : ℕ). y * b * den x) size-floor ∙ scaled (2 ^ P + cutFraction P m) ∙ ap (λ (y : ℕ). y * unit) (omega (arith, cut-split, none)) ∙ sym (subst (λ (r : Rest). Amounts m r (a * den x) unit) nothing amounts))
+
+    pub floor-finer : (zero < m % 2 ^ (63 - P)) ⊎ (rest ≡ Rest.Nothing → ⊥) → size (floorString bits P m) * b < a
+    floor-finer more = lt-of-mul-lt-mul-right (den x) (lt-of-le-of-lt (le-of-eq (ap (λ (y : ℕ). y * b * den x) size-floor ∙ scaled (2 ^ P + cutFraction P m))) (by more))
+      where
+        by : (zero < m % 2 ^ (63 - P)) ⊎ (rest ≡ Rest.Nothing → ⊥) → (2 ^ P + cutFraction P m) * 2 ^ (63 - P) * unit < a * den x
+        by (inl some-bits) = lt-of-lt-of-le (mul-lt-mul-of-pos-right (omega (arith, cut-split, some-bits)) unit-is-some) (bounds .low)
+        by (inr some-rest) = lt-of-le-of-lt (mul-le-mul-right unit cut-low) (past-unit m rest unit (a * den x) unit-is-some amounts some-rest)
 
     -- ---- at n bits
     module _ (n : ℕ) (lo : 2 ≤ n) (hi : n ≤ 64) where

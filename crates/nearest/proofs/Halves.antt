@@ -27,6 +27,14 @@ within m Rest.OverHalf unit a h x = record { low = omega (arith, x .0); high = x
 neither : (x y : ℕ) → ¬ (x < y) → ¬ (y < x) → y ≡ x
 neither x y f g = le-antisymm (not-more f) (not-more g)
 
+-- with any rest it is more than m units
+pub past-unit : (m : ℕ) (rest : Rest) (unit a : ℕ) → zero < unit → Amounts m rest a unit → (rest ≡ Rest.Nothing → ⊥) → m * unit < a
+unfolding Amounts
+past-unit m Rest.Nothing unit a some x f = absurd (f refl)
+past-unit m Rest.UnderHalf unit a some x f = x .0
+past-unit m Rest.Half unit a some x f = omega (arith, x, some)
+past-unit m Rest.OverHalf unit a some x f = omega (arith, x .0, some)
+
 -- ---- against a half
 pub half-below : (beyond half : ℕ) (rest : Rest) → beyond < half → TellsHalf beyond half rest Side.Under
 unfolding TellsHalf TellsSide

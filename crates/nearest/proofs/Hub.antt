@@ -2,7 +2,7 @@
 use mathlib.Core.Path.{_≡_, refl, sym, ap, _∙_, subst}
 use mathlib.Core.Bool.{false}
 use Prim.Native.Nat.{ℕ, zero, suc, _+_, _-_, _*_, _/_, _%_, _^_, _≤_, _<_}
-use native.Mathlib.Nat.{mul-one, add-mul, mul-le-mul-right, mul-le-mul, le-trans, le-of-eq, le-of-lt, lt-of-lt-of-le, lt-of-le-of-lt, lt-of-mul-lt-mul-right, zero-lt-suc, mul-assoc, mul-right-comm, mul-pos, one-mul, le-add-right}
+use native.Mathlib.Nat.{mul-one, add-mul, mul-le-mul-right, mul-le-mul, mul-lt-mul-of-pos-right, zero-mul, le-trans, le-of-eq, le-of-lt, lt-of-lt-of-le, lt-of-le-of-lt, lt-of-mul-lt-mul-right, zero-lt-suc, mul-assoc, mul-right-comm, mul-pos, one-mul, le-add-right}
 use native.Mathlib.Numerals.{add-one}
 use native.Mathlib.Omega.{arith}
 use lib.IntN.{ℤ, pos, negsuc, _-ℤ_}
@@ -57,32 +57,47 @@ module _ (n : ℕ) (lo : 2 ≤ n) (hi : n ≤ 64) where
   top-lt v h = shl-below (n - 1) (64 - n) 63 h (omega arith)
 
   -- ---- past the ends
-  pub past-last : (i m : ℕ) (rest : Rest) → 254 < i → 2 ^ 63 ≤ m → IsNearest n (pos i) m rest (2 ^ (n - 1) - 1)
-  unfolding IsNearest IsOffered num den
-  past-last i m rest far full = λ a b some offered.
-      place a b (2 ^ (n - 1) - 1) (at-last (grown n) (2 ^ (n - 1)) a b (increasing n lo hi) some (2 ^ (n - 1) - 1) (omega (arith, two n lo hi)) (omega (arith, two n lo hi)) (large a b some (subst (λ (x : ℤ). Amounts m rest (a * den x) (num x * b)) (offset-up i) offered)))
+  -- from 2^255 on every size is beyond that of the largest word
+  pub past-all : (i m : ℕ) (rest : Rest) → 254 < i → 2 ^ 63 ≤ m → (a b : ℕ) → zero < b → IsOffered m rest (pos i -ℤ pos 63) a b → grown n (2 ^ (n - 1) - 1) * b < a
+  unfolding IsOffered num den
+  past-all i m rest far full a b some offered = large (subst (λ (x : ℤ). Amounts m rest (a * den x) (num x * b)) (offset-up i) offered)
     where
       power : 2 ^ (255 + 307) ≤ m * 2 ^ (i + 244)
       power = le-trans (le-of-eq (sym (pow-sum 63 499 (255 + 307) refl))) (mul-le-mul full (pow-mono {i = 499} {j = i + 244} (omega (arith, far))))
 
-      large : (a b : ℕ) → zero < b → Amounts m rest (a * 1) (2 ^ (i + 244) * b) → grown n (2 ^ (n - 1) - 1) * b ≤ a
-      large a b some x =
-          le-trans (mul-le-mul-right b (le-trans (le-of-lt (lt-of-le-of-lt (le-of-eq (grown-suc n (2 ^ (n - 1) - 1) (omega (arith, two n lo hi)))) (size-below ((2 ^ (n - 1) - 1) * 2 ^ (64 - n)) (top-lt (2 ^ (n - 1) - 1) (omega (arith, two n lo hi)))))) power))
+      large : Amounts m rest (a * 1) (2 ^ (i + 244) * b) → grown n (2 ^ (n - 1) - 1) * b < a
+      large x =
+          lt-of-lt-of-le (mul-lt-mul-of-pos-right (lt-of-lt-of-le (lt-of-le-of-lt (le-of-eq (grown-suc n (2 ^ (n - 1) - 1) (omega (arith, two n lo hi)))) (size-below ((2 ^ (n - 1) - 1) * 2 ^ (64 - n)) (top-lt (2 ^ (n - 1) - 1) (omega (arith, two n lo hi))))) power) some)
           (le-trans (le-of-eq (mul-assoc m (2 ^ (i + 244)) b)) (le-trans (within m rest (2 ^ (i + 244) * b) (a * 1) (mul-pos (pow-pos (i + 244)) some) x .low) (le-of-eq (mul-one a))))
 
-  pub before-first : (i m : ℕ) (rest : Rest) → 254 < i → m < 2 ^ 64 → IsNearest n (negsuc i) m rest 1
-  unfolding IsNearest IsOffered num den
-  before-first i m rest far top = λ a b some offered.
-      place a b 1 (at-first (grown n) (2 ^ (n - 1)) a b (increasing n lo hi) some (omega (arith, two n lo hi)) (small a b some (subst (λ (x : ℤ). Amounts m rest (a * den x) (num x * b)) (offset-down i (omega (arith, far))) offered)))
+  pub past-last : (i m : ℕ) (rest : Rest) → 254 < i → 2 ^ 63 ≤ m → IsNearest n (pos i) m rest (2 ^ (n - 1) - 1)
+  unfolding IsNearest
+  past-last i m rest far full = λ a b some offered.
+      place a b (2 ^ (n - 1) - 1) (at-last (grown n) (2 ^ (n - 1)) a b (increasing n lo hi) some (2 ^ (n - 1) - 1) (omega (arith, two n lo hi)) (omega (arith, two n lo hi)) (le-of-lt (past-all i m rest far full a b some offered)))
+
+  -- below 2^-255 every size is short of that of the smallest word, and none is zero
+  pub before-all : (i m : ℕ) (rest : Rest) → 254 < i → 2 ^ 63 ≤ m → m < 2 ^ 64 → (a b : ℕ) → zero < b → IsOffered m rest (negsuc i -ℤ pos 63) a b → (zero < a) × (a < grown n 1 * b)
+  unfolding IsOffered num den
+  before-all i m rest far full top a b some offered = let x = subst (λ (x : ℤ). Amounts m rest (a * den x) (num x * b)) (offset-down i (omega (arith, far))) offered in
+      (not-none a (lt-of-lt-of-le (mul-pos (lt-of-lt-of-le (pow-pos 63) full) (mul-pos (zero-lt-suc 0) some)) (within m rest (1 * b) (a * 2 ^ suc (i - 244)) (mul-pos (zero-lt-suc 0) some) x .low)), small x)
     where
+      not-none : (a : ℕ) → zero < a * 2 ^ suc (i - 244) → zero < a
+      not-none zero h = absurd (omega (arith, h, zero-mul (2 ^ suc (i - 244))))
+      not-none (suc a) h = zero-lt-suc a
+
       power : 2 ^ 64 ≤ grown n 1 * 2 ^ suc (i - 244)
       power = mul-le-mul {n₁ = 2 ^ 52} {m₁ = 2 ^ 12} (le-trans (size-above (1 * 2 ^ (64 - n)) (top-lt 1 (omega (arith, two n lo hi)))) (le-of-eq (sym (grown-suc n 1 (zero-lt-suc 0))))) (pow-mono {i = 12} {j = suc (i - 244)} (omega (arith, far)))
 
-      small : (a b : ℕ) → zero < b → Amounts m rest (a * 2 ^ suc (i - 244)) (1 * b) → a ≤ grown n 1 * b
-      small a b some x =
-          le-of-lt (lt-of-mul-lt-mul-right (2 ^ suc (i - 244))
+      small : Amounts m rest (a * 2 ^ suc (i - 244)) (1 * b) → a < grown n 1 * b
+      small x =
+          lt-of-mul-lt-mul-right (2 ^ suc (i - 244))
           (lt-of-lt-of-le (within m rest (1 * b) (a * 2 ^ suc (i - 244)) (mul-pos (zero-lt-suc 0) some) x .high)
-          (le-trans (le-trans (le-of-eq (ap (λ (y : ℕ). (m + 1) * y) (one-mul b))) (mul-le-mul-right b (le-trans (omega (arith, top)) power))) (le-of-eq (mul-right-comm (grown n 1) (2 ^ suc (i - 244)) b)))))
+          (le-trans (le-trans (le-of-eq (ap (λ (y : ℕ). (m + 1) * y) (one-mul b))) (mul-le-mul-right b (le-trans (omega (arith, top)) power))) (le-of-eq (mul-right-comm (grown n 1) (2 ^ suc (i - 244)) b))))
+
+  pub before-first : (i m : ℕ) (rest : Rest) → 254 < i → 2 ^ 63 ≤ m → m < 2 ^ 64 → IsNearest n (negsuc i) m rest 1
+  unfolding IsNearest
+  before-first i m rest far full top = λ a b some offered.
+      place a b 1 (at-first (grown n) (2 ^ (n - 1)) a b (increasing n lo hi) some (omega (arith, two n lo hi)) (le-of-lt (before-all i m rest far full top a b some offered .1)))
 
   -- ---- inside the range
   module _ (h : ℤ) (e m : ℕ) (rest : Rest) (start : Start) (is : IsRaised h e) (begins : Begins h start) (full : 2 ^ 63 ≤ m) (top : m < 2 ^ 64) (v : ℕ) (v-is : v ≡ firstBits start m / 2 ^ (64 - n)) where

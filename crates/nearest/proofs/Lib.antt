@@ -24,7 +24,9 @@ pub mod Coarse
 pub mod Sides
 -- so it gives the nearest positive word, past either end and inside
 pub mod Hub
--- and a whole class of sizes has one
+-- and a whole class of sizes, of which none is empty, has one
 pub mod Classes
--- every class holds a size, so two outcomes that the contract allows are equal
+-- which way it lies from the size: one of four, and strings tell it
+pub mod Sayings
+-- two outcomes that the contract allows are equal
 pub mod OneOutcome

@@ -2,6 +2,7 @@
 -- functions.
 use mathlib.Core.Path.{_≡_}
 use mathlib.Core.Bool.{Bool, true, false}
+use mathlib.Core.Logic.{_⊎_}
 use Prim.Native.Nat.{ℕ, suc, _+_, _-_, _*_, _/_, _%_, _^_, _≤_, _<_}
 use lib.IntN.{ℤ, pos, _+ℤ_}
 use lib.Signed.{mag}
@@ -71,3 +72,8 @@ IsRaised h e = h +ℤ pos 255 ≡ pos e
 -- (m + rest) 2^(e - 63) against the midpoint of 2^i and 2^j: where the size is a, those two are y and z, in the same unit
 unfoldable pub TellsPowers : ℕ → ℕ → ℕ → ℕ → Rest → Side → Type 0
 TellsPowers i j e m rest side = (unit a : ℕ) → 0 < unit → Amounts m rest a unit → (y z : ℕ) → y * 2 ^ e ≡ 2 ^ (63 + i) * unit → z * 2 ^ e ≡ 2 ^ (63 + j) * unit → TellsSide side (2 * a) (y + z)
+
+-- whether a size goes on behind its first 64 bits, which leave out the lowest 4 + r bits of its significand
+unfoldable pub TellsMore : ℕ → ℕ → Rest → Bool → Type 0
+TellsMore r m rest true = (0 < m % 2 ^ (4 + r)) ⊎ (rest ≡ Rest.Nothing → ⊥)
+TellsMore r m rest false = (m % 2 ^ (4 + r) ≡ 0) × (rest ≡ Rest.Nothing)

@@ -1,5 +1,6 @@
 // One normal size goes in and the nearest positive word comes out: every number that is written passes here.
-use bounds::answer::Answer;
+use crate::saying::saying_of;
+use bounds::answer::Written;
 use bounds::refusal::Verdict;
 use bounds::width::Width;
 use word::fields::cut;
@@ -8,7 +9,8 @@ ghost use Prim.Native.Nat.{_+_, _-_, _*_, _^_, _≤_, _<_};
 ghost use lib.Signed.{mag};
 ghost use Rattle.word.specs.Takum as Takum;
 ghost use Rattle.bounds.specs.Refusals.{IsWord};
-ghost use Rattle.nearest.specs.Offers.{FindsNearest, IsNearest, IsRest};
+ghost use Rattle.nearest.specs.Offers.{IsNearest, IsRest};
+ghost use Rattle.nearest.specs.Sayings.{FindsAndSays};
 ghost use Rattle.nearest.specs.Parts.{TellsCharacteristic, Begins, StartsAbove, turned, firstBits, IsRaised, TellsHalf, TellsPowers, chosenOf, marginOf, ChoosesByCut};
 
 // What lies below the last unit of a significand.
@@ -27,21 +29,24 @@ pub enum Side {
 }
 
 // How every string of a characteristic begins after its sign: direction, regime and characteristic bits, and the regime.
-struct Start {
-    bits: u64,
-    r: u32,
+pub(crate) struct Start {
+    pub(crate) bits: u64,
+    pub(crate) r: u32,
 }
 
-// The positive word nearest to the size (m + below * 2^-64) * 2^(h - 63), the top bit of m being taken as set.
-pub fn nearest(width: Width, h: i64, m: u64, below: u64) -> Answer
-    ensures { λ r. ⌜ FindsNearest (width .bits) h m below r ⌝ }
+// The positive word nearest to the size (m + below * 2^-64) * 2^(h - 63), the top bit of m being taken as set, and which way it lies from it.
+pub fn nearest(width: Width, h: i64, m: u64, below: u64) -> Written
+    ensures { λ r. ⌜ FindsAndSays (width .bits) h m below r ⌝ }
 {
     let verdict = width.test();
     if let Verdict::Refused(q) = verdict {
-        return Answer::Refused(q);
+        return Written::Refused(q);
     }
     let full = (1 << 63) + m % (1 << 63);
-    Answer::Word(nearest_word(width.bits, h, full, rest_of(below)))
+    let rest = rest_of(below);
+    let word = nearest_word(width.bits, h, full, rest);
+    let saying = saying_of(width.bits, h, full, rest, word);
+    Written::Word { word, saying }
 }
 
 // What lies below the last unit, beside a half of it.
@@ -75,7 +80,7 @@ fn nearest_word(n: u32, h: i64, m: u64, rest: Rest) -> u64
 }
 
 // Both ends in one answer, which the machine has by one test.
-fn is_characteristic(h: i64) -> bool
+pub(crate) fn is_characteristic(h: i64) -> bool
     ensures { λ b. ⌜ TellsCharacteristic h b ⌝ }
 {
     if h < -255 {
@@ -145,14 +150,14 @@ fn margin(low: u64, rest: Rest) -> u64
     }
 }
 
-fn last_word(n: u32) -> u64
+pub(crate) fn last_word(n: u32) -> u64
     requires { ⌜ (2 ≤ n) × (n ≤ 64) ⌝ }
     ensures { λ w. ⌜ w ≡ 2 ^ (n - 1) - 1 ⌝ }
 {
     (1 << (n - 1)) - 1
 }
 
-fn start_of(c: i64) -> Start
+pub(crate) fn start_of(c: i64) -> Start
     requires { ⌜ mag c ≤ 254 ⌝ }
     ensures { λ s. ⌜ Begins c s ⌝ }
 {
@@ -198,7 +203,7 @@ fn start_below(above: Start) -> Start
 }
 
 // The first 64 bits of a size's endless string, its sign among them.
-fn first_bits(start: Start, m: u64) -> u64
+pub(crate) fn first_bits(start: Start, m: u64) -> u64
     requires { ⌜ (start .r ≤ 7) × (start .bits < 2 ^ (4 + start .r)) × (2 ^ 63 ≤ m) ⌝ }
     ensures { λ t. ⌜ t ≡ firstBits start m ⌝ }
 {

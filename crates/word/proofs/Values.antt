@@ -167,7 +167,7 @@ one-way (pos a) (negsuc b) h = absurd (true≢false (sym h))
 one-way (negsuc a) (pos b) h = refl
 one-way (negsuc a) (negsuc b) h = le-ltb a b (le-of-lt (ltb-true b a h))
 
-order-zero : (a b : ℤ) → order a b ≡ pos 0 → a ≡ b
+pub order-zero : (a b : ℤ) → order a b ≡ pos 0 → a ≡ b
 unfolding order
 order-zero a b h = unordered a b (first (ltZ a b) (ltZ b a) h) (second (ltZ a b) (ltZ b a) h)
   where
@@ -179,6 +179,24 @@ order-zero a b h = unordered a b (first (ltZ a b) (ltZ b a) h) (second (ltZ a b)
     second true y q = absurd (pos-ne-negsuc 0 0 (sym q))
     second false true q = absurd (omega (arith, ap natAbs q))
     second false false q = refl
+
+-- negated numbers are in the opposite order
+less-negated : (u v : ℤ) → ltZ (negℤ u) (negℤ v) ≡ ltZ v u
+less-negated (pos a) (pos b) = negative-lt a b
+less-negated (pos a) (negsuc j) = negative-positive a (suc j) ∙ lt-ltb 0 (a + suc j) (omega arith)
+less-negated (negsuc i) (pos b) = positive-negative (suc i) b
+less-negated (negsuc i) (negsuc j) = sym (negative-lt (suc j) (suc i))
+
+pub order-negated : (u v : ℤ) → order (negℤ u) (negℤ v) ≡ negℤ (order u v)
+unfolding order
+order-negated u v =
+    ap₂ (λ (x y : Bool). cond x (negsuc 0) (cond y (pos 1) (pos 0))) (less-negated u v) (less-negated v u) ∙ by (ltZ u v) (ltZ v u) (one-way u v)
+  where
+    by : (x y : Bool) → (x ≡ true → y ≡ false) → cond y (negsuc 0) (cond x (pos 1) (pos 0)) ≡ negℤ (cond x (negsuc 0) (cond y (pos 1) (pos 0)))
+    by true true f = absurd (true≢false (f refl))
+    by true false f = refl
+    by false true f = refl
+    by false false f = refl
 
 signed-inj : (n x y : ℕ) → IsWord n x → IsWord n y → signed n x ≡ signed n y → x ≡ y
 signed-inj n x y ix iy h = by (decLt x (2 ^ (n - 1))) (decLt y (2 ^ (n - 1)))

@@ -1,5 +1,5 @@
 -- `nearest` meets its contract: the width, and the nearest word of the size with its top bit set. Assumes nothing.
-use mathlib.Core.Path.{_≡_, refl, sym, _∙_, subst}
+use mathlib.Core.Path.{_≡_, refl, sym, _∙_, subst, subst₂}
 use Prim.Native.Nat.{ℕ, _+_, _%_, _^_, _≤_, _<_}
 use native.Mathlib.Nat.{mod-lt, le-add-right}
 use native.Mathlib.Omega.{arith}
@@ -10,7 +10,11 @@ use borrow.Author.Needs.{needs}
 use Rattle.bounds.specs.declared.refusal.Verdict.{Verdict}
 use Rattle.bounds.specs.Refusals.{widthTest, through, refused}
 use Rattle.bounds.proofs.Verdicts.{width-through}
-use Rattle.nearest.specs.Offers.{FindsNearest, IsNearest}
+use Rattle.bounds.proofs.Answers.{word-said, refusal-said}
+use Rattle.nearest.specs.declared.size.Rest.{Rest}
+use Rattle.nearest.specs.Offers.{FindsNearest, IsNearest, IsRest}
+use Rattle.nearest.specs.Sayings.{SaysOffered, SaysFound, FindsAndSays}
+use Rattle.nearest.proofs.OneOutcome.{rest-one}
 use Rattle.nearest.proofs.size.nearest.Statement.{statement}
 use Rattle.nearest.proofs.size.nearest.Tie as tie
 
@@ -31,8 +35,8 @@ enum-known-verdict : tie.Need-enum-known-verdict
 enum-known-verdict c = search needs
 
 returns : tie.Need-returns
-unfolding FindsNearest
-returns c = refused (sym (c .before .before .before .test .ensures) ∙ c .before .verdict .given .1) refl
+unfolding FindsAndSays FindsNearest
+returns c = refusal-said _ (refused (sym (c .before .before .before .test .ensures) ∙ c .before .verdict .given .1) refl)
 
 enum-told : tie.Need-enum-told
 enum-told c = search needs
@@ -47,16 +51,26 @@ add-full c = let below : s c .args .m % 2 ^ 63 < 2 ^ 63 = mod-lt _ (pow-pos 63) 
 rest-of-requires : tie.Need-rest-of-requires
 rest-of-requires c κs = search needs
 
+-- the word that is found
+near : (c : tie.After-nearest-word) → IsNearest (s (c .before .before) .args .width .bits) (s (c .before .before) .args .h) (2 ^ 63 + s (c .before .before) .args .m % 2 ^ 63) (c .before .rest-of .result) (c .nearest-word .result)
+near c = let t = s (c .before .before) in
+    subst (λ (z : ℤ). IsNearest (t .args .width .bits) z (2 ^ 63 + t .args .m % 2 ^ 63) (c .before .rest-of .result) (c .nearest-word .result)) (toZ-ofZ (t .fits .h)) (c .nearest-word .ensures)
+
 nearest-word-requires : tie.Need-nearest-word-requires
 nearest-word-requires c κs = let b = bounds (c .before) in
     (b .0, b .1, le-add-right _ _)
 
+saying-of-requires : tie.Need-saying-of-requires
+saying-of-requires c κs = let b = bounds (c .before .before) in
+    (b .0, b .1, le-add-right _ _, c .nearest-word .ensures)
+
 returns-2 : tie.Need-returns-2
-unfolding FindsNearest
-returns-2 c = let k = c .before in
+unfolding FindsAndSays FindsNearest SaysFound
+returns-2 c = let w = c .before in
+    let k = w .before in
     let t = s (k .before) in
-    through (let-through (k .before))
-    (c .nearest-word .result, refl, k .rest-of .result, k .rest-of .ensures, subst (λ (z : ℤ). IsNearest (t .args .width .bits) z (2 ^ 63 + t .args .m % 2 ^ 63) (k .rest-of .result) (c .nearest-word .result)) (toZ-ofZ (t .fits .h)) (c .nearest-word .ensures))
+    word-said (w .nearest-word .result) (c .saying-of .result) (through (let-through (k .before)) (w .nearest-word .result, refl, k .rest-of .result, k .rest-of .ensures, near w))
+    (λ rest is. subst₂ (λ (z : ℤ) (rest : Rest). SaysOffered (t .args .width .bits) z (2 ^ 63 + t .args .m % 2 ^ 63) rest (w .nearest-word .result) (c .saying-of .result)) (toZ-ofZ (t .fits .h)) (rest-one (t .args .below) (k .rest-of .result) rest (k .rest-of .ensures) is) (c .saying-of .ensures))
 
 pub nearest-spec : {M : Type 1} → statement M
 nearest-spec =
@@ -70,4 +84,5 @@ nearest-spec =
     add-full
     rest-of-requires
     nearest-word-requires
+    saying-of-requires
     returns-2)

@@ -42,7 +42,7 @@ returns c = let t = s (c .before) in
 
 returns-2 : tie.Need-returns-2
 returns-2 c = let t = c .before .before .before in
-    subst (λ (z : ℤ). IsNearest (t .args .n) z (t .args .m) (t .args .rest) 1) (sym (is-negative (t .args .h) (tested w64 tt (t .fits .h) (c .if2 .taken)))) (before-first (t .args .n) (t .pre .0) (t .pre .1) (mag (t .args .h)) (t .args .m) (t .args .rest) (outside (c .before)) (t .fits .m .fits))
+    subst (λ (z : ℤ). IsNearest (t .args .n) z (t .args .m) (t .args .rest) 1) (sym (is-negative (t .args .h) (tested w64 tt (t .fits .h) (c .if2 .taken)))) (before-first (t .args .n) (t .pre .0) (t .pre .1) (mag (t .args .h)) (t .args .m) (t .args .rest) (outside (c .before)) (t .pre .2) (t .fits .m .fits))
 
 last-word-requires : tie.Need-last-word-requires
 last-word-requires c κs = search needs

@@ -4,8 +4,10 @@ use Prim.Native.Nat.{ℕ}
 use Rattle.bounds.specs.declared.answer.Answer.{Answer}
 use Rattle.bounds.specs.declared.answer.Written.{Written}
 use Rattle.bounds.specs.declared.refusal.Refusal.{Refusal}
+use Rattle.bounds.specs.declared.refusal.Verdict.{Verdict}
 use Rattle.bounds.specs.declared.saying.Saying.{Saying}
 use Rattle.bounds.specs.declared.saying.Saying.the-variants.{Exact}
+use Rattle.bounds.specs.Refusals.{Decided, through, refused}
 use Rattle.bounds.specs.Sayings.{plain, AndSays}
 
 unfoldable pub wordOf : Answer → ℕ
@@ -36,6 +38,11 @@ module _ {Answers : Answer → Type 0} {Says : ℕ → Saying → Type 0} where
 
   pub refusal-said : (q : Refusal) → Answers (Answer.Refused q) → AndSays Answers Says (Written.Refused q)
   refusal-said q x = record { answers = x; says = λ v t e. absurd (no-refusal e) }
+
+  -- where tests come first, and what they let through is answered with its saying
+  pub decided-said : (v : Verdict) (r : Written) → Decided v (λ q. r ≡ Written.Refused q) (AndSays Answers Says r) → AndSays (λ (a : Answer). Decided v (λ q. a ≡ Answer.Refused q) (Answers a)) Says r
+  decided-said v r (through e x) = record { answers = through e (x .answers); says = x .says }
+  decided-said v r (refused {q} e x) = record { answers = refused e (ap plain x); says = λ w s is. absurd (no-refusal (sym x ∙ is)) }
 
   -- one answer and one saying of each word are one answer with its saying
   pub said-one : ((a b : Answer) → Answers a → Answers b → a ≡ b) → ((w : ℕ) (s t : Saying) → Answers (Answer.Word w) → Says w s → Says w t → s ≡ t) → (a b : Written) → AndSays Answers Says a → AndSays Answers Says b → a ≡ b

@@ -48,6 +48,11 @@ unfolding signedSize
 size-times (pos i) b = refl
 size-times (negsuc i) b = ap natAbs (neg-mul (suc i) b) ∙ absolute true (suc i * b)
 
+pub signed-times : (s : Bool) (z b : ℕ) → signedSize s z *ℤ pos b ≡ signedSize s (z * b)
+unfolding signedSize
+signed-times false z b = refl
+signed-times true z b = neg-mul z b
+
 other-sign : (s : Bool) (a : ℕ) → signedSize (not s) a ≡ negℤ (signedSize s a)
 unfolding signedSize
 other-sign false a = refl
@@ -125,6 +130,16 @@ module _ (n : ℕ) (lo : 2 ≤ n) (hi : n ≤ 64) where
       by (pos zero) means q = nothing (sym sizes ∙ ap (λ (y : ℤ). natAbs y * b) q ∙ omega arith) past
       by (pos (suc j)) means q = at false (suc j) means (zero-lt-suc j) (ap (λ (y : ℤ). natAbs y * b) (sym q) ∙ sizes)
       by (negsuc j) means q = at true (suc j) means (zero-lt-suc j) (ap (λ (y : ℤ). natAbs y * b) (sym q) ∙ sizes)
+
+  -- a word of the value's own sign is exactly the value where its size is
+  pub exact-size : (s : Bool) (z a b w : ℕ) → HasValue n s z w → Says n s a b w Exact → z * b ≡ a
+  unfolding Says
+  exact-size s z a b w is x =
+      ap (λ (y : ℕ). y * b) (sym (absolute s z) ∙ ap natAbs (real-inj (sym (is .means) ∙ x .means))) ∙ sym (size-times (x .x) b) ∙ ap natAbs (order-zero (x .x *ℤ pos b) (signedSize s a) (x .is)) ∙ absolute s a
+
+  pub size-exact : (s : Bool) (z a b w : ℕ) → HasValue n s z w → z * b ≡ a → Says n s a b w Exact
+  unfolding Says
+  size-exact s z a b w is q = record { x = signedSize s z; means = is .means; is = ap (λ (y : ℤ). order y (signedSize s a)) (signed-times s z b ∙ ap (signedSize s) q) ∙ order-same (signedSize s a) }
 
   -- only one of the four is said
   pub says-one : (s : Bool) (a b w : ℕ) (q q' : Saying) → IsWord n w → Says n s a b w q → Says n s a b w q' → q ≡ q'

@@ -13,8 +13,6 @@ pub mod Long
 mod Held
 -- a word that has a size has it in this form
 pub mod Sized
--- two sizes are the same exactly where their normal forms are
-pub mod Exact
 -- no word has a size that lies strictly between two multiples of a unit, past 64 bits
 pub mod Finer
 -- ---- what the two rules give

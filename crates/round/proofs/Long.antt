@@ -2,13 +2,14 @@
 use mathlib.Core.Path.{_≡_, sym, ap, _∙_, subst, subst₂}
 use Prim.Native.Nat.{ℕ, zero, suc, _+_, _-_, _*_, _/_, _%_, _^_, _≤_, _<_}
 use native.Mathlib.Nat.{add-mul, mul-assoc, mul-comm, mul-right-comm, mul-lt-mul-of-pos-right, mul-le-mul-right, lt-of-mul-lt-mul-right, le-trans, le-of-eq, le-of-suc-le-suc, le-add-right, lt-of-lt-of-le, mul-pos}
+use native.Mathlib.Decide.{decLt}
 use native.Mathlib.Omega.{arith}
 use lib.Count.{leadingZeros}
 use lib.Dec.{lit≤}
 use lib.IntN.{ℤ, pos, _+ℤ_, _-ℤ_, +ℤ-negℤ-cancel}
 use lib.Pow.{shr-lt, split}
 use Rattle.word.specs.Reads.{num, den}
-use Rattle.bounds.proofs.Powers.{pow-sum, shl-below, shl-out, Log, leading-log}
+use Rattle.bounds.proofs.Powers.{pow-sum, not-more, shl-below, shl-out, Log, leading-log}
 use Rattle.word.proofs.Units.{unit-some, lower-by}
 use Rattle.nearest.specs.declared.size.Rest.{Rest}
 use Rattle.nearest.specs.declared.size.Side.{Side}
@@ -35,6 +36,17 @@ module _ (m below x unit : ℕ) (some : zero < unit) (fits : below < 2 ^ 64) (is
   rest-amounts Rest.UnderHalf h = (omega (arith, parts, beyond 0 (h .0)), omega (arith, parts, short (2 ^ 63) (h .1)))
   rest-amounts Rest.Half q = omega (arith, parts, ap (λ (y : ℕ). y * unit) q)
   rest-amounts Rest.OverHalf h = (omega (arith, parts, beyond (2 ^ 63) h), omega (arith, parts, short (2 ^ 64) fits))
+
+-- one of the four it always is
+pub some-rest : (below : ℕ) → (rest : Rest) × IsRest below rest
+unfolding IsRest
+some-rest below = by (decLt 0 below) (decLt below (2 ^ 63)) (decLt (2 ^ 63) below)
+  where
+    by : Dec (0 < below) → Dec (below < 2 ^ 63) → Dec (2 ^ 63 < below) → (rest : Rest) × IsRest below rest
+    by (no f) y z = (Rest.Nothing, omega (arith, not-more f))
+    by (yes h) (yes l) z = (Rest.UnderHalf, (h, l))
+    by (yes h) (no f) (yes g) = (Rest.OverHalf, g)
+    by (yes h) (no f) (no g) = (Rest.Half, omega (arith, not-more f, not-more g))
 
 -- ---- the size of 128 bits in the units of its first 64
 pub finer-offer : (m below : ℕ) (rest : Rest) (h : ℤ) (a b : ℕ) → 0 < b → below < 2 ^ 64 → IsRest below rest → IsOffered (m * 2 ^ 64 + below) Rest.Nothing (h -ℤ pos 127) a b → IsOffered m rest (h -ℤ pos 63) a b

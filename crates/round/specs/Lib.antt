@@ -1,4 +1,5 @@
 -- What the contracts of this crate cite.
 pub mod Writes
+pub mod Sayings
 pub mod Offers
 pub mod Jamming

@@ -1,35 +1,41 @@
 // Writing a long value as a word: every number that is written passes here.
 use crate::value::LongValue;
 use crate::value::Rule;
-use bounds::answer::Answer;
+use bounds::answer::Written;
 use bounds::refusal::Refusal;
 use bounds::refusal::Verdict;
+use bounds::saying::Saying;
 use bounds::width::Width;
 use nearest::size::nearest;
 use sizes::size::Size;
-use sizes::size::size_of;
 ghost use mathlib.Core.Path.{_≡_};
 ghost use Prim.Native.Nat.{_+_, _-_, _*_, _^_, _≤_, _<_};
-ghost use Rattle.round.specs.Writes.{WritesLong, WritesShort, WritesSize};
-ghost use Rattle.round.specs.Offers.{Rounds, Settles, TellsSize, WritesFiner, WritesTimes, WritesZero, topBits, withSign};
+ghost use Rattle.round.specs.Sayings.{WritesLongAndSays, WritesShortAndSays, WritesSizeAndSays};
+ghost use Rattle.round.specs.Offers.{Rounds, Settles, WritesTimes, WritesZero, topBits, withSign, signedSaying};
 
-// The word for a long value: the nearest, or exactly that value or INEXACT.
-pub fn write_long(width: Width, rule: Rule, value: LongValue) -> Answer
-    ensures { λ r. ⌜ WritesLong (width .bits) rule value r ⌝ }
+// What `rounded` finds: a word, and which way it lies from the value.
+struct Found {
+    word: u64,
+    saying: Saying,
+}
+
+// The word for a long value, the nearest, or exactly that value or INEXACT; and which way it went.
+pub fn write_long(width: Width, rule: Rule, value: LongValue) -> Written
+    ensures { λ r. ⌜ WritesLongAndSays (width .bits) rule value r ⌝ }
 {
     if value.high == 0 {
         return write_short(width, rule, value.negative, value.low, value.k);
     }
     let verdict = width.test();
     if let Verdict::Refused(q) = verdict {
-        return Answer::Refused(q);
+        return Written::Refused(q);
     }
     write_full(width, rule, value.negative, value.high, value.low, value.k)
 }
 
 // The same of m * 2^k with its sign. Most values are so short, so they have a call of their own.
-pub fn write_short(width: Width, rule: Rule, negative: bool, m: u64, k: i32) -> Answer
-    ensures { λ r. ⌜ WritesShort (width .bits) rule negative m k r ⌝ }
+pub fn write_short(width: Width, rule: Rule, negative: bool, m: u64, k: i32) -> Written
+    ensures { λ r. ⌜ WritesShortAndSays (width .bits) rule negative m k r ⌝ }
 {
     if m == 0 {
         return zero_word(width);
@@ -37,13 +43,13 @@ pub fn write_short(width: Width, rule: Rule, negative: bool, m: u64, k: i32) -> 
     let zeros = u64::leading_zeros(m);
     let h = k as i64 + (63 - zeros) as i64;
     let full = m << zeros;
-    let word = rounded(width, negative, h, full, 0);
-    by_rule(width, rule, h, full, word)
+    let found = rounded(width, negative, h, full, 0);
+    by_rule(rule, found)
 }
 
 // The same of a size as a word is read in, m * 2^(h - 63) with its sign, also where the top bit of m isn't set.
-pub fn write_size(width: Width, rule: Rule, size: Size) -> Answer
-    ensures { λ r. ⌜ WritesSize (width .bits) rule size r ⌝ }
+pub fn write_size(width: Width, rule: Rule, size: Size) -> Written
+    ensures { λ r. ⌜ WritesSizeAndSays (width .bits) rule size r ⌝ }
 {
     let m = size.m;
     if m == 0 {
@@ -52,22 +58,25 @@ pub fn write_size(width: Width, rule: Rule, size: Size) -> Answer
     let zeros = u64::leading_zeros(m);
     let h = size.h as i64 - zeros as i64;
     let full = m << zeros;
-    let word = rounded(width, size.negative, h, full, 0);
-    by_rule(width, rule, h, full, word)
+    let found = rounded(width, size.negative, h, full, 0);
+    by_rule(rule, found)
 }
 
 // What is written for zero.
-fn zero_word(width: Width) -> Answer
+fn zero_word(width: Width) -> Written
     ensures { λ r. ⌜ WritesZero (width .bits) r ⌝ }
 {
     match width.test() {
-        Verdict::Through => Answer::Word(0),
-        Verdict::Refused(q) => Answer::Refused(q),
+        Verdict::Through => Written::Word {
+            word: 0,
+            saying: Saying::Exact,
+        },
+        Verdict::Refused(q) => Written::Refused(q),
     }
 }
 
 // What is written for a significand that goes past 64 bits. Its first 64 stand in m, the others below.
-fn write_full(width: Width, rule: Rule, negative: bool, high: u64, low: u64, k: i32) -> Answer
+fn write_full(width: Width, rule: Rule, negative: bool, high: u64, low: u64, k: i32) -> Written
     requires { ⌜ (2 ≤ width .bits) × (width .bits ≤ 64) × (0 < high) ⌝ }
     ensures { λ r. ⌜ WritesTimes (width .bits) rule negative (high * 2 ^ 64 + low) k r ⌝ }
 {
@@ -75,11 +84,8 @@ fn write_full(width: Width, rule: Rule, negative: bool, high: u64, low: u64, k: 
     let h = k as i64 + (127 - zeros) as i64;
     let m = top_bits(high, low, zeros);
     let below = low << zeros;
-    if below == 0 {
-        let word = rounded(width, negative, h, m, 0);
-        return by_rule(width, rule, h, m, word);
-    }
-    write_finer(width, rule, negative, h, m, below)
+    let found = rounded(width, negative, h, m, below);
+    by_rule(rule, found)
 }
 
 // The first 64 bits of two numbers in a row, after so many zeros.
@@ -90,46 +96,41 @@ fn top_bits(high: u64, low: u64, zeros: u32) -> u64
     (high << zeros) + ((low >> 1) >> (63 - zeros))
 }
 
-// The word for the size m * 2^(h - 63) and something below its last unit, counted in 2^-64 of it: no word has so many bits, so none has exactly
-// that size.
-fn write_finer(width: Width, rule: Rule, negative: bool, h: i64, m: u64, below: u64) -> Answer
-    requires { ⌜ (2 ≤ width .bits) × (width .bits ≤ 64) × (2 ^ 63 ≤ m) × (0 < below) ⌝ }
-    ensures { λ r. ⌜ WritesFiner (width .bits) rule negative h m below r ⌝ }
-{
-    match rule {
-        Rule::Rounded => Answer::Word(rounded(width, negative, h, m, below)),
-        Rule::Strict => Answer::Refused(Refusal::Inexact),
-    }
-}
-
 // The word that is nearest to the size (m + below * 2^-64) * 2^(h - 63) with its sign, or 0, which is nearest to none, where the width is refused:
 // `nearest` tests it, and once is enough. Whoever writes calls this and then `by_rule`: so this is compiled once, and the rule where it is known.
-fn rounded(width: Width, negative: bool, h: i64, m: u64, below: u64) -> u64
+fn rounded(width: Width, negative: bool, h: i64, m: u64, below: u64) -> Found
     requires { ⌜ 2 ^ 63 ≤ m ⌝ }
-    ensures { λ w. ⌜ Rounds (width .bits) negative h m below w ⌝ }
+    ensures { λ f. ⌜ Rounds (width .bits) negative h m below (f .word) (f .saying) ⌝ }
 {
     match nearest(width, h, m, below) {
-        Answer::Word(word) => with_sign(width.bits, negative, word),
-        Answer::Refused(_) => 0,
+        Written::Word { word, saying } => Found {
+            word: with_sign(width.bits, negative, word),
+            saying: signed_saying(negative, saying),
+        },
+        Written::Refused(_) => Found {
+            word: 0,
+            saying: Saying::Exact,
+        },
     }
 }
 
-// The nearest word by the rule: by the strict one only where it has the size m * 2^(h - 63). If any word has it, that is the nearest.
-fn by_rule(width: Width, rule: Rule, h: i64, m: u64, word: u64) -> Answer
-    requires { ⌜ (2 ^ 63 ≤ m) × (0 < word → (2 ≤ width .bits) × (width .bits ≤ 64)) ⌝ }
-    ensures { λ r. ⌜ Settles (width .bits) rule h m word r ⌝ }
+// The nearest word by the rule: by the strict one only where it is exactly the value. If any word has the value, that is the nearest.
+fn by_rule(rule: Rule, found: Found) -> Written
+    ensures { λ r. ⌜ Settles rule (found .word) (found .saying) r ⌝ }
 {
+    let word = found.word;
+    let saying = found.saying;
     // 0 is the nearest word to no size: the width was refused.
     if word == 0 {
-        return Answer::Refused(Refusal::Width);
+        return Written::Refused(Refusal::Width);
     }
     match rule {
-        Rule::Rounded => Answer::Word(word),
+        Rule::Rounded => Written::Word { word, saying },
         Rule::Strict => {
-            if has_size(width.bits, word, h, m) {
-                return Answer::Word(word);
+            if saying.is_exact() {
+                return Written::Word { word, saying };
             }
-            Answer::Refused(Refusal::Inexact)
+            Written::Refused(Refusal::Inexact)
         }
     }
 }
@@ -146,14 +147,12 @@ fn with_sign(n: u32, negative: bool, word: u64) -> u64
     word
 }
 
-// Whether a word has the size m * 2^(h - 63), whichever its sign.
-fn has_size(n: u32, word: u64, h: i64, m: u64) -> bool
-    requires { ⌜ (2 ≤ n) × (n ≤ 64) × (2 ^ 63 ≤ m) ⌝ }
-    ensures { λ r. ⌜ TellsSize n word h m r ⌝ }
+// What is said of a size, with the sign: of negative values the larger is below the smaller.
+fn signed_saying(negative: bool, saying: Saying) -> Saying
+    ensures { λ s. ⌜ s ≡ signedSaying negative saying ⌝ }
 {
-    let size = size_of(word << (64 - n));
-    if size.h as i64 != h {
-        return false;
+    if negative {
+        return saying.opposite();
     }
-    size.m == m
+    saying
 }

@@ -1,7 +1,7 @@
 -- `write_full` meets its contract: the first 64 bits, and what lies below them. Assumes nothing.
 use mathlib.Core.Path.{_≡_, sym, ap, _∙_, subst, subst₂}
 use Prim.Native.Nat.{ℕ, _+_, _-_, _*_, _%_, _^_, _≤_, _<_}
-use native.Mathlib.Nat.{pos-of-ne-zero, lt-of-le-of-lt, mul-pos, mod-lt}
+use native.Mathlib.Nat.{lt-of-le-of-lt, mul-pos, mod-lt}
 use native.Mathlib.Omega.{arith}
 use borrow.Author.Needs.{needs}
 use lib.Dec.{lit<}
@@ -12,11 +12,10 @@ use Rattle.word.specs.Reads.{num, den}
 use Rattle.word.proofs.Units.{unit-some}
 use Rattle.nearest.specs.declared.size.Rest.{Rest}
 use Rattle.nearest.specs.Offers.{IsOffered}
-use Rattle.nearest.specs.Offers.{IsRest}
 use Rattle.bounds.proofs.Verdicts.{width-fits, answered}
-use Rattle.round.specs.Offers.{topBits, WritesNormal, Settles, WritesFiner, WritesTimes}
+use Rattle.round.specs.Offers.{topBits, WritesNormal, Settles, WritesTimes}
 use Rattle.round.proofs.Held.{raised-fits, held-sum, wide}
-use Rattle.round.proofs.Long.{few-zeros, high-shifted, top-full, long-offer, finer-offer}
+use Rattle.round.proofs.Long.{few-zeros, high-shifted, top-full, long-offer, some-rest, finer-offer}
 use Rattle.round.proofs.writing.write_full.Statement.{statement}
 use Rattle.round.proofs.writing.write_full.Tie as tie
 
@@ -77,29 +76,18 @@ shl-below : tie.Need-shl-below
 shl-below c = lt-of-le-of-lt (few (c .before)) (lit< tt)
 
 rounded-requires : tie.Need-rounded-requires
-rounded-requires c κs = full (c .before)
+rounded-requires c κs = full c
 
 by-rule-requires : tie.Need-by-rule-requires
-by-rule-requires c κs = let k = c .before .before in
-    (full k, λ some. (k .before .pre .0, k .before .pre .1))
+by-rule-requires c κs = search needs
 
 returns : tie.Need-returns
-unfolding WritesTimes WritesNormal Settles IsRest
-returns c = let k = c .before .before .before in
+unfolding WritesTimes WritesNormal Settles
+returns c = let k = c .before .before in
     let s = k .before in
-    subst (λ (z : ℤ). WritesNormal (s .args .width .bits) (s .args .rule) (s .args .negative) z (k .top-bits .result) (c .by-rule .result)) (held-sum (s .args .k) (s .fits .k) (127 - zeros s) (small s)) (answered (width-fits _ (s .pre .0) (s .pre .1)) (c .by-rule .ensures (s .args .negative) (c .before .rounded .ensures))) _ _ (mul-pos (some s) (unit-some _ .0)) (unit-some _ .1)
-    (finer-offer (k .top-bits .result) (below s) Rest.Nothing (h s) _ _ (unit-some _ .1) (below-lt s) (c .before .before .if1 .taken) (offered s (k .top-bits .result) (k .top-bits .ensures)))
-
-write-finer-requires : tie.Need-write-finer-requires
-write-finer-requires c κs = let k = c .before in
-    (k .before .pre .0, k .before .pre .1, full k, pos-of-ne-zero (c .if1 .left))
-
-returns-2 : tie.Need-returns-2
-unfolding WritesTimes WritesFiner
-returns-2 c = let k = c .before .before in
-    let s = k .before in
-    subst (λ (z : ℤ). WritesFiner (s .args .width .bits) (s .args .rule) (s .args .negative) z (k .top-bits .result) (below s) (c .write-finer .result)) (held-sum (s .args .k) (s .fits .k) (127 - zeros s) (small s)) (c .write-finer .ensures) _ _ (mul-pos (some s) (unit-some _ .0)) (unit-some _ .1)
-    (offered s (k .top-bits .result) (k .top-bits .ensures))
+    let t = some-rest (below s) in
+    subst (λ (z : ℤ). WritesNormal (s .args .width .bits) (s .args .rule) (s .args .negative) z (k .top-bits .result) (below s) (c .by-rule .result)) (held-sum (s .args .k) (s .fits .k) (127 - zeros s) (small s)) (answered (width-fits _ (s .pre .0) (s .pre .1)) (c .by-rule .ensures _ (s .args .negative) _ _ _ (c .before .rounded .ensures))) (t .0) (t .1) _ _ (mul-pos (some s) (unit-some _ .0)) (unit-some _ .1)
+    (finer-offer (k .top-bits .result) (below s) (t .0) (h s) _ _ (unit-some _ .1) (below-lt s) (t .1) (offered s (k .top-bits .result) (k .top-bits .ensures)))
 
 pub write-full-spec : {M : Type 1} → statement M
 write-full-spec =
@@ -114,6 +102,4 @@ write-full-spec =
     shl-below
     rounded-requires
     by-rule-requires
-    returns
-    write-finer-requires
-    returns-2)
+    returns)

@@ -1,5 +1,5 @@
 -- `write_short` meets its contract: zero, and any other significand with its top bit moved to 2^63. Assumes nothing.
-use mathlib.Core.Path.{_≡_, ap, _∙_, subst}
+use mathlib.Core.Path.{_≡_, refl, ap, _∙_, subst}
 use Prim.Native.Nat.{ℕ, zero, _-_, _*_, _%_, _^_, _≤_, _<_}
 use native.Mathlib.Nat.{pos-of-ne-zero, zero-mul, lt-of-le-of-lt, mul-pos}
 use native.Mathlib.Omega.{arith}
@@ -7,14 +7,17 @@ use borrow.Author.Needs.{needs}
 use lib.Dec.{lit<}
 use lib.Count.{leadingZeros}
 use lib.IntN.{ℤ, pos, _+ℤ_}
-use Rattle.bounds.specs.declared.answer.Answer.{Answer}
+use Rattle.bounds.specs.declared.answer.Written.{Written}
 use Rattle.bounds.specs.Refusals.{widthTest, Decided}
 use Rattle.word.specs.Reads.{num}
 use Rattle.word.proofs.Units.{unit-some}
 use Rattle.round.specs.Writes.{WritesShort}
+use Rattle.round.specs.Sayings.{WritesShortAndSays}
+use Rattle.nearest.specs.declared.size.Rest.{Rest}
+use Rattle.nearest.specs.Offers.{IsRest}
 use Rattle.round.specs.Offers.{WritesNormal, Settles}
 use Rattle.round.proofs.Normal.{zeros-le, shifted-full, shifted-offer}
-use Rattle.round.proofs.Rules.{zero-answered, rounds-width, normal-answered}
+use Rattle.round.proofs.Rules.{zero-answered, normal-answered}
 use Rattle.round.proofs.Held.{raised-fits, held-sum, wide}
 use Rattle.round.proofs.writing.write_short.Statement.{statement}
 use Rattle.round.proofs.writing.write_short.Tie as tie
@@ -40,7 +43,7 @@ zero-word-requires : tie.Need-zero-word-requires
 zero-word-requires c κs = search needs
 
 returns : tie.Need-returns
-unfolding WritesShort
+unfolding WritesShortAndSays WritesShort
 returns c = let t = c .before .before in
     zero-answered _ _ _ _ _ _ (ap (λ (x : ℕ). x * num (t .args .k +ℤ pos 307)) (c .before .if1 .taken) ∙ zero-mul (num (t .args .k +ℤ pos 307))) (c .zero-word .ensures)
 
@@ -66,15 +69,14 @@ rounded-requires : tie.Need-rounded-requires
 rounded-requires c κs = shifted-full _ (some c) (s c .fits .m .fits)
 
 by-rule-requires : tie.Need-by-rule-requires
-by-rule-requires c κs = let k = c .before in
-    (shifted-full _ (some k) (s k .fits .m .fits), rounds-width _ _ _ _ _ _ (c .rounded .ensures))
+by-rule-requires c κs = search needs
 
 returns-2 : tie.Need-returns-2
-unfolding WritesShort Settles
+unfolding WritesShortAndSays WritesShort Settles IsRest
 returns-2 c = let k = c .before .before in
     let t = s k in
-    let written = subst (λ (z : ℤ). Decided (widthTest (t .args .width .bits)) (λ q. c .by-rule .result ≡ Answer.Refused q) (WritesNormal (t .args .width .bits) (t .args .rule) (t .args .negative) z (m k * 2 ^ leadingZeros 64 (m k) % 2 ^ 64) (c .by-rule .result))) (held-sum (t .args .k) (t .fits .k) (63 - leadingZeros 64 (m k)) (small k)) (c .by-rule .ensures (t .args .negative) (c .before .rounded .ensures)) in
-    normal-answered _ _ _ _ _ _ written _ _ (mul-pos (some k) (unit-some _ .0)) (unit-some _ .1) (shifted-offer _ (some k) (t .fits .m .fits) (t .args .k))
+    let written = subst (λ (z : ℤ). Decided (widthTest (t .args .width .bits)) (λ q. c .by-rule .result ≡ Written.Refused q) (WritesNormal (t .args .width .bits) (t .args .rule) (t .args .negative) z (m k * 2 ^ leadingZeros 64 (m k) % 2 ^ 64) 0 (c .by-rule .result))) (held-sum (t .args .k) (t .fits .k) (63 - leadingZeros 64 (m k)) (small k)) (c .by-rule .ensures _ (t .args .negative) _ _ _ (c .before .rounded .ensures)) in
+    normal-answered _ _ _ _ _ _ _ written Rest.Nothing refl _ _ (mul-pos (some k) (unit-some _ .0)) (unit-some _ .1) (shifted-offer _ (some k) (t .fits .m .fits) (t .args .k))
 
 pub write-short-spec : {M : Type 1} → statement M
 write-short-spec =

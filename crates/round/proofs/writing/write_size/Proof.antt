@@ -1,5 +1,5 @@
 -- `write_size` meets its contract: zero, and any other size with its top bit moved to 2^63. Assumes nothing.
-use mathlib.Core.Path.{_≡_, sym, ap, _∙_, subst}
+use mathlib.Core.Path.{_≡_, refl, sym, ap, _∙_, subst}
 use Prim.Native.Nat.{ℕ, zero, _-_, _*_, _%_, _^_, _≤_, _<_}
 use native.Mathlib.Nat.{pos-of-ne-zero, zero-mul, lt-of-le-of-lt, mul-pos}
 use native.Mathlib.Omega.{arith}
@@ -9,14 +9,17 @@ use lib.Count.{leadingZeros}
 use lib.IntN.{ℤ, pos, _+ℤ_, _-ℤ_}
 use mir.Val.{SFits, toZ, ofZ}
 use mir.Syntax.{w32, w64}
-use Rattle.bounds.specs.declared.answer.Answer.{Answer}
+use Rattle.bounds.specs.declared.answer.Written.{Written}
 use Rattle.bounds.specs.Refusals.{widthTest, Decided}
 use Rattle.word.specs.Reads.{num}
 use Rattle.word.proofs.Units.{unit-some, lower-by}
-use Rattle.round.specs.Writes.{WritesShort, WritesSize}
+use Rattle.round.specs.Writes.{WritesShort}
+use Rattle.round.specs.Sayings.{WritesShortAndSays, WritesSizeAndSays}
+use Rattle.nearest.specs.declared.size.Rest.{Rest}
+use Rattle.nearest.specs.Offers.{IsRest}
 use Rattle.round.specs.Offers.{WritesNormal, Settles}
 use Rattle.round.proofs.Normal.{zeros-le, shifted-full, shifted-offer}
-use Rattle.round.proofs.Rules.{zero-answered, rounds-width, normal-answered}
+use Rattle.round.proofs.Rules.{zero-answered, normal-answered}
 use Rattle.round.proofs.Held.{lowered-fits, held-difference, wide}
 use Rattle.round.proofs.writing.write_size.Statement.{statement}
 use Rattle.round.proofs.writing.write_size.Tie as tie
@@ -58,7 +61,7 @@ zero-word-requires : tie.Need-zero-word-requires
 zero-word-requires c κs = search needs
 
 returns : tie.Need-returns
-unfolding WritesSize WritesShort
+unfolding WritesSizeAndSays WritesShortAndSays WritesShort
 returns c = let e = c .before .before .args .size .h -ℤ pos 63 +ℤ pos 307 in
     zero-answered _ _ _ _ _ _ (ap (λ (x : ℕ). x * num e) (c .before .if1 .taken) ∙ zero-mul (num e)) (c .zero-word .ensures)
 
@@ -81,16 +84,15 @@ rounded-requires : tie.Need-rounded-requires
 rounded-requires c κs = full c
 
 by-rule-requires : tie.Need-by-rule-requires
-by-rule-requires c κs = let k = c .before in
-    (full k, rounds-width _ _ _ _ _ _ (c .rounded .ensures))
+by-rule-requires c κs = search needs
 
 returns-2 : tie.Need-returns-2
-unfolding WritesSize WritesShort Settles
+unfolding WritesSizeAndSays WritesShortAndSays WritesShort Settles IsRest
 returns-2 c = let k = c .before .before in
     let t = s k in
     let size = t .args .size in
-    let written = subst (λ (z : ℤ). Decided (widthTest (t .args .width .bits)) (λ q. c .by-rule .result ≡ Answer.Refused q) (WritesNormal (t .args .width .bits) (t .args .rule) (size .negative) z (m k * 2 ^ leadingZeros 64 (m k) % 2 ^ 64) (c .by-rule .result))) (held k) (c .by-rule .ensures (size .negative) (c .before .rounded .ensures)) in
-    normal-answered _ _ _ _ _ _ written _ _ (mul-pos (some k) (unit-some _ .0)) (unit-some _ .1) (shifted-offer _ (some k) (fits k) (h k -ℤ pos 63))
+    let written = subst (λ (z : ℤ). Decided (widthTest (t .args .width .bits)) (λ q. c .by-rule .result ≡ Written.Refused q) (WritesNormal (t .args .width .bits) (t .args .rule) (size .negative) z (m k * 2 ^ leadingZeros 64 (m k) % 2 ^ 64) 0 (c .by-rule .result))) (held k) (c .by-rule .ensures _ (size .negative) _ _ _ (c .before .rounded .ensures)) in
+    normal-answered _ _ _ _ _ _ _ written Rest.Nothing refl _ _ (mul-pos (some k) (unit-some _ .0)) (unit-some _ .1) (shifted-offer _ (some k) (fits k) (h k -ℤ pos 63))
 
 pub write-size-spec : {M : Type 1} → statement M
 write-size-spec =

@@ -32,6 +32,11 @@ abbrev pub plain : Written → Answer
 plain (Written.Word w s) = Answer.Word w
 plain (Written.Refused q) = Answer.Refused q
 
+-- the same answer, a word being said to be exact
+abbrev pub exactly : Answer → Written
+exactly (Answer.Word w) = Written.Word w Exact
+exactly (Answer.Refused q) = Written.Refused q
+
 -- A call answers a word or a refusal, as it does without sayings; and with a word it says this.
 pub record AndSays (Answers : Answer → Type 0) (Says : ℕ → Saying → Type 0) (r : Written) : Type 0 where
   pub answers : Answers (plain r)

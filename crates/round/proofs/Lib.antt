@@ -24,5 +24,7 @@ pub mod Rounding
 pub mod Jamming
 -- rounding keeps the order of values
 pub mod Order
+-- what is said hangs on the value alone
+pub mod Sayings
 -- two outcomes that a contract allows are equal
 pub mod OneOutcome

@@ -4,19 +4,26 @@ use mathlib.Core.Bool.{false}
 use Prim.Native.Nat.{ℕ, _≤_}
 use borrow.Author.Needs.{needs}
 use Rattle.bounds.specs.declared.answer.Answer.{Answer}
+use Rattle.bounds.specs.declared.answer.Written.{Written}
+use Rattle.bounds.specs.declared.saying.Saying.the-variants.{Exact}
 use Rattle.bounds.specs.declared.refusal.Verdict.{Verdict}
 use Rattle.bounds.specs.Refusals.{widthTest, strayTest, wordTest, _then_, through, refused}
-use Rattle.bounds.specs.Widths.{GivesWord}
+use Rattle.bounds.specs.Sayings.{plain, exactly}
+use Rattle.bounds.specs.Widths.{narWord, GivesWord}
+use Rattle.bounds.proofs.Answers.{word-said, refusal-said}
 use Rattle.bounds.proofs.Verdicts.{told-move, width-through, answered}
 use Rattle.sizes.specs.declared.size.Size.{Size}
 use Rattle.sizes.specs.declared.size.WordSize.{WordSize}
 use Rattle.word.specs.Reads.{IsNumber}
 use Rattle.word.specs.Takum.{Takum, takum}
 use Rattle.sizes.proofs.Normal.{TellsWord, tells}
-use Rattle.round.specs.Writes.{WritesShort, WritesSize}
-use Rattle.round.proofs.Rules.{zero-written}
+use Rattle.nearest.proofs.Sayings.{size-exact}
+use Rattle.round.specs.Writes.{WritesShort}
+use Rattle.round.specs.Sayings.{WritesShortAndSays, WritesSizeAndSays}
+use Rattle.round.proofs.Rules.{zero-value, zero-written}
 use Rattle.write.specs.Writes.{isNegative, IsMoved, Moves}
-use Rattle.write.proofs.Meanings.{number-moved}
+use Rattle.write.specs.Sayings.{SaysMoved, MovesAndSays}
+use Rattle.write.proofs.Meanings.{number-moved, number-said}
 use Rattle.write.proofs.moving.move_word.Statement.{statement}
 use Rattle.write.proofs.moving.move_word.Tie as tie
 
@@ -54,9 +61,9 @@ enum-known-verdict : tie.Need-enum-known-verdict
 enum-known-verdict c = search needs
 
 returns : tie.Need-returns
-unfolding Moves
+unfolding MovesAndSays Moves
 returns c = let k = c .before .before .before in
-    refused (told-move _ _ _ {a = Verdict.Refused _} (sym (c .before .verdict .given .1) ∙ k .test .ensures) refl refl refl) refl
+    refusal-said _ (refused (told-move _ _ _ {a = Verdict.Refused _} (sym (c .before .verdict .given .1) ∙ k .test .ensures) refl refl refl) refl)
 
 enum-told : tie.Need-enum-told
 enum-told c = search needs
@@ -76,6 +83,9 @@ enum-told-3 c = search needs
 nar-requires : tie.Need-nar-requires
 nar-requires c κs = search needs
 
+exactly-requires : tie.Need-exactly-requires
+exactly-requires c κs = search needs
+
 enum-known-size : tie.Need-enum-known-size
 enum-known-size c = search needs
 
@@ -83,31 +93,37 @@ write-size-requires : tie.Need-write-size-requires
 write-size-requires c κs = search needs
 
 returns-2 : tie.Need-returns-2
-unfolding Moves TellsWord
+unfolding MovesAndSays Moves TellsWord
 returns-2 c = let k = c .before .before .before in
-    refused (tested (k .before) (told k (c .before .q .given .1))) refl
+    refusal-said _ (refused (tested (k .before) (told k (c .before .q .given .1))) refl)
 
 returns-3 : tie.Need-returns-3
-unfolding Moves TellsWord IsMoved isNegative
+unfolding MovesAndSays Moves TellsWord IsMoved SaysMoved isNegative
 returns-3 c = let k = c .before .before in
     let s = k .before .before .before .before in
     let x = told k (c .enum-told2 .given .1) in
     let t = width-through _ (target (k .before)) in
-    through (tested (k .before) (x .0)) (subst (λ (t : Takum). IsMoved (s .args .to .bits) (s .args .rule) t (Answer.Word 0)) (sym (x .1)) (zero-written (s .args .to .bits) (t .0) (t .1) (s .args .rule) false 0 1 refl))
+    word-said 0 Exact (through (tested (k .before) (x .0)) (subst (λ (t : Takum). IsMoved (s .args .to .bits) (s .args .rule) t (Answer.Word 0)) (sym (x .1)) (zero-written (s .args .to .bits) (t .0) (t .1) (s .args .rule) false 0 1 refl)))
+    (subst (λ (t : Takum). SaysMoved (s .args .to .bits) t 0 Exact) (sym (x .1)) (size-exact (s .args .to .bits) (t .0) (t .1) false 0 0 1 0 (zero-value (s .args .to .bits) (t .0) (t .1) false) refl))
 
 returns-4 : tie.Need-returns-4
-unfolding Moves TellsWord IsMoved GivesWord
-returns-4 c = let k = c .before .before .before in
+unfolding MovesAndSays Moves TellsWord IsMoved SaysMoved GivesWord
+returns-4 c = let k = c .before .before .before .before in
     let s = k .before .before .before .before in
-    let x = told k (c .before .enum-told3 .given .1) in
-    through (tested (k .before) (x .0)) (subst (λ (t : Takum). IsMoved (s .args .to .bits) (s .args .rule) t (c .nar .result)) (sym (x .1)) (answered (target (k .before)) (c .nar .ensures)))
+    let x = told k (c .before .before .enum-told3 .given .1) in
+    let is : c .exactly .result ≡ Written.Word (narWord (s .args .to .bits)) Exact = c .exactly .ensures ∙ ap exactly (answered (target (k .before)) (c .before .nar .ensures)) in
+    subst (MovesAndSays (s .args .from .bits) (s .args .to .bits) (s .args .rule) (s .args .word)) (sym is)
+    (word-said (narWord (s .args .to .bits)) Exact (through (tested (k .before) (x .0)) (subst (λ (t : Takum). IsMoved (s .args .to .bits) (s .args .rule) t (Answer.Word (narWord (s .args .to .bits)))) (sym (x .1)) refl)) (subst (λ (t : Takum). SaysMoved (s .args .to .bits) t (narWord (s .args .to .bits)) Exact) (sym (x .1)) refl))
 
 returns-5 : tie.Need-returns-5
-unfolding Moves WritesSize WritesShort
+unfolding MovesAndSays Moves WritesSizeAndSays WritesShortAndSays WritesShort
 returns-5 c = let k = c .before in
     let s = g k .before .before .before .before in
     let x = number k in
-    through (tested (g k .before) (x .0)) (number-moved (s .args .to .bits) (s .args .rule) (c .write-size .result) _ 63 (size k .negative) (size k .h) (size k .m) 63 (x .1) (answered (target (g k .before)) (c .write-size .ensures)))
+    record {
+      answers = through (tested (g k .before) (x .0)) (number-moved (s .args .to .bits) (s .args .rule) (plain (c .write-size .result)) _ 63 (size k .negative) (size k .h) (size k .m) 63 (x .1) (answered (target (g k .before)) (c .write-size .ensures .answers)));
+      says = λ w q is. number-said (s .args .to .bits) w q _ 63 (size k .negative) (size k .h) (size k .m) 63 (x .1) (c .write-size .ensures .says w q is);
+    }
 
 pub move-word-spec : {M : Type 1} → statement M
 move-word-spec =
@@ -122,6 +138,7 @@ move-word-spec =
     enum-told-2
     enum-told-3
     nar-requires
+    exactly-requires
     enum-known-size
     write-size-requires
     returns-2

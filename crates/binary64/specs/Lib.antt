@@ -2,3 +2,4 @@
 pub mod Nearest
 pub mod Takes
 pub mod Writes
+pub mod Sayings

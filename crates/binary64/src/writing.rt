@@ -1,16 +1,16 @@
 // Writing a binary64 number as a word.
-use bounds::answer::Answer;
+use bounds::answer::Written;
 use bounds::width::Width;
 use round::value::Rule;
 use write::value::Value;
 use write::writing::write;
 ghost use mathlib.Core.Path.{_≡_};
 ghost use lib.Ieee.{binary64, ofBits, toBits};
-ghost use Rattle.binary64.specs.Writes.{WritesBinary64};
+ghost use Rattle.binary64.specs.Sayings.{WritesBinary64AndSays};
 
-// The word for a number: NaN and the infinities give NaR, everything else is written as its value.
-pub fn write_binary64(width: Width, rule: Rule, x: f64) -> Answer
-    ensures { λ r. ⌜ WritesBinary64 (width .bits) rule x r ⌝ }
+// The word for a number, and which way it went: NaN and the infinities give NaR, everything else is written as its value.
+pub fn write_binary64(width: Width, rule: Rule, x: f64) -> Written
+    ensures { λ r. ⌜ WritesBinary64AndSays (width .bits) rule x r ⌝ }
 {
     write_bits(width, rule, bits_of(x))
 }
@@ -27,12 +27,12 @@ fn bits_of(x: f64) -> u64
 }
 
 // The word for the number of a bit pattern: its sign, its exponent and the digits below the leading one.
-fn write_bits(width: Width, rule: Rule, bits: u64) -> Answer
-    ensures { λ r. ⌜ WritesBinary64 (width .bits) rule (ofBits binary64 bits) r ⌝ }
+fn write_bits(width: Width, rule: Rule, bits: u64) -> Written
+    ensures { λ r. ⌜ WritesBinary64AndSays (width .bits) rule (ofBits binary64 bits) r ⌝ }
 {
     let exponent = (bits >> 52) & 0x7ff;
     if exponent == 0x7ff {
-        return width.nar();
+        return width.nar().exactly();
     }
     let negative = bits >> 63 != 0;
     let digits = bits & 0xf_ffff_ffff_ffff;
@@ -45,10 +45,7 @@ fn write_bits(width: Width, rule: Rule, bits: u64) -> Answer
         };
         return write(width, rule, small);
     }
-    let value = Value {
-        negative,
-        m: digits + (1 << 52),
-        k: exponent as i32 - 1075,
-    };
-    write(width, rule, value)
+    let m = digits + (1 << 52);
+    let k = exponent as i32 - 1075;
+    write(width, rule, Value { negative, m, k })
 }

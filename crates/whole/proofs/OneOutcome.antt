@@ -4,15 +4,19 @@ use Prim.Native.Nat.{ℕ, _*_, _^_}
 use native.Mathlib.Nat.{zero-lt-suc}
 use lib.IntN.{ℤ, natAbs}
 use Rattle.bounds.specs.declared.answer.Answer.{Answer}
+use Rattle.bounds.specs.declared.answer.Written.{Written}
 use Rattle.bounds.specs.Refusals.{_then_, Decided, through, refused}
 use Rattle.word.specs.Takum.{Takum, real, NaR, takum}
+use Rattle.bounds.proofs.Answers.{said-one}
 use Rattle.bounds.proofs.Verdicts.{width-through, answered, refused-as, decided-one}
 use Rattle.round.specs.declared.value.Rule.{Rule}
 use Rattle.write.specs.Writes.{isNegative}
+use Rattle.round.proofs.OneOutcome.{written-says-one}
 use Rattle.round.proofs.Rounding.{written-one}
 use Rattle.whole.specs.declared.taking.Taking.{Taking}
 use Rattle.whole.specs.declared.taking.Whole.{Whole}
 use Rattle.whole.specs.Wholes.{overTest, inexactTest, IsTakenWhole, WritesWhole, TakesWhole}
+use Rattle.whole.specs.Sayings.{WritesWholeAndSays}
 use Rattle.whole.proofs.NearestWholes.{one-nearest-whole}
 
 pub writes-whole-one : (n : ℕ) (rule : Rule) (x : ℤ) (a b : Answer) → WritesWhole n rule x a → WritesWhole n rule x b → a ≡ b
@@ -21,6 +25,10 @@ writes-whole-one n rule x a b (through h y) z =
     let t = width-through n h in
     written-one n (t .0) (t .1) rule (isNegative x) (natAbs x * 2 ^ 307) 1 a b (zero-lt-suc 0) y (answered h z)
 writes-whole-one n rule x a b (refused h y) z = y ∙ sym (refused-as _ h z)
+
+pub writes-whole-and-says-one : (n : ℕ) (rule : Rule) (x : ℤ) (a b : Written) → WritesWholeAndSays n rule x a → WritesWholeAndSays n rule x b → a ≡ b
+unfolding WritesWholeAndSays WritesWhole
+writes-whole-and-says-one n rule x a b y z = said-one (writes-whole-one n rule x) (λ w s t. written-says-one n rule (isNegative x) (natAbs x * 2 ^ 307) 1 w s t) a b y z
 
 pub taken-one : (rule : Taking) (t : Takum) (a b : Whole) → IsTakenWhole rule t a → IsTakenWhole rule t b → a ≡ b
 unfolding IsTakenWhole

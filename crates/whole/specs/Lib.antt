@@ -2,3 +2,4 @@
 pub mod Limits
 pub mod Parts
 pub mod Wholes
+pub mod Sayings

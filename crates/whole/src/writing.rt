@@ -1,16 +1,16 @@
 // A whole number in: written as a word, rounded or strict.
-use bounds::answer::Answer;
+use bounds::answer::Written;
 use bounds::width::Width;
 use round::value::Rule;
 use write::value::Value;
 use write::writing::write;
 ghost use mathlib.Core.Path.{_≡_};
 ghost use lib.IntN.{natAbs};
-ghost use Rattle.whole.specs.Wholes.{WritesWhole};
+ghost use Rattle.whole.specs.Sayings.{WritesWholeAndSays};
 
-// The word for a whole number: the nearest, or exactly that number or INEXACT.
-pub fn write_whole(width: Width, rule: Rule, x: i64) -> Answer
-    ensures { λ r. ⌜ WritesWhole (width .bits) rule x r ⌝ }
+// The word for a whole number, the nearest, or exactly that number or INEXACT; and which way it went.
+pub fn write_whole(width: Width, rule: Rule, x: i64) -> Written
+    ensures { λ r. ⌜ WritesWholeAndSays (width .bits) rule x r ⌝ }
 {
     let value = Value {
         negative: x < 0,

@@ -1,24 +1,30 @@
 -- `write_bits` meets its contract: the fields that it cuts out are those of the value. Assumes nothing.
-use mathlib.Core.Path.{_≡_, sym, ap, _∙_, subst}
+use mathlib.Core.Path.{_≡_, refl, sym, ap, _∙_, subst}
 use mathlib.Core.Bool.{Bool, cond}
 use Prim.Native.Nat.{ℕ, _+_, _*_, _/_, _^_, _<_}
 use native.Mathlib.Omega.{arith}
 use borrow.Author.Needs.{needs}
 use borrow.Author.Tests.{ne-eqb}
 use lib.Bits.{mask-lt}
-use lib.IntN.{ℤ, pos, _+ℤ_, _-ℤ_}
+use lib.IntN.{ℤ, pos, _-ℤ_}
 use mir.Facts.{toZ-ofZ, toZ-pos}
 use mir.Syntax.{w32}
 use mir.Val.{SFits, toZ, ofZ}
-use Rattle.word.specs.Reads.{num, den}
-use Rattle.bounds.specs.Widths.{GivesWord}
+use lib.Ieee.{binary64, ofBits}
+use Rattle.bounds.specs.declared.answer.Answer.{Answer}
+use Rattle.bounds.specs.declared.saying.Saying.the-variants.{Exact}
+use Rattle.bounds.specs.Refusals.{widthTest, Decided, through, refused}
+use Rattle.bounds.specs.Sayings.{exactly}
+use Rattle.bounds.specs.Widths.{narWord, GivesWord}
+use Rattle.bounds.proofs.Answers.{word-said, refusal-said}
 use Rattle.word.proofs.Signed.{sub-mag}
-use Rattle.round.specs.Writes.{IsWritten}
 use Rattle.write.specs.Writes.{Writes}
+use Rattle.write.specs.Sayings.{WritesAndSays}
 use Rattle.binary64.specs.Writes.{WritesBinary64}
+use Rattle.binary64.specs.Sayings.{WritesBinary64AndSays}
 use Rattle.binary64.proofs.Decisions.{decided-as}
-use Rattle.binary64.proofs.Patterns.{signBit, field, digits, lead, pattern-unbounded}
-use Rattle.binary64.proofs.Written.{unbounded-written, with-lead, without-lead}
+use Rattle.binary64.proofs.Patterns.{signBit, field, digits, lead, Unbounded, pattern-unbounded}
+use Rattle.binary64.proofs.Written.{unbounded-written, unbounded-said, written-with-lead, written-without-lead, said-with-lead, said-without-lead}
 use Rattle.binary64.proofs.writing.write_bits.Statement.{statement}
 use Rattle.binary64.proofs.writing.write_bits.Tie as tie
 
@@ -51,41 +57,62 @@ module _ (c : tie.Else2) where
 nar-requires : tie.Need-nar-requires
 nar-requires c κs = search needs
 
+exactly-requires : tie.Need-exactly-requires
+exactly-requires c κs = search needs
+
 returns : tie.Need-returns
-unfolding WritesBinary64 GivesWord
-returns c = decided-as (λ q h. h) (unbounded-written _ _ _ _ (pattern-unbounded _ (c .before .if1 .taken))) (c .nar .ensures)
+unfolding WritesBinary64AndSays WritesBinary64 GivesWord
+returns c = by (k .nar .ensures)
+  where
+    k : tie.After-nar
+    k = c .before
+
+    s : tie.Start
+    s = k .before .before
+
+    unbounded : Unbounded (ofBits binary64 (s .args .bits))
+    unbounded = pattern-unbounded _ (k .before .if1 .taken)
+
+    by : Decided (widthTest (s .args .width .bits)) (λ q. k .nar .result ≡ Answer.Refused q) (k .nar .result ≡ Answer.Word (narWord (s .args .width .bits))) → WritesBinary64AndSays (s .args .width .bits) (s .args .rule) (ofBits binary64 (s .args .bits)) (c .exactly .result)
+    by (through h x) = subst (WritesBinary64AndSays (s .args .width .bits) (s .args .rule) (ofBits binary64 (s .args .bits))) (sym (c .exactly .ensures ∙ ap exactly x)) (word-said _ Exact (through h (unbounded-written _ _ _ _ unbounded refl)) (unbounded-said _ _ _ unbounded))
+    by (refused h x) = subst (WritesBinary64AndSays (s .args .width .bits) (s .args .rule) (ofBits binary64 (s .args .bits))) (sym (c .exactly .ensures ∙ ap exactly x)) (refusal-said _ (refused h refl))
 
 write-requires : tie.Need-write-requires
 write-requires c κs = search needs
 
 returns-2 : tie.Need-returns-2
-unfolding WritesBinary64 Writes
+unfolding WritesBinary64AndSays WritesBinary64 WritesAndSays Writes
 returns-2 c =
     let k = c .before in
-    decided-as (λ q h. h) (without-lead _ _ _ (k .before .before .args .bits) (k .before .if1 .left) (k .if2 .taken)) (c .write .ensures)
+    let b = k .before .before .args .bits in
+    record {
+      answers = decided-as (λ q h. h) (written-without-lead _ _ _ b (k .before .if1 .left) (k .if2 .taken)) (c .write .ensures .answers);
+      says = λ w q is. said-without-lead _ w q b (k .before .if1 .left) (k .if2 .taken) (c .write .ensures .says w q is);
+    }
 
-add-t11 : tie.Need-add-t11
-add-t11 c = record { fits = omega (arith, digits-fit c) }
+add-m : tie.Need-add-m
+add-m c = record { fits = omega (arith, digits-fit c) }
 
-cast-t12 : tie.Need-cast-t12
-cast-t12 c = record { sfits = omega (arith, field-fits c) }
+cast-k : tie.Need-cast-k
+cast-k c = record { sfits = omega (arith, field-fits c) }
 
-sub-t13 : tie.Need-sub-t13
-sub-t13 c = subst (λ (z : ℤ). SFits w32 z) (sym (difference c)) (difference-fits c)
+sub-k : tie.Need-sub-k
+sub-k c = subst (λ (z : ℤ). SFits w32 z) (sym (difference c)) (difference-fits c)
 
 write-requires-2 : tie.Need-write-requires-2
 write-requires-2 c κs = search needs
 
 returns-3 : tie.Need-returns-3
-unfolding WritesBinary64 Writes
+unfolding WritesBinary64AndSays WritesBinary64 WritesAndSays Writes
 returns-3 c =
     let k = c .before in
     let s = k .before .before in
-    decided-as (λ q h. h)
-    (λ x. with-lead _ _ _ (s .args .bits) (k .before .if1 .left) (one k)
-    (subst (λ (z : ℤ). IsWritten (s .args .width .bits) (s .args .rule) (signBit (s .args .bits)) ((digits (s .args .bits) + 2 ^ 52) * num (z +ℤ pos 307)) (den (z +ℤ pos 307)) (c .write2 .result)) (exponent k) x))
-    (c .write2 .ensures)
+    let x = subst (λ (z : ℤ). WritesAndSays (s .args .width .bits) (s .args .rule) (record { negative = signBit (s .args .bits); m = digits (s .args .bits) + 2 ^ 52; k = z }) (c .write2 .result)) (exponent k) (c .write2 .ensures) in
+    record {
+      answers = decided-as (λ q h. h) (written-with-lead _ _ _ (s .args .bits) (k .before .if1 .left) (one k)) (x .answers);
+      says = λ w q is. said-with-lead _ w q (s .args .bits) (k .before .if1 .left) (one k) (x .says w q is);
+    }
 
 pub write-bits-spec : {M : Type 1} → statement M
 write-bits-spec =
-    tie.close (tie.spec nar-requires returns write-requires returns-2 add-t11 cast-t12 sub-t13 write-requires-2 returns-3)
+    tie.close (tie.spec nar-requires exactly-requires returns write-requires returns-2 add-m cast-k sub-k write-requires-2 returns-3)

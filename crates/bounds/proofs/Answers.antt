@@ -1,4 +1,5 @@
 -- An answer is a word or a refusal, and not both; and so it is with its saying, of which there is one if each word has one. Assumes nothing.
+use mathlib.Core.Bool.{true, true≢false}
 use mathlib.Core.Path.{_≡_, refl, sym, ap, ap₂, _∙_, subst, subst₂}
 use Prim.Native.Nat.{ℕ}
 use Rattle.bounds.specs.declared.answer.Answer.{Answer}
@@ -6,9 +7,9 @@ use Rattle.bounds.specs.declared.answer.Written.{Written}
 use Rattle.bounds.specs.declared.refusal.Refusal.{Refusal}
 use Rattle.bounds.specs.declared.refusal.Verdict.{Verdict}
 use Rattle.bounds.specs.declared.saying.Saying.{Saying}
-use Rattle.bounds.specs.declared.saying.Saying.the-variants.{Exact}
+use Rattle.bounds.specs.declared.saying.Saying.the-variants.{Exact, Below, Above, PastTheEnd}
 use Rattle.bounds.specs.Refusals.{Decided, through, refused}
-use Rattle.bounds.specs.Sayings.{plain, AndSays}
+use Rattle.bounds.specs.Sayings.{saysExact, plain, AndSays}
 
 unfoldable pub wordOf : Answer → ℕ
 wordOf (Answer.Word w) = w
@@ -19,6 +20,12 @@ GivesAWord (Answer.Word w) = Unit {0}
 GivesAWord (Answer.Refused q) = ⊥
 
 -- ---- with a saying
+pub is-exact : (t : Saying) → saysExact t ≡ true → t ≡ Exact
+is-exact Exact q = refl
+is-exact Below q = absurd (true≢false (sym q))
+is-exact Above q = absurd (true≢false (sym q))
+is-exact PastTheEnd q = absurd (true≢false (sym q))
+
 sayingOf : Written → Saying
 sayingOf (Written.Word w s) = s
 sayingOf (Written.Refused q) = Exact

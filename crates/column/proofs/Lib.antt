@@ -3,6 +3,8 @@
 
 -- a word that is tried is let through exactly where it is moved to some word
 pub mod Trials
+-- counting the positions that have a property
+pub mod Counts
 -- a walk one word further: what has been tried, and what has been written
 pub mod Walks
 -- what the answer of the trial tells: every word can be moved, or nothing is to be written

@@ -1,11 +1,12 @@
--- Two outcomes that the contract of a column allows are equal: the answers, and what the result slice holds afterwards. Assumes nothing.
-use mathlib.Core.Path.{_≡_, refl, sym, ap, ap₂, _∙_, subst}
+-- Two outcomes that the contract of a column allows are equal: the answers, how many are exact, and what the result slice holds afterwards. Assumes
+-- nothing.
+use mathlib.Core.Path.{_≡_, refl, sym, ap, ap₂, _∙_, subst, subst₂}
 use mathlib.Core.List.{List}
 use Prim.Native.Nat.{ℕ, _≤_, _<_}
 use native.Mathlib.Decide.{decLt}
 use native.Mathlib.Nat.{le-antisymm}
 use native.Mathlib.Omega.{arith}
-use lib.ListN.{getD}
+use lib.ListN.{length, getD}
 use lib.Seq.{ext-getD}
 use Rattle.bounds.specs.declared.answer.Answer.{Answer}
 use Rattle.bounds.specs.declared.refusal.Refusal.{Refusal}
@@ -16,7 +17,10 @@ use Rattle.round.specs.declared.value.Rule.{Rule}
 use Rattle.write.specs.Writes.{Moves}
 use Rattle.write.proofs.OneOutcome.{moves-one}
 use Rattle.column.specs.declared.moving.Column.{Column}
+use Rattle.column.specs.declared.moving.MovedColumn.{MovedColumn}
+use Rattle.column.specs.Counts.{CountsExact, HoldsAndCounts}
 use Rattle.column.specs.Columns.{MovableUpTo, FirstRefusal, IsTried, AreMoved, MovesColumn, Holds}
+use Rattle.column.proofs.Counts.{counts-one}
 use Rattle.column.proofs.Trials.{not-refused}
 
 module _ (n n' : ℕ) (rule : Rule) (words : List ℕ) where
@@ -65,3 +69,18 @@ module _ (n n' : ℕ) (rule : Rule) (words : List ℕ) where
   holds-one before (Column.Moved count) after after' x y = are-moved-one count before after after' x y
   holds-one before (Column.Refused q) after after' x y = x ∙ sym y
   holds-one before (Column.RefusedAt position q) after after' x y = x ∙ sym y
+
+  -- and how many words are exact
+  counts-exact-one : (a : Column) (after : List ℕ) (k k' : ℕ) → CountsExact n n' words after a k → CountsExact n n' words after a k' → k ≡ k'
+  unfolding CountsExact
+  counts-exact-one (Column.Moved count) after k k' x y = counts-one x y
+  counts-exact-one (Column.Refused q) after k k' x y = x ∙ sym y
+  counts-exact-one (Column.RefusedAt position q) after k k' x y = x ∙ sym y
+
+  pub moved-column-one : (before : List ℕ) (a b : MovedColumn) (after after' : List ℕ) → MovesColumn n n' rule words (length before) (a .answer) → HoldsAndCounts n n' rule words before a after → MovesColumn n n' rule words (length before) (b .answer) → HoldsAndCounts n n' rule words before b after' → (a ≡ b) × (after ≡ after')
+  unfolding HoldsAndCounts
+  moved-column-one before a b after after' x h y g =
+      let same = moves-column-one (length before) (a .answer) (b .answer) x y in
+      let slice = holds-one before (a .answer) after after' (h .0) (subst (λ (c : Column). Holds n n' rule words before c after') (sym same) (g .0)) in
+      let count = counts-exact-one (a .answer) after (a .exact) (b .exact) (h .1) (subst₂ (λ (c : Column) (l : List ℕ). CountsExact n n' words l c (b .exact)) (sym same) (sym slice) (g .1)) in
+      (ap₂ (λ (c : Column) (k : ℕ). record { answer = c; exact = k }) same count, slice)

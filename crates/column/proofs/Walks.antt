@@ -1,20 +1,25 @@
--- A walk of a column, one word further: what has been tried, and what has been written. Assumes nothing.
+-- A walk of a column, one word further: what has been tried, what has been written, and how many are exact. Assumes nothing.
 use mathlib.Core.Path.{_≡_, refl, sym, _∙_, subst}
 use mathlib.Core.List.{List}
 use Prim.Native.Nat.{ℕ, _+_, _≤_, _<_}
 use native.Mathlib.Nat.{le-antisymm}
 use native.Mathlib.Omega.{arith}
+use mir.Val.{boolByte}
 use borrow.Author.Count.{below-none, below-more}
 use lib.ListN.{length, getD, set, length-set}
 use lib.Seq.{getD-set-same, getD-set-other}
 use Rattle.bounds.specs.declared.answer.Answer.{Answer}
 use Rattle.bounds.specs.declared.refusal.Refusal.{Refusal}
 use Rattle.bounds.specs.declared.refusal.Verdict.{Verdict}
+use Rattle.word.specs.Takum.{takum}
 use Rattle.round.specs.declared.value.Rule.{Rule}
 use Rattle.write.specs.Writes.{Moves}
 use Rattle.column.specs.declared.moving.Column.{Column}
 use Rattle.column.specs.Columns.{Movable, MovableUpTo, IsTried, AreMoved}
-use Rattle.column.specs.Trials.{TriesWord}
+use Rattle.column.specs.declared.moving.MovedWord.{MovedWord}
+use Rattle.column.specs.Counts.{Counts, KeepsTheMeaning}
+use Rattle.column.specs.Trials.{TriesWord, MovesWord}
+use Rattle.column.proofs.Counts.{counts-alike, counts-further}
 
 module _ (n n' : ℕ) (rule : Rule) (words : List ℕ) where
   -- ---- trying
@@ -53,3 +58,24 @@ module _ (n n' : ℕ) (rule : Rule) (words : List ℕ) where
 
   pub all-written : (i : ℕ) (before after : List ℕ) → i ≤ length words → length words ≤ i → AreMoved n n' rule words i before after → AreMoved n n' rule words (length words) before after
   all-written i before after lo hi = subst (λ (k : ℕ). AreMoved n n' rule words k before after) (le-antisymm lo hi)
+
+-- the positions that were counted keep their results
+pub still-counted : (n n' : ℕ) (words after : List ℕ) (i w' exact : ℕ) → Counts (KeepsTheMeaning n n' words after) i exact → Counts (KeepsTheMeaning n n' words (set after i w')) i exact
+unfolding KeepsTheMeaning
+still-counted n n' words after i w' exact x =
+    counts-alike (λ k h q. subst (λ (v : ℕ). takum n' v ≡ takum n (getD words k 0)) (sym (same k h)) q) (λ k h q. subst (λ (v : ℕ). takum n' v ≡ takum n (getD words k 0)) (same k h) q) x
+  where
+    same : (k : ℕ) → k < i → getD (set after i w') k 0 ≡ getD after k 0
+    same k h = getD-set-other after i k w' 0 (λ q. omega (arith, h, q))
+
+-- one word further: it has been moved to w', and a flag tells whether that means the same
+pub one-more-counted : (n n' : ℕ) (rule : Rule) (words after : List ℕ) (i exact : ℕ) (m : MovedWord) → i < length after → Counts (KeepsTheMeaning n n' words after) i exact → MovesWord n n' rule (getD words i 0) m → (more : ℕ) → more ≡ exact + boolByte (m .exact) → Counts (KeepsTheMeaning n n' words (set after i (m .word))) (i + 1) more
+unfolding KeepsTheMeaning
+one-more-counted n n' rule words after i exact m inside x y more q =
+    counts-further i exact (m .exact) (still-counted n n' words after i (m .word) exact x) (λ e. subst (λ (v : ℕ). takum n' v ≡ takum n (getD words i 0)) (sym here) (y .same e)) (λ e z. y .other e (subst (λ (v : ℕ). takum n' v ≡ takum n (getD words i 0)) here z)) more q
+  where
+    here : getD (set after i (m .word)) i 0 ≡ m .word
+    here = getD-set-same after i (m .word) 0 inside
+
+pub all-counted : (n n' : ℕ) (words after : List ℕ) (i exact : ℕ) → i ≤ length words → length words ≤ i → Counts (KeepsTheMeaning n n' words after) i exact → Counts (KeepsTheMeaning n n' words after) (length words) exact
+all-counted n n' words after i exact lo hi = subst (λ (k : ℕ). Counts (KeepsTheMeaning n n' words after) k exact) (le-antisymm lo hi)

@@ -12,10 +12,10 @@ use Rattle.bounds.specs.declared.answer.Answer.{Answer}
 use Rattle.bounds.specs.declared.answer.Written.{Written}
 use Rattle.bounds.specs.declared.refusal.Refusal.{Refusal}
 use Rattle.bounds.specs.declared.saying.Saying.{Saying}
-use Rattle.bounds.specs.declared.saying.Saying.the-variants.{Exact, Below, Above, PastTheEnd}
+use Rattle.bounds.specs.declared.saying.Saying.the-variants.{Exact}
 use Rattle.bounds.specs.Refusals.{widthTest, Decided, through, refused}
 use Rattle.bounds.specs.Sayings.{saysExact, plain, AndSays}
-use Rattle.bounds.proofs.Answers.{GivesAWord, wordOf, word-said, refusal-said, decided-said}
+use Rattle.bounds.proofs.Answers.{GivesAWord, wordOf, is-exact, word-said, refusal-said, decided-said}
 use Rattle.bounds.proofs.Powers.{twice, not-more}
 use Rattle.bounds.proofs.Verdicts.{width-fits, width-short, width-long, width-through, answered}
 use Rattle.word.proofs.Signed.{negated-other}
@@ -118,12 +118,6 @@ settled rule w t r some f n s h m below (refused e x) = absurd (omega (arith, so
 pub rounded-word : (w : ℕ) (t : Saying) → 0 < w → Settles Rule.Rounded w t (Written.Word w t)
 unfolding IsWrittenAndSaid IsWritten
 rounded-word w t some = settled Rule.Rounded w t (Written.Word w t) some (λ n lo hi s a b nonzero p near says. word-said w t (other nonzero near) says)
-
-is-exact : (t : Saying) → saysExact t ≡ true → t ≡ Exact
-is-exact Exact q = refl
-is-exact Below q = absurd (true≢false (sym q))
-is-exact Above q = absurd (true≢false (sym q))
-is-exact PastTheEnd q = absurd (true≢false (sym q))
 
 pub strict-word : (w : ℕ) (t : Saying) → 0 < w → saysExact t ≡ true → Settles Rule.Strict w t (Written.Word w t)
 unfolding IsWrittenAndSaid IsWritten

@@ -6,3 +6,5 @@ pub mod Meanings
 pub mod Moves
 -- two outcomes that a contract allows are equal
 pub mod OneOutcome
+-- a move is said to be exact exactly where its word means the same
+pub mod Sayings

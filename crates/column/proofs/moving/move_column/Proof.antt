@@ -8,6 +8,7 @@ use Rattle.bounds.specs.declared.refusal.Verdict.{Verdict}
 use Rattle.bounds.specs.Refusals.{widthTest, _then_, through, refused, roomTest}
 use Rattle.bounds.proofs.Verdicts.{told-three, then-through}
 use Rattle.column.specs.Columns.{MovesColumn, Holds}
+use Rattle.column.specs.Counts.{CountsExact, HoldsAndCounts}
 use Rattle.bounds.proofs.Rooms.{room-through}
 use Rattle.column.proofs.Outcomes.{every-word-movable, nothing-written}
 use Rattle.column.proofs.Walks.{all-tried}
@@ -48,8 +49,8 @@ enum-known-verdict : tie.Need-enum-known-verdict
 enum-known-verdict c = search needs
 
 returns : tie.Need-returns
-unfolding MovesColumn Holds
-returns c = (refused (told (c .before .before .before) (c .before .verdict .given .1)) refl, refl)
+unfolding MovesColumn HoldsAndCounts Holds CountsExact
+returns c = (refused (told (c .before .before .before) (c .before .verdict .given .1)) refl, (refl, refl))
 
 enum-told : tie.Need-enum-told
 enum-told c = search needs
@@ -74,7 +75,7 @@ same-length : tie.Need-same-length
 same-length c = search needs
 
 returns-3 : tie.Need-returns-3
-unfolding MovesColumn Holds
+unfolding MovesColumn HoldsAndCounts Holds CountsExact
 returns-3 c = let t = c .before .before .before .before .before .before in
     let movable = every-word-movable _ _ _ _ _ _ (t .try-words .ensures) (c .before .before .before .before .enum-told2 .given .1) in
     (through (told (t .before .before .before) (t .before .enum-told .given .1)) (all-tried _ _ _ _ _ (le-refl _) (le-refl _) movable), c .before .before .write-words .ensures)

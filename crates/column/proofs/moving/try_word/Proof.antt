@@ -1,7 +1,9 @@
 -- `try_word` meets its contract: rounded, a word is refused only for a stray bit; strict, the move itself tells. Assumes nothing.
-use mathlib.Core.Path.{sym, subst}
+use mathlib.Core.Path.{sym, ap, subst}
 use borrow.Author.Needs.{needs}
+use Rattle.bounds.specs.Sayings.{plain}
 use Rattle.round.specs.declared.value.Rule.{Rule}
+use Rattle.write.specs.Sayings.{MovesAndSays}
 use Rattle.column.specs.Trials.{TriesWord}
 use Rattle.column.proofs.Trials.{rounded-tried, word-given, refusal-given}
 use Rattle.column.proofs.moving.try_word.Statement.{statement}
@@ -30,10 +32,13 @@ returns c = let s = c .before .before .before in
     subst (λ (rule : Rule). TriesWord (s .args .from .bits) (s .args .to .bits) rule (s .args .word) (c .test-word .result)) (sym (c .before .enum-told .given .1)) (rounded-tried _ _ _ _ (s .pre .0) (s .pre .1) (c .test-word .ensures))
 
 returns-2 : tie.Need-returns-2
-returns-2 c = word-given _ _ _ _ _ (c .before .before .move-word .ensures) _ (c .enum-told3 .given .1)
+unfolding MovesAndSays
+returns-2 c = let m = c .before .before in
+    word-given _ _ _ _ _ (m .move-word .ensures .answers) _ (ap plain (c .enum-told3 .given .1))
 
 returns-3 : tie.Need-returns-3
-returns-3 c = refusal-given _ _ _ _ _ (c .before .before .before .move-word .ensures) _ (c .before .q .given .1)
+unfolding MovesAndSays
+returns-3 c = refusal-given _ _ _ _ _ (c .before .before .before .move-word .ensures .answers) _ (ap plain (c .before .q .given .1))
 
 pub try-word-spec : {M : Type 1} → statement M
 try-word-spec =

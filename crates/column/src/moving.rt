@@ -35,7 +35,13 @@ struct MovedWord {
 }
 
 // The words go to the first results in order; the other results stay, and all of them where the column is refused.
-pub fn move_column(from: Width, to: Width, rule: Rule, words: &[u64], results: &mut [u64]) -> MovedColumn
+pub fn move_column(
+    from: Width,
+    to: Width,
+    rule: Rule,
+    words: &[u64],
+    results: &mut [u64],
+) -> MovedColumn
     ensures { λ a. ⌜ MovesColumn (from .bits) (to .bits) rule (now (words .entry)) (length (now (results .entry))) (a .answer) ⌝ }
     ensures { λ a. ⌜ HoldsAndCounts (from .bits) (to .bits) rule (now (words .entry)) (now (results .entry)) a (now (results .exit)) ⌝ }
 {

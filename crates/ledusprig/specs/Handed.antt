@@ -8,7 +8,9 @@ use lib.IntN.{pos}
 use lib.Ieee.{nan, binary64, ofBits}
 use lib.ListN.{length}
 use Rattle.bounds.specs.Refusals.{numberOf}
+use Rattle.bounds.specs.Sayings.{sayingNumber}
 use Rattle.bounds.specs.declared.answer.Answer.{Answer}
+use Rattle.bounds.specs.declared.answer.Written.{Written}
 use Rattle.order.specs.declared.order.Comparison.{Comparison}
 use Rattle.word.specs.declared.reading.Kind.{Kind}
 use Rattle.word.specs.declared.reading.Reading.{Reading}
@@ -18,11 +20,14 @@ use Rattle.whole.specs.declared.taking.Taking.{Taking}
 use Rattle.whole.specs.declared.taking.Whole.{Whole}
 use Rattle.binary64.specs.declared.taking.Binary64.{Binary64}
 use Rattle.column.specs.declared.moving.Column.{Column}
-use Rattle.column.specs.Columns.{MovesColumn, Holds}
+use Rattle.column.specs.declared.moving.MovedColumn.{MovedColumn}
+use Rattle.column.specs.Columns.{MovesColumn}
+use Rattle.column.specs.Counts.{HoldsAndCounts}
 use Rattle.sheet.specs.declared.block.Block.{Block}
 use Rattle.sheet.specs.declared.writing.Writing.{Writing}
 use Rattle.sheet.specs.Writes.{WritesBlock, FillsBuffer}
 use Rattle.ledusprig.specs.declared.handed.words.HandedWord.{HandedWord}
+use Rattle.ledusprig.specs.declared.handed.words.HandedSaying.{HandedSaying}
 use Rattle.ledusprig.specs.declared.handed.words.HandedReading.{HandedReading}
 use Rattle.ledusprig.specs.declared.handed.words.HandedComparison.{HandedComparison}
 use Rattle.ledusprig.specs.declared.handed.widths.HandedLimit.{HandedLimit}
@@ -45,6 +50,10 @@ takingOf (suc other) = Taking.Strict
 abbrev pub wordHanded : Answer → HandedWord
 wordHanded (Answer.Word w) = record { refusal = 0; word = w }
 wordHanded (Answer.Refused q) = record { refusal = numberOf q; word = 0 }
+
+abbrev pub sayingHanded : Written → HandedSaying
+sayingHanded (Written.Word w s) = record { refusal = 0; saying = sayingNumber s; word = w }
+sayingHanded (Written.Refused q) = record { refusal = numberOf q; saying = 0; word = 0 }
 
 abbrev pub kindHanded : Kind → ℕ → HandedReading
 kindHanded Kind.Zero own = record { refusal = 0; kind = 0; negative = false; h = pos 0; m = 0; p = 0; own = own }
@@ -72,10 +81,13 @@ numberHanded (Binary64.Number x) = record { refusal = 0; real = true; number = x
 numberHanded Binary64.Nar = record { refusal = 0; real = false; number = nan }
 numberHanded (Binary64.Refused q) = record { refusal = numberOf q; real = false; number = ofBits binary64 0 }
 
-abbrev pub columnHanded : Column → HandedColumn
-columnHanded (Column.Moved count) = record { refusal = 0; position = 0; moved = count }
-columnHanded (Column.Refused q) = record { refusal = numberOf q; position = 0; moved = 0 }
-columnHanded (Column.RefusedAt position q) = record { refusal = numberOf q; position = position; moved = 0 }
+abbrev pub answerHanded : Column → ℕ → HandedColumn
+answerHanded (Column.Moved count) exact = record { refusal = 0; position = 0; moved = count; exact = exact }
+answerHanded (Column.Refused q) exact = record { refusal = numberOf q; position = 0; moved = 0; exact = exact }
+answerHanded (Column.RefusedAt position q) exact = record { refusal = numberOf q; position = position; moved = 0; exact = exact }
+
+abbrev pub columnHanded : MovedColumn → HandedColumn
+columnHanded a = answerHanded (a .answer) (a .exact)
 
 abbrev pub blockHanded : Block → HandedBlock
 blockHanded (Block.Read width number count) = record { refusal = 0; width = width; number = number; count = count }
@@ -92,9 +104,9 @@ pub record HandsOver {Answers Handed : Type 0} (handed : Answers → Handed) (Gi
   pub given : Gives answer
   pub is : r ≡ handed answer
 
--- the column's answer, and what its results hold after it
-unfoldable pub MovesTheColumn : ℕ → ℕ → Rule → List ℕ → List ℕ → List ℕ → Column → Type 0
-MovesTheColumn n n' rule words before after a = MovesColumn n n' rule words (length before) a × Holds n n' rule words before a after
+-- the column's answer, what its results hold after it, and how many of them are exact
+unfoldable pub MovesTheColumn : ℕ → ℕ → Rule → List ℕ → List ℕ → List ℕ → MovedColumn → Type 0
+MovesTheColumn n n' rule words before after a = MovesColumn n n' rule words (length before) (a .answer) × HoldsAndCounts n n' rule words before a after
 
 -- the writing's answer, and what its buffer holds after it
 unfoldable pub WritesTheBlock : ℕ → ℕ → List ℕ → List ℕ → List ℕ → Writing → Type 0

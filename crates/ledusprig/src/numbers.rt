@@ -3,8 +3,8 @@ use crate::handed::numbers::HandedNumber;
 use crate::handed::numbers::HandedWhole;
 use crate::handed::numbers::hand_number;
 use crate::handed::numbers::hand_whole;
-use crate::handed::words::HandedWord;
-use crate::handed::words::hand_word;
+use crate::handed::words::HandedSaying;
+use crate::handed::words::hand_saying;
 use binary64::taking::take_binary64;
 use binary64::writing::write_binary64;
 use bounds::width::Width;
@@ -12,19 +12,20 @@ use round::value::Rule;
 use whole::taking::Taking;
 use whole::taking::take_whole;
 use whole::writing::write_whole;
-ghost use Rattle.whole.specs.Wholes.{WritesWhole, TakesWhole};
+ghost use Rattle.whole.specs.Wholes.{TakesWhole};
+ghost use Rattle.whole.specs.Sayings.{WritesWholeAndSays};
 ghost use Rattle.binary64.specs.Takes.{TakesBinary64};
-ghost use Rattle.binary64.specs.Writes.{WritesBinary64};
-ghost use Rattle.ledusprig.specs.Handed.{HandsOver, wordHanded, wholeHanded, numberHanded, ruleOf, takingOf};
+ghost use Rattle.binary64.specs.Sayings.{WritesBinary64AndSays};
+ghost use Rattle.ledusprig.specs.Handed.{HandsOver, sayingHanded, wholeHanded, numberHanded, ruleOf, takingOf};
 
 #[no_mangle]
-pub extern "C" fn takum_write_whole(n: u32, rule: u32, x: i64) -> HandedWord
-    ensures { λ r. ⌜ HandsOver wordHanded (WritesWhole n (ruleOf rule) x) r ⌝ }
+pub extern "C" fn takum_write_whole(n: u32, rule: u32, x: i64) -> HandedSaying
+    ensures { λ r. ⌜ HandsOver sayingHanded (WritesWholeAndSays n (ruleOf rule) x) r ⌝ }
 {
     if rule == 0 {
-        return hand_word(write_whole(Width { bits: n }, Rule::Rounded, x));
+        return hand_saying(write_whole(Width { bits: n }, Rule::Rounded, x));
     }
-    hand_word(write_whole(Width { bits: n }, Rule::Strict, x))
+    hand_saying(write_whole(Width { bits: n }, Rule::Strict, x))
 }
 
 #[no_mangle]
@@ -38,13 +39,13 @@ pub extern "C" fn takum_take_whole(n: u32, taking: u32, word: u64) -> HandedWhol
 }
 
 #[no_mangle]
-pub extern "C" fn takum_write_binary64(n: u32, rule: u32, x: f64) -> HandedWord
-    ensures { λ r. ⌜ HandsOver wordHanded (WritesBinary64 n (ruleOf rule) x) r ⌝ }
+pub extern "C" fn takum_write_binary64(n: u32, rule: u32, x: f64) -> HandedSaying
+    ensures { λ r. ⌜ HandsOver sayingHanded (WritesBinary64AndSays n (ruleOf rule) x) r ⌝ }
 {
     if rule == 0 {
-        return hand_word(write_binary64(Width { bits: n }, Rule::Rounded, x));
+        return hand_saying(write_binary64(Width { bits: n }, Rule::Rounded, x));
     }
-    hand_word(write_binary64(Width { bits: n }, Rule::Strict, x))
+    hand_saying(write_binary64(Width { bits: n }, Rule::Strict, x))
 }
 
 #[no_mangle]

@@ -2,9 +2,11 @@
 // each rule's call is compiled by itself.
 use crate::handed::words::HandedComparison;
 use crate::handed::words::HandedReading;
+use crate::handed::words::HandedSaying;
 use crate::handed::words::HandedWord;
 use crate::handed::words::hand_comparison;
 use crate::handed::words::hand_reading;
+use crate::handed::words::hand_saying;
 use crate::handed::words::hand_word;
 use bounds::width::Width;
 use order::order::compare;
@@ -16,8 +18,8 @@ use write::value::Value;
 use write::writing::write;
 ghost use Rattle.order.specs.Orders.{Compares, Negates};
 ghost use Rattle.word.specs.Reads.{Reads};
-ghost use Rattle.write.specs.Writes.{Writes, Moves};
-ghost use Rattle.ledusprig.specs.Handed.{HandsOver, wordHanded, readingHanded, comparisonHanded, ruleOf};
+ghost use Rattle.write.specs.Sayings.{WritesAndSays, MovesAndSays};
+ghost use Rattle.ledusprig.specs.Handed.{HandsOver, wordHanded, sayingHanded, readingHanded, comparisonHanded, ruleOf};
 
 #[no_mangle]
 pub extern "C" fn takum_read(n: u32, word: u64) -> HandedReading
@@ -42,27 +44,27 @@ pub extern "C" fn takum_negate(n: u32, word: u64) -> HandedWord
 
 // Plus or minus m * 2^k.
 #[no_mangle]
-pub extern "C" fn takum_write(n: u32, rule: u32, negative: bool, m: u64, k: i32) -> HandedWord
-    ensures { λ r. ⌜ HandsOver wordHanded (Writes n (ruleOf rule) (record { negative = negative; m = m; k = k })) r ⌝ }
+pub extern "C" fn takum_write(n: u32, rule: u32, negative: bool, m: u64, k: i32) -> HandedSaying
+    ensures { λ r. ⌜ HandsOver sayingHanded (WritesAndSays n (ruleOf rule) (record { negative = negative; m = m; k = k })) r ⌝ }
 {
     let value = Value { negative, m, k };
     if rule == 0 {
-        return hand_word(write(Width { bits: n }, Rule::Rounded, value));
+        return hand_saying(write(Width { bits: n }, Rule::Rounded, value));
     }
-    hand_word(write(Width { bits: n }, Rule::Strict, value))
+    hand_saying(write(Width { bits: n }, Rule::Strict, value))
 }
 
 #[no_mangle]
-pub extern "C" fn takum_move(from: u32, to: u32, rule: u32, word: u64) -> HandedWord
-    ensures { λ r. ⌜ HandsOver wordHanded (Moves from to (ruleOf rule) word) r ⌝ }
+pub extern "C" fn takum_move(from: u32, to: u32, rule: u32, word: u64) -> HandedSaying
+    ensures { λ r. ⌜ HandsOver sayingHanded (MovesAndSays from to (ruleOf rule) word) r ⌝ }
 {
     if rule == 0 {
-        return hand_word(move_word(
+        return hand_saying(move_word(
             Width { bits: from },
             Width { bits: to },
             Rule::Rounded,
             word,
         ));
     }
-    hand_word(move_word(Width { bits: from }, Width { bits: to }, Rule::Strict, word))
+    hand_saying(move_word(Width { bits: from }, Width { bits: to }, Rule::Strict, word))
 }

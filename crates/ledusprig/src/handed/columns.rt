@@ -1,36 +1,43 @@
 // What the calls over lent slices hand over: of a moved column, of a block that was written, and of one that was read.
 use column::moving::Column;
+use column::moving::MovedColumn;
 use sheet::block::Block;
 use sheet::writing::Writing;
 ghost use mathlib.Core.Path.{_≡_};
 ghost use Rattle.ledusprig.specs.Handed.{columnHanded, blockHanded, writingHanded};
 
-// The position of the word that was refused; 0 where no word was.
+// The position of the word that was refused; 0 where no word was. Of the words that were moved, `exact` is how many are exact.
 #[repr(C)]
 pub struct HandedColumn {
     pub refusal: u32,
     pub position: usize,
     pub moved: usize,
+    pub exact: usize,
 }
 
-pub(crate) fn hand_column(answer: Column) -> HandedColumn
-    ensures { λ r. ⌜ r ≡ columnHanded answer ⌝ }
+pub(crate) fn hand_column(column: MovedColumn) -> HandedColumn
+    ensures { λ r. ⌜ r ≡ columnHanded column ⌝ }
 {
+    let answer = column.answer;
+    let exact = column.exact;
     match answer {
         Column::Moved(moved) => HandedColumn {
             refusal: 0,
             position: 0,
             moved,
+            exact,
         },
         Column::Refused(q) => HandedColumn {
             refusal: q.number(),
             position: 0,
             moved: 0,
+            exact,
         },
         Column::RefusedAt { position, refusal } => HandedColumn {
             refusal: refusal.number(),
             position,
             moved: 0,
+            exact,
         },
     }
 }

@@ -1,10 +1,12 @@
-// What one word's calls hand over: a word, a reading, an order. Calls of widths and numbers that give a word hand it over by the same struct.
+// What one word's calls hand over: a word, alone or with its saying, a reading, an order. Calls of widths and numbers that give a word hand it over by
+// the same structs.
 use bounds::answer::Answer;
+use bounds::answer::Written;
 use order::order::Comparison;
 use word::reading::Kind;
 use word::reading::Reading;
 ghost use mathlib.Core.Path.{_≡_};
-ghost use Rattle.ledusprig.specs.Handed.{wordHanded, readingHanded, comparisonHanded};
+ghost use Rattle.ledusprig.specs.Handed.{wordHanded, sayingHanded, readingHanded, comparisonHanded};
 
 #[repr(C)]
 pub struct HandedWord {
@@ -19,6 +21,31 @@ pub(crate) fn hand_word(answer: Answer) -> HandedWord
         Answer::Word(word) => HandedWord { refusal: 0, word },
         Answer::Refused(q) => HandedWord {
             refusal: q.number(),
+            word: 0,
+        },
+    }
+}
+
+// A word that was written or moved, with the number of its saying.
+#[repr(C)]
+pub struct HandedSaying {
+    pub refusal: u32,
+    pub saying: u32,
+    pub word: u64,
+}
+
+pub(crate) fn hand_saying(answer: Written) -> HandedSaying
+    ensures { λ r. ⌜ r ≡ sayingHanded answer ⌝ }
+{
+    match answer {
+        Written::Word { word, saying } => HandedSaying {
+            refusal: 0,
+            saying: saying.number(),
+            word,
+        },
+        Written::Refused(q) => HandedSaying {
+            refusal: q.number(),
+            saying: 0,
             word: 0,
         },
     }

@@ -8,20 +8,20 @@ use Rattle.ledusprig.proofs.numbers.takum_write_whole.Tie as tie
 write-whole-requires : tie.Need-write-whole-requires
 write-whole-requires c κs = search needs
 
-hand-word-requires : tie.Need-hand-word-requires
-hand-word-requires c κs = search needs
+hand-saying-requires : tie.Need-hand-saying-requires
+hand-saying-requires c κs = search needs
 
 returns : tie.Need-returns
-returns c = record { answer = c .before .write-whole .result; given = rw (c .before .before .if1 .taken) (rw (toZ-ofZ (c .before .before .before .fits .x)) at (c .before .write-whole .ensures)); is = c .hand-word .ensures }
+returns c = record { answer = c .before .write-whole .result; given = rw (c .before .before .if1 .taken) (rw (toZ-ofZ (c .before .before .before .fits .x)) at (c .before .write-whole .ensures)); is = c .hand-saying .ensures }
 
 write-whole-requires-2 : tie.Need-write-whole-requires-2
 write-whole-requires-2 c κs = search needs
 
-hand-word-requires-2 : tie.Need-hand-word-requires-2
-hand-word-requires-2 c κs = search needs
+hand-saying-requires-2 : tie.Need-hand-saying-requires-2
+hand-saying-requires-2 c κs = search needs
 
 returns-2 : tie.Need-returns-2
-returns-2 c = record { answer = c .before .write-whole2 .result; given = rw (other-than-0 (c .before .before .if1 .left)) (rw (toZ-ofZ (c .before .before .before .fits .x)) at (c .before .write-whole2 .ensures)); is = c .hand-word2 .ensures }
+returns-2 c = record { answer = c .before .write-whole2 .result; given = rw (other-than-0 (c .before .before .if1 .left)) (rw (toZ-ofZ (c .before .before .before .fits .x)) at (c .before .write-whole2 .ensures)); is = c .hand-saying2 .ensures }
 
 pub takum-write-whole-spec : {M : Type 1} → statement M
-takum-write-whole-spec = tie.close (tie.spec write-whole-requires hand-word-requires returns write-whole-requires-2 hand-word-requires-2 returns-2)
+takum-write-whole-spec = tie.close (tie.spec write-whole-requires hand-saying-requires returns write-whole-requires-2 hand-saying-requires-2 returns-2)

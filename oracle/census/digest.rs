@@ -3,7 +3,7 @@
 use crate::words::reading::{Kind, Reading};
 use crate::words::refusals::Refusal;
 use crate::words::sequence::{scramble, D0};
-use crate::writing::answers::Answers;
+use crate::writing::answers::{Answer, Answers};
 
 /// The digest of one line.
 pub struct Digest(u64);
@@ -32,7 +32,7 @@ impl Digest {
         self.take(refusal as u64);
     }
 
-    /// A word, a width or a limit.
+    /// A word that is neither written nor moved, a width or a limit.
     pub fn take_number(&mut self, answer: Result<u64, Refusal>) {
         match answer {
             Err(refusal) => self.take_refusal(refusal),
@@ -78,10 +78,18 @@ impl Digest {
         }
     }
 
+    /// "A word that was written or moved": the word, then the number of its saying.
+    fn take_answer(&mut self, answer: Result<Answer, Refusal>) {
+        self.take_number(answer.map(|answer| answer.word));
+        if let Ok(answer) = answer {
+            self.take(answer.saying as u64);
+        }
+    }
+
     /// First the rounded answer, then the strict one.
     pub fn take_answers(&mut self, answers: Answers) {
-        self.take_number(answers.rounded);
-        self.take_number(answers.strict);
+        self.take_answer(answers.rounded);
+        self.take_answer(answers.strict);
     }
 
     /// 16 lower-case hex digits.

@@ -30,5 +30,5 @@ pub fn wholes_below_halves() -> Vec<u128> {
 
 /// The word that writing i and a half, rounded, gives: of (2 i + 1) * 2^-1.
 pub fn word_of_half(width: u32, i: u128) -> u64 {
-    write(width, &Offer::plus(2 * i + 1, -1)).rounded.expect("every value can be written rounded")
+    write(width, &Offer::plus(2 * i + 1, -1)).rounded.expect("every value can be written rounded").word
 }

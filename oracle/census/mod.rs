@@ -5,6 +5,7 @@ pub mod blocks;
 mod buffers;
 pub mod columns;
 mod digest;
+pub mod ends;
 mod faults;
 pub mod halves;
 pub mod long;
@@ -17,12 +18,13 @@ pub mod whole;
 pub mod writing;
 pub mod written;
 
-/// The text of words: parts 1 to 12, then 41 to 44.
+/// The text of words: parts 1 to 12, then 41 to 44, then 52.
 pub fn words() -> Vec<String> {
     let mut lines = Vec::new();
     reading::push(&mut lines);
     writing::push(&mut lines);
     long::push(&mut lines);
+    ends::push(&mut lines);
     lines
 }
 

@@ -78,7 +78,7 @@ fn take_ways_out_from(digest: &mut Digest, width: u32, a: i128) {
 
 /// The word of value 2^c, where there is one.
 pub fn word_of_power(width: u32, c: i32) -> u64 {
-    write(width, &Offer::plus(1, c)).strict.expect("the power of two has a word")
+    write(width, &Offer::plus(1, c)).strict.expect("the power of two has a word").word
 }
 
 /// Part 17: words with all fraction bits set, and those that lie beside them and beside the ties before them.

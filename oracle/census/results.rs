@@ -3,7 +3,7 @@
 
 use crate::census::digest::Digest;
 use crate::sheets::blocks::{read_block, Heading};
-use crate::sheets::columns::{move_column, ColumnRefusal, Rule};
+use crate::sheets::columns::{move_column, ColumnRefusal, Moved, Rule};
 use crate::words::refusals::Refusal;
 
 /// How many sentinels lie before what is lent, and how many after it.
@@ -35,11 +35,12 @@ pub fn take_both(digest: &mut Digest, widths: (u32, u32), words: &[u64], room: u
     take_column(digest, widths, Rule::Strict, words, room);
 }
 
-fn take_column_answer(digest: &mut Digest, answer: Result<usize, ColumnRefusal>) {
+fn take_column_answer(digest: &mut Digest, answer: Result<Moved, ColumnRefusal>) {
     match answer {
-        Ok(count) => {
+        Ok(moved) => {
             digest.take(0);
-            digest.take(count as u64);
+            digest.take(moved.count as u64);
+            digest.take(moved.exact as u64);
         }
         Err(refusal) => take_column_refusal(digest, refusal),
     }

@@ -49,8 +49,8 @@ pub fn with_negation(width: u32, a: i128) -> [u64; 2] {
 /// "The round of z."
 pub fn take_round(digest: &mut Digest, width: u32, whole: i64) {
     take_whole_in(digest, width, whole);
-    let word = whole_in(width, whole).rounded.expect("every whole number can be written rounded");
-    take_ways_out(digest, width, word);
+    let answer = whole_in(width, whole).rounded.expect("every whole number can be written rounded");
+    take_ways_out(digest, width, answer.word);
 }
 
 pub fn push_refusals(lines: &mut Vec<String>) {

@@ -3,7 +3,8 @@
 use crate::census::binary64::{chosen_patterns, pattern_of_word};
 use crate::census::out::{chosen_word, last_word_of_binade};
 use crate::census::whole::chosen_whole;
-use crate::checks::writing::{exactly, only_rounded};
+use crate::checks::sayings::check_said;
+use crate::checks::writing::{above, below, exactly, past_the_end};
 use crate::exact::number::Whole;
 use crate::numbers::binary64::{
     binary64_in, binary64_out, nearest_pattern, size_of_pattern, with_sign, Binary64, INFINITY, NAN,
@@ -43,14 +44,17 @@ fn check_figures() {
         assert!(binary64_in(16, pattern) == exactly(word), "{pattern:#018x} in");
     }
     // Numbers that have no word of width 16: 513, 515 and 1023; 2^-300 and 2^300, which lie past the ends.
-    for (pattern, word) in [
-        (0x4080_0800_0000_0000, 0x5A00),
-        (0x4080_1800_0000_0000, 0x5A02),
-        (0x408F_F800_0000_0000, 0x5B00),
-        (0x2D30_0000_0000_0000, 0x0001),
-        (0x52B0_0000_0000_0000, 0x7FFF),
+    for (pattern, expected) in [
+        (0x4080_0800_0000_0000, below(0x5A00)),
+        (0x4080_1800_0000_0000, above(0x5A02)),
+        (0x408F_F800_0000_0000, above(0x5B00)),
+        (0x2D30_0000_0000_0000, past_the_end(0x0001)),
+        (0x52B0_0000_0000_0000, past_the_end(0x7FFF)),
+        // -513 and -515.
+        (0xC080_0800_0000_0000, above(0xA600)),
+        (0xC080_1800_0000_0000, below(0xA5FE)),
     ] {
-        assert!(binary64_in(16, pattern) == only_rounded(word), "{pattern:#018x} in");
+        assert!(binary64_in(16, pattern) == expected, "{pattern:#018x} in");
     }
     // The word of 1 at width n is 2^(n-2), and its fraction has n - 5 bits: from width 58 on that is one bit and more
     // beyond the 52 of binary64. All fraction bits set lie halfway at 58 and nearer to 2 above that.
@@ -105,7 +109,7 @@ fn check_special_numbers() {
             (INFINITY - 1, largest, false),
         ] {
             for (minus, word) in [(false, word), (true, negate(width, word).unwrap())] {
-                let expected = if is_exact { exactly(word) } else { only_rounded(word) };
+                let expected = if is_exact { exactly(word) } else { past_the_end(word) };
                 assert!(binary64_in(width, with_sign(minus, pattern)) == expected);
             }
         }
@@ -139,22 +143,26 @@ fn check_ways_back() {
     }
 }
 
-/// Whatever is drawn for part 23: a number that is not zero goes in as a word of its sign, and all else does not.
+/// Whatever is drawn for part 23: a number that is not zero goes in as a word of its sign, and all else does not. "NaR
+/// and zero are exact" (paper 02, Wish 4), and of the others the saying fits the value.
 fn check_draws() {
     for width in 2..=64 {
         let nar = nar_word(width).unwrap();
         let mut sequence = Sequence::new(8400 + width);
         for pattern in (0..64).flat_map(|_place| chosen_patterns(&mut sequence, width)) {
             let (minus, size) = (pattern >= 1 << 63, pattern % (1 << 63));
-            let word = binary64_in(width, pattern).rounded.unwrap();
+            let answers = binary64_in(width, pattern);
+            let word = answers.rounded.unwrap().word;
             if size == 0 {
-                assert!(word == 0);
+                assert!(answers == exactly(0));
             } else if size >= INFINITY {
-                assert!(word == nar);
+                assert!(answers == exactly(nar));
             } else if minus {
                 assert!(word > nar);
+                check_said(width, &size_of_pattern(size).negated(), answers);
             } else {
                 assert!(0 < word && word < nar);
+                check_said(width, &size_of_pattern(size), answers);
             }
         }
     }

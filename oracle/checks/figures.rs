@@ -1,14 +1,24 @@
 //! Checks of the printed figures against papers 01 and 02; written from the papers alone.
 //!
 //! Each line stands below the sentence of paper 01 that gives it, or that it follows from, in HALVES of paper 02,
-//! Wish 2, and in OWN_BITS of Wish 3; the marks P are left out. The words that the papers don't name were worked out by
-//! hand from the fields of Definition 2: S, D, R, C and F from the top.
+//! Wish 2, in OWN_BITS of Wish 3 and in SAYINGS of Wish 4; the marks P are left out. The words that the papers don't
+//! name were worked out by hand from the fields of Definition 2: S, D, R, C and F from the top. What is said beside a
+//! word (Wish 4) follows from its value and the one offered.
 
 /// Every line below is printed, and no other is.
 pub fn check(lines: &[String]) {
-    let expected =
-        [&READING[..], &LIMITS, &WRITING, &ERRORS_THAT_LOOK_RIGHT, &WHOLE_NUMBERS, &HALVES, &BINARY64, &OWN_BITS]
-            .concat();
+    let expected = [
+        &READING[..],
+        &LIMITS,
+        &WRITING,
+        &ERRORS_THAT_LOOK_RIGHT,
+        &WHOLE_NUMBERS,
+        &HALVES,
+        &BINARY64,
+        &OWN_BITS,
+        &SAYINGS,
+    ]
+    .concat();
     for line in &expected {
         assert!(lines.iter().any(|printed| printed == line), "not printed: {line}");
     }
@@ -56,66 +66,66 @@ const LIMITS: [&str; 9] = [
 
 const WRITING: [&str; 18] = [
     // "514 is 0x5A01; 515 rounded is 0x5A02", which is 516.
-    "width 16 writing 257 * 2^1 rounded gives 5a01",
-    "width 16 writing 257 * 2^1 strict gives 5a01",
-    "width 16 writing 515 * 2^0 rounded gives 5a02",
+    "width 16 writing 257 * 2^1 rounded gives 5a01, exact",
+    "width 16 writing 257 * 2^1 strict gives 5a01, exact",
+    "width 16 writing 515 * 2^0 rounded gives 5a02, above",
     "width 16 writing 515 * 2^0 strict is refused 4",
     // "2^-300 writes as 0x0001; 2^300 as 0x7FFF."
-    "width 16 writing 1 * 2^-300 rounded gives 1",
-    "width 16 writing 1 * 2^300 rounded gives 7fff",
+    "width 16 writing 1 * 2^-300 rounded gives 1, past the end",
+    "width 16 writing 1 * 2^300 rounded gives 7fff, past the end",
     // "Width 8: 7 is 0x4F, 8 is 0x50, 9 and 10 rounded are 0x50, 9 strict is INEXACT."
-    "width 8 writing 7 * 2^0 rounded gives 4f",
-    "width 8 writing 7 * 2^0 strict gives 4f",
-    "width 8 writing 1 * 2^3 rounded gives 50",
-    "width 8 writing 1 * 2^3 strict gives 50",
-    "width 8 writing 9 * 2^0 rounded gives 50",
+    "width 8 writing 7 * 2^0 rounded gives 4f, exact",
+    "width 8 writing 7 * 2^0 strict gives 4f, exact",
+    "width 8 writing 1 * 2^3 rounded gives 50, exact",
+    "width 8 writing 1 * 2^3 strict gives 50, exact",
+    "width 8 writing 9 * 2^0 rounded gives 50, below",
     "width 8 writing 9 * 2^0 strict is refused 4",
-    "width 8 writing 5 * 2^1 rounded gives 50",
+    "width 8 writing 5 * 2^1 rounded gives 50, below",
     // "Width 2: ... every positive value writes as 01."
-    "width 2 writing 1 * 2^0 rounded gives 1",
-    "width 2 writing 3 * 2^0 rounded gives 1",
-    "width 2 writing 1 * 2^-300 rounded gives 1",
-    "width 2 writing 1 * 2^300 rounded gives 1",
+    "width 2 writing 1 * 2^0 rounded gives 1, exact",
+    "width 2 writing 3 * 2^0 rounded gives 1, past the end",
+    "width 2 writing 1 * 2^-300 rounded gives 1, past the end",
+    "width 2 writing 1 * 2^300 rounded gives 1, past the end",
     // "0xBC00 is -1.5."
-    "width 16 writing -3 * 2^-1 strict gives bc00",
+    "width 16 writing -3 * 2^-1 strict gives bc00, exact",
 ];
 
 const ERRORS_THAT_LOOK_RIGHT: [&str; 11] = [
     // "At width 8, 2^231 is nearest to 0x7E by value."
-    "width 8 writing 1 * 2^231 rounded gives 7e",
+    "width 8 writing 1 * 2^231 rounded gives 7e, below",
     // "513 + 2^-20 at width 64 goes to 514 at 16; through 32 it would go to 512." Times 2^20 it is 537919489. It is
     // 512 * (1 + 2^-9 + 2^-29), and p is 56, so F is 2^47 + 2^27 after the 0x5A of 512.
-    "width 64 writing 537919489 * 2^-20 strict gives 5a00800008000000",
-    "width 64 moving 5a00800008000000 to width 16 rounded gives 5a01",
-    "width 64 moving 5a00800008000000 to width 32 rounded gives 5a008000",
-    "width 32 moving 5a008000 to width 16 rounded gives 5a00",
+    "width 64 writing 537919489 * 2^-20 strict gives 5a00800008000000, exact",
+    "width 64 moving 5a00800008000000 to width 16 rounded gives 5a01, above",
+    "width 64 moving 5a00800008000000 to width 32 rounded gives 5a008000, below",
+    "width 32 moving 5a008000 to width 16 rounded gives 5a00, below",
     // "Sending tiny values to zero because zero is nearer."
-    "width 16 writing -1 * 2^-300 rounded gives ffff",
-    "width 64 writing 1 * 2^-2147483648 rounded gives 1",
+    "width 16 writing -1 * 2^-300 rounded gives ffff, past the end",
+    "width 64 writing 1 * 2^-2147483648 rounded gives 1, past the end",
     // "Adding one past all ones in the fraction without letting the carry run into the characteristic and regime."
     // These go up to 2 (0 1 001 0), 4 (0 1 001 1), 2^7 (0 1 011 000) and 2^15 (0 1 100 0000), F being 0.
-    "width 16 writing 18446744073709551615 * 2^-63 rounded gives 4800",
-    "width 16 writing 18446744073709551615 * 2^-62 rounded gives 4c00",
-    "width 16 writing 18446744073709551615 * 2^-57 rounded gives 5800",
-    "width 16 writing 18446744073709551615 * 2^-49 rounded gives 6000",
+    "width 16 writing 18446744073709551615 * 2^-63 rounded gives 4800, above",
+    "width 16 writing 18446744073709551615 * 2^-62 rounded gives 4c00, above",
+    "width 16 writing 18446744073709551615 * 2^-57 rounded gives 5800, above",
+    "width 16 writing 18446744073709551615 * 2^-49 rounded gives 6000, above",
 ];
 
 const WHOLE_NUMBERS: [&str; 23] = [
     // "515 rounded is 0x5A02", and 0x5A01 being 514, that is 516. "512 at 16; 2^24 at 32": at 32 bits 515 has a word,
     // 512 * (1 + 3 * 2^-9), and p is 24, so F is 3 * 2^15 after the 0x5A of 512.
-    "width 16 whole number 515 rounded gives 5a02",
+    "width 16 whole number 515 rounded gives 5a02, above",
     "width 16 word 5a02 nearest is 516",
     "width 16 whole number 515 strict is refused 4",
-    "width 32 whole number 515 strict gives 5a018000",
+    "width 32 whole number 515 strict gives 5a018000, exact",
     "width 32 word 5a018000 strict is 515",
     // "512 writes as 0x5A00. 513 rounded is 0x5A00, strict is INEXACT." "Negation is two's complement negation."
-    "width 16 whole number 512 strict gives 5a00",
+    "width 16 whole number 512 strict gives 5a00, exact",
     "width 16 whole number 513 strict is refused 4",
-    "width 16 whole number -512 strict gives a600",
+    "width 16 whole number -512 strict gives a600, exact",
     "width 16 whole number -513 strict is refused 4",
     // "1,023 rounded is 0x5B00." "9 and 10 rounded are 0x50."
-    "width 16 whole number 1023 rounded gives 5b00",
-    "width 8 whole number 10 rounded gives 50",
+    "width 16 whole number 1023 rounded gives 5b00, above",
+    "width 8 whole number 10 rounded gives 50, below",
     // "Halves to the even number" (paper 02, Wish 2): -0.5 goes to 0, 0x3800 being 0.5. "0xBC00 is -1.5." "0x8000 is
     // NaR": "a whole number is wanted of NaR".
     "width 16 word c800 nearest is 0",
@@ -126,9 +136,9 @@ const WHOLE_NUMBERS: [&str; 23] = [
     "width 65 word 0 nearest is refused 1",
     // "A word of value -2^63 goes out; 2^63 is refused 5." 2^63 is 0 1 110 000000. At width 64 the words below it lie
     // 2^8 apart, so it is the nearest to 2^63 - 1.
-    "width 16 whole number -9223372036854775808 strict gives 9000",
+    "width 16 whole number -9223372036854775808 strict gives 9000, exact",
     "width 64 whole number 9223372036854775807 strict is refused 4",
-    "width 64 whole number 9223372036854775807 rounded gives 7000000000000000",
+    "width 64 whole number 9223372036854775807 rounded gives 7000000000000000, above",
     "width 16 word 9000 strict is -9223372036854775808",
     "width 16 word 7000 strict is refused 5",
     "width 16 word 7000 nearest is refused 5",
@@ -175,16 +185,16 @@ const HALVES: [&str; 22] = [
 
 const BINARY64: [&str; 13] = [
     // "0x4400 is 1.5; 0xBC00 is -1.5": exponent field 1023 and the highest fraction bit.
-    "width 16 binary64 3ff8000000000000 strict gives 4400",
-    "width 16 binary64 bff8000000000000 strict gives bc00",
+    "width 16 binary64 3ff8000000000000 strict gives 4400, exact",
+    "width 16 binary64 bff8000000000000 strict gives bc00, exact",
     // "NaN and both infinities give NaR, both zeros give zero, every other number is written rounded or strict." The
     // least and the greatest number lie past the ends of the width.
-    "width 16 binary64 0 strict gives 0",
-    "width 16 binary64 8000000000000000 strict gives 0",
-    "width 16 binary64 1 rounded gives 1",
-    "width 16 binary64 7fefffffffffffff rounded gives 7fff",
-    "width 16 binary64 7ff0000000000000 strict gives 8000",
-    "width 16 binary64 nan strict gives 8000",
+    "width 16 binary64 0 strict gives 0, exact",
+    "width 16 binary64 8000000000000000 strict gives 0, exact",
+    "width 16 binary64 1 rounded gives 1, past the end",
+    "width 16 binary64 7fefffffffffffff rounded gives 7fff, past the end",
+    "width 16 binary64 7ff0000000000000 strict gives 8000, exact",
+    "width 16 binary64 nan strict gives 8000, exact",
     // "binary64 out answers either a number or "no reading" for NaR." "Zero goes out as positive zero."
     "width 16 word 4400 as binary64 is 3ff8000000000000",
     "width 16 word bc00 as binary64 is bff8000000000000",
@@ -240,4 +250,77 @@ const OWN_BITS: [&str; 32] = [
     "width 64 word 0 own bits 0",
     "width 64 word 8000000000000000 own bits 0",
     "width 64 word 1 own bits 52",
+];
+
+/// Paper 02, Wish 4: "one of four things: exact, word below the value, word above it (signed), or past the end."
+const SAYINGS: [&str; 53] = [
+    // "A clerk seeing 512 can't tell a true 512 from a rounded 513." 512 writes as 0x5A00. The negations of the words of
+    // 512 and 516 are 0xA600 and 0xA5FE: -512 is above -513, and -516 is below -515.
+    "width 16 writing 513 * 2^0 rounded gives 5a00, below",
+    "width 16 writing 1 * 2^9 rounded gives 5a00, exact",
+    "width 16 writing -513 * 2^0 rounded gives a600, above",
+    "width 16 writing -515 * 2^0 rounded gives a5fe, below",
+    // "Past the end is said when the size is beyond the largest word": that is 31 * 2^250, or 0x7FFF, and its own size
+    // is exact. 31 * 2^59 is 17870283321406128128. 2^254 is 0 1 111 1111111 0000, the nearest to 2^254 - 2^190.
+    "width 16 writing -1 * 2^300 rounded gives 8001, past the end",
+    "width 16 writing 31 * 2^250 rounded gives 7fff, exact",
+    "width 16 writing -31 * 2^250 rounded gives 8001, exact",
+    "width 16 writing 31 * 2^250 strict gives 7fff, exact",
+    "width 16 writing 18446744073709551615 * 2^190 rounded gives 7ff0, above",
+    "width 16 writing 17870283321406128129 * 2^191 rounded gives 7fff, past the end",
+    "width 16 writing 17870283321406128127 * 2^191 rounded gives 7fff, above",
+    // "Or is nonzero and short of the smallest": that is 17 * 2^-259, and 0x0002 is 18 * 2^-259. 33 * 2^-260 is 16.5 of
+    // these steps, and 35 * 2^-260 is 17.5, which lies halfway and goes to the even word.
+    "width 16 writing 17 * 2^-259 rounded gives 1, exact",
+    "width 16 writing -17 * 2^-259 rounded gives ffff, exact",
+    "width 16 writing 33 * 2^-260 rounded gives 1, past the end",
+    "width 16 writing -33 * 2^-260 rounded gives ffff, past the end",
+    "width 16 writing 35 * 2^-260 rounded gives 2, above",
+    "width 16 writing -35 * 2^-260 rounded gives fffe, below",
+    // "NaR and zero are exact."
+    "width 16 writing 0 * 2^0 rounded gives 0, exact",
+    "width 16 writing -0 * 2^0 rounded gives 0, exact",
+    // "Width 2: 01 is 1, 11 is -1."
+    "width 2 writing -3 * 2^0 rounded gives 3, past the end",
+    "width 2 writing -1 * 2^0 rounded gives 3, exact",
+    "width 2 writing 1 * 2^-1 rounded gives 1, past the end",
+    "width 2 writing 1 * 2^0 strict gives 1, exact",
+    // "0x7F is 2^239; 0x7E is 2^223; 0x01 is 2^-239." The negation of 0x7E is 0x82. 3 * 2^238 is 1.5 * 2^239, and
+    // 3 * 2^-241 is 0.75 * 2^-239.
+    "width 8 writing -1 * 2^231 rounded gives 82, above",
+    "width 8 writing 1 * 2^239 rounded gives 7f, exact",
+    "width 8 writing 3 * 2^238 rounded gives 7f, past the end",
+    "width 8 writing 1 * 2^-239 rounded gives 1, exact",
+    "width 8 writing 3 * 2^-241 rounded gives 1, past the end",
+    // Moves. At width 8, 0x5A is 0 1 011 010, which is 2^9, and the next word 2^10; 0x5A01 is 514. Both ends of 16 bits
+    // lie past those of 8. "Going wider never changes a value."
+    "width 16 moving 5a01 to width 8 rounded gives 5a, below",
+    "width 16 moving 8000 to width 8 rounded gives 80, exact",
+    "width 16 moving 0 to width 8 rounded gives 0, exact",
+    "width 16 moving 7fff to width 8 rounded gives 7f, past the end",
+    "width 16 moving 1 to width 8 rounded gives 1, past the end",
+    "width 16 moving a600 to width 64 rounded gives a600000000000000, exact",
+    // 513, -513 and 515, at widths that have them.
+    "width 64 moving 5a00800000000000 to width 16 rounded gives 5a00, below",
+    "width 64 moving a5ff800000000000 to width 16 rounded gives a600, above",
+    "width 32 moving 5a018000 to width 16 rounded gives 5a02, above",
+    // The same of whole numbers.
+    "width 16 whole number 513 rounded gives 5a00, below",
+    "width 16 whole number 512 rounded gives 5a00, exact",
+    "width 16 whole number -513 rounded gives a600, above",
+    "width 16 whole number -515 rounded gives a5fe, below",
+    "width 32 whole number 515 rounded gives 5a018000, exact",
+    "width 16 whole number 0 rounded gives 0, exact",
+    "width 2 whole number 3 rounded gives 1, past the end",
+    "width 2 whole number 1 rounded gives 1, exact",
+    // And of binary64: 515, which is (1 + 3 * 2^-9) * 2^9 with the exponent field 1032, and -513; both infinities, NaN
+    // and negative zero; the greatest and the least number, with a minus sign.
+    "width 16 binary64 4080180000000000 rounded gives 5a02, above",
+    "width 16 binary64 c080080000000000 rounded gives a600, above",
+    "width 16 binary64 7ff0000000000000 rounded gives 8000, exact",
+    "width 16 binary64 fff0000000000000 rounded gives 8000, exact",
+    "width 16 binary64 nan rounded gives 8000, exact",
+    "width 16 binary64 8000000000000000 rounded gives 0, exact",
+    "width 16 binary64 ffefffffffffffff rounded gives 8001, past the end",
+    "width 16 binary64 8000000000000001 rounded gives ffff, past the end",
 ];

@@ -1,12 +1,12 @@
 //! Checks of the law of jamming, by trial; written from the papers alone.
 //!
 //! A size of more than 128 bits can be brought to a long value: its 128 leading bits are kept, and where anything else
-//! than zeros is cut off, the lowest of them is set. The law says that this long value has the answers of the size. It
-//! follows from paper 01's rule, as no value of a word and no midpoint between two has as many as 128 significant bits:
-//! the long value lies on the same side of all of them as the size, or on the same one.
+//! than zeros is cut off, the lowest of them is set. The law says that this long value has the answers of the size, and
+//! the sayings. It follows from paper 01's rule, as no value of a word and no midpoint between two has as many as 128
+//! significant bits: the long value lies on the same side of all of them as the size, or on the same one.
 
 use crate::checks::midpoints::first_neighbours;
-use crate::checks::writing::check_writing;
+use crate::checks::writing::{between, check_writing};
 use crate::exact::number::Whole;
 use crate::words::sequence::Sequence;
 use crate::writing::answers::{write, write_number};
@@ -96,8 +96,8 @@ fn check_too_few_bits() {
         let size = size_of(1, exponent).plus(&size_of(1, 0));
         let by_64_bits = jammed(&size, 64);
         assert!(by_64_bits == ((1 << 63) + 1, exponent - 63));
-        assert!(write_number(width, &size).rounded == Ok(below));
-        assert!(write(width, &Offer::plus(by_64_bits.0, by_64_bits.1)).rounded == Ok(below + 1));
+        assert!(write_number(width, &size) == between(below, below));
+        assert!(write(width, &Offer::plus(by_64_bits.0, by_64_bits.1)) == between(below, below + 1));
         check_jammed(width, &size);
     }
 }

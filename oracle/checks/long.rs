@@ -3,7 +3,7 @@
 use crate::census::long::{chosen_long, offers_around_midpoint};
 use crate::census::writing::Draw;
 use crate::checks::midpoints::first_neighbours;
-use crate::checks::writing::{check_over_all_words, check_writing, exactly, only_rounded};
+use crate::checks::writing::{above, below, between, check_over_all_words, check_writing, exactly, past_the_end};
 use crate::words::sequence::Sequence;
 use crate::words::widths::{largest_word, smallest_word};
 use crate::writing::answers::write;
@@ -22,17 +22,19 @@ fn check_figures() {
     let hair = 1;
     for (width, (x, k), expected) in [
         (16, (512 << 100, -100), exactly(0x5A00)),
-        (16, (513 << 100, -100), only_rounded(0x5A00)),
-        (16, ((513 << 100) - hair, -100), only_rounded(0x5A00)),
-        (16, ((513 << 100) + hair, -100), only_rounded(0x5A01)),
-        (16, ((515 << 100) - hair, -100), only_rounded(0x5A01)),
-        (16, (515 << 100, -100), only_rounded(0x5A02)),
-        (8, (10 << 100, -100), only_rounded(0x50)),
-        (8, ((10 << 100) + hair, -100), only_rounded(0x51)),
+        (16, ((512 << 100) + hair, -100), below(0x5A00)),
+        (16, ((514 << 100) - hair, -100), above(0x5A01)),
+        (16, (513 << 100, -100), below(0x5A00)),
+        (16, ((513 << 100) - hair, -100), below(0x5A00)),
+        (16, ((513 << 100) + hair, -100), above(0x5A01)),
+        (16, ((515 << 100) - hair, -100), below(0x5A01)),
+        (16, (515 << 100, -100), above(0x5A02)),
+        (8, (10 << 100, -100), below(0x50)),
+        (8, ((10 << 100) + hair, -100), above(0x51)),
         // 0x7E is 2^223 and 0x7F is 2^239.
-        (8, (1 << 127, 104), only_rounded(0x7E)),
-        (8, ((1 << 127) + (1 << 111), 111), only_rounded(0x7E)),
-        (8, ((1 << 127) + (1 << 111) + hair, 111), only_rounded(0x7F)),
+        (8, (1 << 127, 104), below(0x7E)),
+        (8, ((1 << 127) + (1 << 111), 111), below(0x7E)),
+        (8, ((1 << 127) + (1 << 111) + hair, 111), above(0x7F)),
     ] {
         check_writing(width, (x, k), expected);
     }
@@ -51,7 +53,7 @@ fn check_midpoints() {
             let even = a + a % 2;
             let nearest = [a, even, a + 1, even];
             for (offer, word) in offers_around_midpoint(width, a).into_iter().zip(nearest) {
-                check_writing(width, offer, only_rounded(word));
+                check_writing(width, offer, between(a, word));
             }
         }
     }
@@ -87,10 +89,10 @@ fn check_ends() {
     let most = u128::MAX;
     for width in 2..=64 {
         for offer in [(1, i32::MIN), (most, i32::MIN), (most, -401), (most, -400), (most, -383), (1 << 127, -382)] {
-            check_writing(width, offer, only_rounded(smallest_word(width).unwrap()));
+            check_writing(width, offer, past_the_end(smallest_word(width).unwrap()));
         }
         for offer in [(1, i32::MAX), (most, i32::MAX), (1, 256), (1, 255), (1 << 127, 128), (most, 127)] {
-            check_writing(width, offer, only_rounded(largest_word(width).unwrap()));
+            check_writing(width, offer, past_the_end(largest_word(width).unwrap()));
         }
     }
 }

@@ -1,7 +1,7 @@
 //! Checks of the binary64 numbers halfway between two words; written from the papers alone.
 
 use crate::census::binary64::{pattern_of_midpoint, pattern_of_word};
-use crate::checks::writing::only_rounded;
+use crate::checks::writing::between;
 use crate::numbers::binary64::binary64_in;
 use crate::words::sequence::Sequence;
 use crate::words::widths::largest_word;
@@ -50,8 +50,8 @@ fn check_midpoints_in() {
     for width in 3..=64 {
         for a in first_neighbours(width) {
             if let Some(pattern) = pattern_of_midpoint(width, a) {
-                let rounded = |pattern: u64| binary64_in(width, pattern).rounded.unwrap();
-                assert!(binary64_in(width, pattern) == only_rounded(a + a % 2));
+                let rounded = |pattern: u64| binary64_in(width, pattern).rounded.unwrap().word;
+                assert!(binary64_in(width, pattern) == between(a, a + a % 2));
                 assert!(rounded(pattern - 1) == a && rounded(pattern + 1) == a + 1);
             }
         }

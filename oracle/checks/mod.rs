@@ -17,6 +17,7 @@ mod offers;
 mod own_bits;
 mod patterns;
 mod reading;
+mod sayings;
 mod whole;
 mod writing;
 mod written;
@@ -31,6 +32,7 @@ pub fn check_words() {
     moving::check();
     long::check();
     jamming::check();
+    sayings::check();
 }
 
 /// What its numbers stand on besides.

@@ -1,7 +1,7 @@
 //! Checks of the papers' statements on moving; written from the papers alone.
 
 use crate::census::writing::Draw;
-use crate::checks::writing::{exactly, only_rounded};
+use crate::checks::writing::{above, below, exactly};
 use crate::words::reading::{read, Kind};
 use crate::words::refusals::Refusal;
 use crate::words::sequence::Sequence;
@@ -19,10 +19,11 @@ pub fn check() {
 
 /// "513 + 2^-20 at width 64 goes to 514 at 16; through 32 it would go to 512."
 fn check_figures() {
-    let word = write(64, &Offer::plus((513 << 20) + 1, -20)).strict.unwrap();
-    assert!(move_word(64, 16, word) == only_rounded(0x5A01));
-    let through = move_word(64, 32, word).rounded.unwrap();
-    assert!(move_word(32, 16, through) == only_rounded(0x5A00));
+    let word = write(64, &Offer::plus((513 << 20) + 1, -20)).strict.unwrap().word;
+    assert!(move_word(64, 16, word) == above(0x5A01));
+    let through = move_word(64, 32, word).rounded.unwrap().word;
+    assert!(move_word(64, 32, word) == below(through));
+    assert!(move_word(32, 16, through) == below(0x5A00));
     assert!(move_word(16, 8, 0x8000) == exactly(0x80));
     assert!(move_word(16, 64, 0) == exactly(0));
 }
@@ -45,8 +46,8 @@ fn check_moves() {
                 }
             }
             if target >= from {
-                let moved = answers.strict.expect("going wider never changes a value");
-                assert!(answers.rounded == Ok(moved) && value(target, moved) == value(from, word));
+                let moved = answers.strict.expect("going wider never changes a value").word;
+                assert!(answers == exactly(moved) && value(target, moved) == value(from, word));
                 assert!(move_word(target, from, moved) == exactly(word));
             }
         }

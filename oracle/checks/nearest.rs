@@ -14,7 +14,7 @@ use crate::words::refusals::{count_of_words, Refusal};
 use crate::words::sequence::Sequence;
 use crate::words::values::SCALE;
 use crate::words::widths::nar_word;
-use crate::writing::answers::write;
+use crate::writing::answers::{write, Answer};
 use crate::writing::nearest::value_of;
 use crate::writing::offers::{Offer, FINE_SCALE};
 use std::cmp::Ordering;
@@ -36,9 +36,9 @@ fn check_figures() {
     for (m, whole) in [(1, 0), (3, 2), (5, 2), (7, 4)] {
         for (offer, whole) in [(Offer::plus(m, -1), whole), (Offer::minus(m, -1), -whole)] {
             for width in 2..=64 {
-                let word = write(width, &offer).strict;
-                assert!(word.is_ok() || width < 8, "{offer:?} has a word of width {width}");
-                if let Ok(word) = word {
+                let answer = write(width, &offer).strict;
+                assert!(answer.is_ok() || width < 8, "{offer:?} has a word of width {width}");
+                if let Ok(Answer { word, .. }) = answer {
                     assert!(whole_out_nearest(width, word) == Ok(whole), "{offer:?} at width {width}");
                     assert!(whole_out_strict(width, word) == Err(Refusal::Inexact));
                 }

@@ -13,7 +13,8 @@ pub fn check() {
 
 /// What `cut_exponent` says, without a cut: below k = -400 the offer is compared "after both sides are multiplied by
 /// 2^-k", as paper 01 has it, and above k = 255 it is taken whole. Width 64 has the words of the least and the greatest
-/// size; the words of the other widths lie between, as going wider never changes a value.
+/// size; the words of the other widths lie between, as going wider never changes a value. So these offers are past the
+/// end of every width.
 fn check_cuts() {
     let size_of_word = |word| match value(64, word) {
         Value::Number(number) => number,

@@ -1,9 +1,13 @@
 //! Checks of the papers' statements on whole numbers in and out; written from the papers alone.
 
-use crate::checks::writing::{exactly, only_rounded};
+use crate::census::whole::chosen_whole;
+use crate::checks::sayings::check_said;
+use crate::checks::writing::{above, below, exactly, past_the_end};
 use crate::exact::number::Whole;
+use crate::numbers::binary64::FINEST_SCALE;
 use crate::numbers::whole::{whole_in, whole_out_nearest, whole_out_strict};
 use crate::words::refusals::Refusal;
+use crate::words::sequence::Sequence;
 use crate::words::widths::{exact_count_limit, nar_word};
 use crate::writing::answers::Answers;
 use crate::writing::nearest::value_of;
@@ -13,6 +17,7 @@ pub fn check() {
     check_figures();
     check_limits();
     check_brink();
+    check_sayings();
     check_refusals();
 }
 
@@ -25,21 +30,24 @@ fn check_figures() {
         (16, 2, exactly(0x4800)),
         (16, 3, exactly(0x4A00)),
         (16, 512, exactly(0x5A00)),
-        (16, 513, only_rounded(0x5A00)),
+        (16, 513, below(0x5A00)),
         (16, 514, exactly(0x5A01)),
-        (16, 515, only_rounded(0x5A02)),
+        (16, 515, above(0x5A02)),
         (16, 516, exactly(0x5A02)),
-        (16, 1023, only_rounded(0x5B00)),
+        (16, -512, exactly(0xA600)),
+        (16, -513, above(0xA600)),
+        (16, -515, below(0xA5FE)),
+        (16, 1023, above(0x5B00)),
         (16, 1024, exactly(0x5B00)),
         (8, 7, exactly(0x4F)),
         (8, 8, exactly(0x50)),
-        (8, 9, only_rounded(0x50)),
-        (8, 10, only_rounded(0x50)),
+        (8, 9, below(0x50)),
+        (8, 10, below(0x50)),
         (2, 1, exactly(0b01)),
-        (2, 2, only_rounded(0b01)),
-        (2, i64::MAX, only_rounded(0b01)),
+        (2, 2, past_the_end(0b01)),
+        (2, i64::MAX, past_the_end(0b01)),
         (2, -1, exactly(0b11)),
-        (2, i64::MIN, only_rounded(0b11)),
+        (2, i64::MIN, past_the_end(0b11)),
     ];
     for (width, whole, expected) in figures_in {
         assert!(whole_in(width, whole) == expected, "{whole} at width {width}");
@@ -72,7 +80,7 @@ fn check_limits() {
         let limit = exact_count_limit(width).unwrap() as i64;
         for whole in (0..=limit.min(1024)).chain([limit - 1, limit]) {
             for whole in [whole, -whole] {
-                let word = whole_in(width, whole).strict.expect("up to the limit every whole number has a word");
+                let word = whole_in(width, whole).strict.expect("up to the limit every whole number has a word").word;
                 assert!(whole_in(width, whole) == exactly(word));
                 assert!(whole_out_nearest(width, word) == Ok(whole) && whole_out_strict(width, word) == Ok(whole));
             }
@@ -94,7 +102,7 @@ fn check_brink() {
         assert!(whole_out_nearest(width, plus) == over && whole_out_strict(width, plus) == over);
         assert!(whole_in(width, i64::MIN) == exactly(minus));
         // 2^63 - 1 has 63 significant bits, more than any word at that place. The words below 2^63 lie further off.
-        assert!(whole_in(width, i64::MAX) == only_rounded(plus));
+        assert!(whole_in(width, i64::MAX) == above(plus));
         // Before 2^63 on either side the words are whole and go out.
         for word in [plus - 1, minus + 1] {
             let whole = whole_out_nearest(width, word).expect("the number is within signed 64 bits");
@@ -110,7 +118,19 @@ fn check_brink() {
     }
     // Widths 2 and 3 have no size above 2^15.
     assert!(whole_out_strict(2, 0b01) == Ok(1) && whole_out_strict(3, 0b011) == Ok(1 << 15));
-    assert!(whole_in(3, i64::MAX) == only_rounded(0b011) && whole_in(3, i64::MIN) == only_rounded(0b101));
+    assert!(whole_in(3, 1 << 15) == exactly(0b011) && whole_in(3, -1 << 15) == exactly(0b101));
+    assert!(whole_in(3, i64::MAX) == past_the_end(0b011) && whole_in(3, i64::MIN) == past_the_end(0b101));
+}
+
+/// Paper 02, Wish 4, of the numbers that part 22 draws.
+fn check_sayings() {
+    for width in 2..=64 {
+        let mut sequence = Sequence::new(9200 + width);
+        for _place in 0..64 {
+            let whole = chosen_whole(&mut sequence);
+            check_said(width, &Whole::from_signed(whole).times_power_of_two(FINEST_SCALE), whole_in(width, whole));
+        }
+    }
 }
 
 /// "Order for words: WIDTH (source, then target), ROOM, STRAY, NAR, OVER, INEXACT."

@@ -6,10 +6,11 @@ use crate::words::reading::negate;
 use crate::words::refusals::{count_of_words, Refusal};
 use crate::words::sequence::Sequence;
 use crate::words::widths::{largest_word, nar_word, smallest_word};
-use crate::writing::answers::{write, Answers};
+use crate::writing::answers::{write, Answer, Answers};
 use crate::writing::around::{beside, itself, midpoint_above, Beside, Pair};
 use crate::writing::nearest::value_of;
 use crate::writing::offers::Offer;
+use crate::writing::sayings::Saying;
 use std::cmp::Ordering;
 
 pub fn check() {
@@ -20,47 +21,75 @@ pub fn check() {
     check_refusals();
 }
 
+/// The word has the value.
 pub fn exactly(word: u64) -> Answers {
-    Answers { rounded: Ok(word), strict: Ok(word) }
+    Answers::alike(Ok(word))
 }
 
-pub fn only_rounded(word: u64) -> Answers {
-    Answers { rounded: Ok(word), strict: Err(Refusal::Inexact) }
+/// No word has the value, and the nearest is below it.
+pub fn below(word: u64) -> Answers {
+    only_rounded(word, Saying::Below)
+}
+
+/// No word has the value, and the nearest is above it.
+pub fn above(word: u64) -> Answers {
+    only_rounded(word, Saying::Above)
+}
+
+/// No word has the value, which is past the end that this word is.
+pub fn past_the_end(word: u64) -> Answers {
+    only_rounded(word, Saying::PastTheEnd)
+}
+
+fn only_rounded(word: u64, saying: Saying) -> Answers {
+    Answers { rounded: Ok(Answer { word, saying }), strict: Err(Refusal::Inexact) }
+}
+
+/// The nearest one of two neighbouring positive words, a and a + 1, to a value between theirs: the one is below it, and
+/// the other above.
+pub fn between(a: u64, word: u64) -> Answers {
+    assert!(word == a || word == a + 1);
+    if word == a {
+        below(word)
+    } else {
+        above(word)
+    }
 }
 
 /// The greatest M that paper 01 has.
 const MOST: u128 = (1 << 64) - 1;
 
-/// Paper 01, "Figures on either side of the edges" and "Errors that look right", as far as they speak of writing.
+/// Paper 01, "Figures on either side of the edges" and "Errors that look right", as far as they speak of writing. What
+/// is said beside the words follows from their values.
 fn check_figures() {
     let figures = [
         (16, (512, 0), exactly(0x5A00)),
-        (16, (513, 0), only_rounded(0x5A00)),
+        (16, (513, 0), below(0x5A00)),
         (16, (514, 0), exactly(0x5A01)),
-        (16, (515, 0), only_rounded(0x5A02)),
+        (16, (515, 0), above(0x5A02)),
         (16, (516, 0), exactly(0x5A02)),
-        (16, (1023, 0), only_rounded(0x5B00)),
+        (16, (1023, 0), above(0x5B00)),
         (16, (1024, 0), exactly(0x5B00)),
         (16, (1, 0), exactly(0x4000)),
         (16, (3, -1), exactly(0x4400)),
-        (16, (1, -300), only_rounded(0x0001)),
+        (16, (1, -300), past_the_end(0x0001)),
         (16, (17, -259), exactly(0x0001)),
-        (16, (1, 300), only_rounded(0x7FFF)),
+        (16, (1, 300), past_the_end(0x7FFF)),
         (16, (31, 250), exactly(0x7FFF)),
         (8, (7, 0), exactly(0x4F)),
         (8, (8, 0), exactly(0x50)),
-        (8, (9, 0), only_rounded(0x50)),
-        (8, (10, 0), only_rounded(0x50)),
+        (8, (9, 0), below(0x50)),
+        (8, (10, 0), below(0x50)),
         (8, (1, 239), exactly(0x7F)),
-        (8, (1, 231), only_rounded(0x7E)),
+        (8, (1, 231), below(0x7E)),
         (8, (1, 223), exactly(0x7E)),
         (8, (1, -239), exactly(0x01)),
         (2, (1, 0), exactly(0b01)),
-        (2, (1, -2000), only_rounded(0b01)),
-        (2, (MOST, 2000), only_rounded(0b01)),
+        (2, (1, -2000), past_the_end(0b01)),
+        (2, (MOST, 2000), past_the_end(0b01)),
     ];
-    for (width, (m, k), expected) in figures {
-        assert!(write(width, &Offer::plus(m, k)) == expected, "{m} * 2^{k} at width {width}");
+    for (width, offer, expected) in figures {
+        check_writing(width, offer, expected);
     }
     // The same value offered with other M and k.
     assert!(write(16, &Offer::plus(1, 9)) == exactly(0x5A00));
@@ -82,27 +111,39 @@ fn check_ends() {
         check_writing(width, itself(&greatest).unwrap(), exactly(largest));
         // Past the ends there is no word with the value. writing/offers.rs cuts some of these exponents.
         for offer in [beside(&least).below, (1, -400), (1, -401), (MOST, -1000), (1, i32::MIN), (MOST, i32::MIN)] {
-            check_writing(width, offer, only_rounded(smallest));
+            check_writing(width, offer, past_the_end(smallest));
         }
         for offer in [beside(&greatest).above, (1, 255), (1, 256), (MOST, 1000), (1, i32::MAX), (MOST, i32::MAX)] {
-            check_writing(width, offer, only_rounded(largest));
+            check_writing(width, offer, past_the_end(largest));
         }
     }
 }
 
 /// Asserts the answers with a plus sign, and their negations with a minus sign.
 pub fn check_writing(width: u32, (m, k): Pair, expected: Answers) {
-    let negated = |answer: Result<u64, Refusal>| answer.and_then(|word| negate(width, word));
+    let negated = |answer: Result<Answer, Refusal>| answer.map(|answer| negated_answer(width, answer));
     let with_minus = Answers { rounded: negated(expected.rounded), strict: negated(expected.strict) };
     assert!(write(width, &Offer::plus(m, k)) == expected, "{m} * 2^{k} at width {width}");
     assert!(write(width, &Offer::minus(m, k)) == with_minus, "-{m} * 2^{k} at width {width}");
 }
 
+/// "Word below the value, word above it (signed)": what is below a value has its negation above the negated value.
+fn negated_answer(width: u32, answer: Answer) -> Answer {
+    let saying = match answer.saying {
+        Saying::Below => Saying::Above,
+        Saying::Above => Saying::Below,
+        Saying::Exact | Saying::PastTheEnd => answer.saying,
+    };
+    Answer { word: negate(width, answer.word).unwrap(), saying }
+}
+
 /// The answers by the paper's own words, with no order of the words used: every nonzero word of the number's sign is
-/// considered, one after the other; the nearest so far is kept, and at a tie the one whose lowest bit is 0.
+/// considered, one after the other; the nearest so far is kept, and at a tie the one whose lowest bit is 0. A number is
+/// past the end where all of these words have less than its size, or all of them more.
 fn answers_over_all_words(width: u32, number: &Whole) -> Answers {
     let mut nearest: Option<(u64, Whole)> = None;
     let mut strict = Err(Refusal::Inexact);
+    let (mut one_is_as_large, mut one_is_as_small) = (false, false);
     for word in 0..count_of_words(width) as u64 {
         if word == 0 || word == nar_word(width).unwrap() {
             continue;
@@ -112,8 +153,10 @@ fn answers_over_all_words(width: u32, number: &Whole) -> Answers {
             continue;
         }
         if value == *number {
-            strict = Ok(word);
+            strict = Ok(Answer::exact(word));
         }
+        one_is_as_large |= value.size() >= number.size();
+        one_is_as_small |= value.size() <= number.size();
         let distance = value.minus(number).size();
         let is_nearer = match &nearest {
             None => true,
@@ -127,7 +170,17 @@ fn answers_over_all_words(width: u32, number: &Whole) -> Answers {
             nearest = Some((word, distance));
         }
     }
-    Answers { rounded: Ok(nearest.unwrap().0), strict }
+    let word = nearest.unwrap().0;
+    let saying = if !one_is_as_large || !one_is_as_small {
+        Saying::PastTheEnd
+    } else if strict.is_ok() {
+        Saying::Exact
+    } else if value_of(width, word).minus(number).is_negative() {
+        Saying::Below
+    } else {
+        Saying::Above
+    };
+    Answers { rounded: Ok(Answer { word, saying }), strict }
 }
 
 /// Holds one writing, with either sign, against the search over all words.
@@ -173,7 +226,7 @@ fn check_draws() {
                 continue;
             }
             let number = Offer::plus(m, k).number();
-            let word = write(width, &Offer::plus(m, k)).rounded.unwrap();
+            let word = write(width, &Offer::plus(m, k)).rounded.unwrap().word;
             let distance_of = |word: u64| value_of(width, word).minus(&number).size();
             for neighbour in [word - 1, word + 1] {
                 if neighbour == 0 || neighbour == nar_word(width).unwrap() {

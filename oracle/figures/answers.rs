@@ -8,6 +8,7 @@ use crate::words::widths::exact_count_limit;
 use crate::writing::answers::{write, Answers};
 use crate::writing::moving::move_word;
 use crate::writing::offers::Offer;
+use crate::writing::sayings::Saying;
 use std::str::FromStr;
 
 /// A question with its answer: "Each refusal is ` is refused R`, R being its number in paper 01's table."
@@ -44,14 +45,23 @@ fn answer_of(question: &str) -> Result<String, Refusal> {
     }
 }
 
-/// "` gives ` and the word", by the rule named.
+/// "` gives ` and the word with its saying", by the rule named: "the word, a comma, a space, and" the saying.
 fn word_by_rule(answers: Answers, rule: &str) -> Result<String, Refusal> {
-    let word = match rule {
-        "rounded" => answers.rounded,
-        "strict" => answers.strict,
+    let answer = match rule {
+        "rounded" => answers.rounded?,
+        "strict" => answers.strict?,
         _ => panic!("not a rule: {rule}"),
     };
-    Ok(format!(" gives {:x}", word?))
+    Ok(format!(" gives {:x}, {}", answer.word, saying_text(answer.saying)))
+}
+
+fn saying_text(saying: Saying) -> &'static str {
+    match saying {
+        Saying::Exact => "exact",
+        Saying::Below => "below",
+        Saying::Above => "above",
+        Saying::PastTheEnd => "past the end",
+    }
 }
 
 /// "A value is said as `M * 2^K` with M odd and its sign before it, `nar` if it is NaR and `0` if it is zero." No sign
@@ -69,14 +79,14 @@ fn value_text(kind: Kind) -> String {
     }
 }
 
-/// The value offered in a question: M with its sign, and 2^K.
+/// The value offered in a question: M with its sign, and 2^K. Zero is offered as `0 * 2^0`, with either sign.
 fn offer(m: &str, power: &str) -> Offer {
     let (minus, m) = match m.strip_prefix('-') {
         Some(m) => (true, decimal(m)),
         None => (false, decimal(m)),
     };
-    assert!(m % 2 == 1, "a value is said with M odd");
     let k = decimal(power.strip_prefix("2^").expect("a power of two is said as 2^K"));
+    assert!(m % 2 == 1 || (m == 0 && k == 0), "a value is said with M odd");
     Offer { minus, m, k }
 }
 

@@ -68,7 +68,8 @@ fn meaning(pattern: u64) -> Meaning {
 // In
 // ---------------------------------------------------------------------------------------------------------------------
 
-/// "NaN and both infinities give NaR, both zeros give zero, every other number is written rounded or strict."
+/// "NaN and both infinities give NaR, both zeros give zero, every other number is written rounded or strict." "NaR and
+/// zero are exact" (paper 02, Wish 4), whichever pattern gives them.
 pub fn binary64_in(width: u32, pattern: u64) -> Answers {
     if let Err(refusal) = make_width(width) {
         return Answers::alike(Err(refusal));
@@ -105,7 +106,7 @@ pub fn binary64_out(width: u32, word: u64) -> Result<Binary64, Refusal> {
 }
 
 /// Every finite binary64 number is a whole multiple of 2^-1074. So beside them numbers are held times 2^1074.
-const FINEST_SCALE: i64 = 1074;
+pub const FINEST_SCALE: i64 = 1074;
 
 /// A value times 2^1074, from the same value times 2^400.
 pub fn finest(number: &Whole) -> Whole {

@@ -71,20 +71,20 @@ pub fn rack_sheet() -> Vec<u8> {
 
 /// The words of whole numbers, rounded.
 fn words_of_wholes(width: u32, wholes: &[i64]) -> Vec<u64> {
-    wholes.iter().map(|&whole| whole_in(width, whole).rounded.unwrap()).collect()
+    wholes.iter().map(|&whole| whole_in(width, whole).rounded.unwrap().word).collect()
 }
 
 /// The words of whole numbers that all have one.
 fn strict_words_of_wholes(width: u32, wholes: &[i64]) -> Vec<u64> {
-    wholes.iter().map(|&whole| whole_in(width, whole).strict.expect("the number has a word")).collect()
+    wholes.iter().map(|&whole| whole_in(width, whole).strict.expect("the number has a word").word).collect()
 }
 
 /// The word of M * 2^k, rounded.
 fn plus(width: u32, m: u128, k: i32) -> u64 {
-    write(width, &Offer::plus(m, k)).rounded.unwrap()
+    write(width, &Offer::plus(m, k)).rounded.unwrap().word
 }
 
 /// The word of -M * 2^k, rounded.
 fn minus(width: u32, m: u128, k: i32) -> u64 {
-    write(width, &Offer::minus(m, k)).rounded.unwrap()
+    write(width, &Offer::minus(m, k)).rounded.unwrap().word
 }

@@ -71,12 +71,12 @@ const COUNT_OF_KINDS: usize = WHOLES.len() + 4;
 /// The word of each whole number above, rounded; then NaR, both ends of the width, and -0.5, which goes out as 0.
 fn word_of_kind(width: u32, kind: usize) -> u64 {
     if kind < WHOLES.len() {
-        return whole_in(width, WHOLES[kind]).rounded.unwrap();
+        return whole_in(width, WHOLES[kind]).rounded.unwrap().word;
     }
     match kind - WHOLES.len() {
         0 => nar_word(width).unwrap(),
         1 => largest_word(width).unwrap(),
         2 => nar_word(width).unwrap() + 1,
-        _ => write(width, &Offer::minus(1, -1)).strict.unwrap(),
+        _ => write(width, &Offer::minus(1, -1)).strict.unwrap().word,
     }
 }

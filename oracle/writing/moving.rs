@@ -6,7 +6,7 @@ use crate::words::widths::nar_word;
 use crate::writing::answers::{write_number, Answers};
 use crate::writing::offers::fine;
 
-/// "A move from width a to width b reads at a and writes at b, rounded or strict. NaR gives NaR."
+/// "A move from width a to width b reads at a and writes at b, rounded or strict. NaR gives NaR", and is exact.
 pub fn move_word(from: u32, to: u32, word: u64) -> Answers {
     match value_to_move(from, to, word) {
         Err(refusal) => Answers::alike(Err(refusal)),

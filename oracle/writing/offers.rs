@@ -52,13 +52,15 @@ pub fn size_of(m: u128, k: i32) -> Whole {
 }
 
 /// The exponent k, brought to -400 if it is below that and to 255 if it is above. This keeps M = 0 zero, and otherwise
-/// it changes neither the nearest word nor whether a word has the value. Definition 2 puts the size of every nonzero
-/// word above 2^-255 and below 2^255.
+/// it changes neither the nearest word nor whether a word has the value nor what is said beside the word. Definition 2
+/// puts the size of every nonzero word above 2^-255 and below 2^255.
 ///
 /// - k below -400: as M is below 2^128, M * 2^k and M * 2^-400 both are below 2^-272, so below the size of every nonzero
-///   word. To both the nearest word of their sign is the one of least size, and no word has either value.
+///   word. To both the nearest word of their sign is the one of least size, and no word has either value: both are
+///   past the end.
 /// - k above 255: as M is at least 1, M * 2^k and M * 2^255 both are at least 2^255, so above the size of every word.
-///   To both the nearest word of their sign is the one of greatest size, and no word has either value.
+///   To both the nearest word of their sign is the one of greatest size, and no word has either value: both are
+///   past the end.
 fn cut_exponent(k: i32) -> i32 {
     k.clamp(-(FINE_SCALE as i32), 255)
 }

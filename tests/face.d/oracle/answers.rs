@@ -3,6 +3,8 @@ use crate::numbers::binary64::Binary64;
 use crate::sheets::columns::ColumnRefusal;
 use crate::words::reading::{Kind, Reading};
 use crate::words::refusals::Refusal;
+use crate::writing::answers::Answer;
+use crate::writing::sayings::Saying;
 
 /// The text of a refusal: paper 01's number and name.
 pub fn refused(refusal: Refusal) -> String {
@@ -25,8 +27,23 @@ pub fn text<T>(answer: Result<T, Refusal>, text_of: impl FnOnce(T) -> String) ->
     }
 }
 
+/// The text of a word that was neither written nor moved.
 pub fn word(answer: Result<u64, Refusal>) -> String {
     text(answer, |word| format!("word {word:#x}"))
+}
+
+/// The text of a word that was written or moved: it is followed by its saying.
+pub fn word_said(answer: Result<Answer, Refusal>) -> String {
+    text(answer, |answer| format!("{} {}", word(Ok(answer.word)), saying(answer.saying)))
+}
+
+fn saying(saying: Saying) -> &'static str {
+    match saying {
+        Saying::Exact => "exact",
+        Saying::Below => "below",
+        Saying::Above => "above",
+        Saying::PastTheEnd => "past_the_end",
+    }
 }
 
 pub fn sign(minus: bool) -> &'static str {

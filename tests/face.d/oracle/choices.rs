@@ -5,9 +5,10 @@ use crate::numbers::whole::whole_in;
 use crate::words::refusals::{make_width, BAD_WIDTHS};
 use crate::words::sequence::{low_bits, Sequence};
 use crate::words::widths::{exact_count_limit, largest_word, nar_word};
-use crate::writing::answers::write;
-use crate::writing::around::{beside, itself, midpoint_above};
-use crate::writing::offers::Offer;
+use crate::writing::answers::{write, write_number};
+use crate::writing::around::{beside, itself, midpoint_above, Pair};
+use crate::writing::nearest::value_of;
+use crate::writing::offers::{Offer, FINE_SCALE};
 
 pub struct Choices(Sequence);
 
@@ -61,7 +62,7 @@ impl Choices {
             }
             2..=5 => {
                 let whole = self.whole();
-                whole_in(width, whole).rounded.unwrap()
+                whole_in(width, whole).rounded.unwrap().word
             }
             6..=9 => {
                 let narrow = 2 + self.below(u64::from(width) - 1) as u32;
@@ -79,8 +80,46 @@ impl Choices {
         // Up to the limit every whole number has a word, and half of one has a word too (not so at the narrowest widths, where it is rounded).
         let odd = u128::from(self.number() >> self.below(64)) % u128::from(limit) | 1;
         let offer = Offer { minus: self.once_in(2), m: odd, k: -1 };
-        let word = write(width, &offer).rounded.unwrap();
+        let word = write(width, &offer).rounded.unwrap().word;
         low_bits(word.wrapping_add(self.one_of(&[0, 0, 1, u64::MAX])), width)
+    }
+
+    /// A word to move that has the value of a word of the target width, mostly of an end, or lies halfway between two of them, of either sign, or one
+    /// beside it: the words drawn above hardly ever do. At a bad width any number.
+    pub fn edge_to_move(&mut self, from: u32, to: u32) -> u64 {
+        if make_width(from).is_err() || make_width(to).is_err() {
+            return self.number();
+        }
+        let size = if self.once_in(3) { self.midpoint(to) } else { self.value(to) };
+        let number = if self.once_in(2) { size } else { size.negated() };
+        let word = write_number(from, &number).rounded.unwrap().word;
+        low_bits(word.wrapping_add(self.one_of(&[0, 1, u64::MAX])), from)
+    }
+
+    /// A width whose largest word is 1, 2^15 or 2^63, and a whole number at that end or beside it, of either sign. The other widths end past all
+    /// whole numbers.
+    pub fn whole_at_end(&mut self) -> (u32, i64) {
+        let (width, end) = self.one_of(&[(2, 1), (3, 1 << 15), (4, i64::MIN)]);
+        let end = if self.once_in(2) { end } else { end.wrapping_neg() };
+        (width, end.wrapping_add(self.below(5) as i64 - 2))
+    }
+
+    /// A whole number halfway between two words of a width, of either sign; where the midpoint chosen isn't whole or is too large, another one. At a
+    /// bad width any.
+    pub fn whole_halfway(&mut self, width: u32) -> i64 {
+        let whole = self.whole();
+        let Ok(near) = whole_in(width, whole.saturating_abs().max(1)).rounded else {
+            return whole;
+        };
+        if near.word == largest_word(width).unwrap() {
+            return whole;
+        }
+        let halfway = midpoint_above(width, near.word).cut_by_power_of_two(FINE_SCALE).to_signed().unwrap_or(whole);
+        if self.once_in(2) {
+            halfway
+        } else {
+            halfway.wrapping_neg()
+        }
     }
 
     /// A whole number of any length; seldom one at an edge.
@@ -100,22 +139,38 @@ impl Choices {
         midpoint_above(width, a)
     }
 
+    /// The value of a positive word, held times 2^400; mostly that of an end word.
+    fn value(&mut self, width: u32) -> Whole {
+        let largest = largest_word(width).unwrap();
+        let word = if self.once_in(4) { 1 + self.below(largest) } else { self.one_of(&[1, largest]) };
+        value_of(width, word)
+    }
+
+    /// A size as an offer, if it is one, or one of the offers beside it.
+    fn on_or_beside(&mut self, size: &Whole) -> Pair {
+        match self.below(3) {
+            0 => itself(size).unwrap_or_else(|| beside(size).below),
+            1 => beside(size).below,
+            _ => beside(size).above,
+        }
+    }
+
     /// A significand of any length.
     fn significand(&mut self) -> u128 {
         u128::from(self.number() >> self.below(64))
     }
 
-    /// A value to write: any, one on or beside a midpoint between two words, or one with any exponent.
+    /// A value to write: any, one on or beside a midpoint between two words or the value of one, or one with any exponent.
     pub fn offer(&mut self, width: u32) -> Offer {
         let minus = self.once_in(2);
-        let (m, k) = match self.below(8) {
+        let (m, k) = match self.below(10) {
             0 | 1 if make_width(width).is_ok() => {
                 let midpoint = self.midpoint(width);
-                match self.below(3) {
-                    0 => itself(&midpoint).unwrap_or_else(|| beside(&midpoint).below),
-                    1 => beside(&midpoint).below,
-                    _ => beside(&midpoint).above,
-                }
+                self.on_or_beside(&midpoint)
+            }
+            4 | 5 if make_width(width).is_ok() => {
+                let value = self.value(width);
+                self.on_or_beside(&value)
             }
             2 => (self.significand(), self.number() as i32 >> self.below(32)),
             3 => (u128::from(self.one_of(&[0, 1, u64::MAX, 1 << 63])), self.one_of(&[i32::MIN, -308, -307, -255, 0, 191, 254, 255, i32::MAX])),
@@ -124,15 +179,20 @@ impl Choices {
         Offer { minus, m, k }
     }
 
-    /// The pattern of a binary64 number: any, one in the range of words, one on or beside a midpoint between two words, or a special one.
+    /// The pattern of a binary64 number: any, one in the range of words, one on or beside a midpoint between two words or the value of one, or a
+    /// special one.
     pub fn pattern(&mut self, width: u32) -> u64 {
         let minus = self.once_in(2);
-        let size = match self.below(8) {
+        let size = match self.below(10) {
             0 => self.number() >> 1,
             1 => self.one_of(&[0, 1, (1 << 52) - 1, 1 << 52, INFINITY - 1, INFINITY, INFINITY + 1, NAN]),
             2..=4 if make_width(width).is_ok() => {
                 let midpoint = self.midpoint(width);
                 nearest_pattern(&finest(&midpoint)) - 1 + self.below(3)
+            }
+            5 | 6 if make_width(width).is_ok() => {
+                let value = self.value(width);
+                nearest_pattern(&finest(&value)) - 1 + self.below(3)
             }
             _ => ((1023 - 260 + self.below(520)) << 52) + ((self.number() >> 12) & u64::MAX << self.below(53)),
         };

@@ -1,5 +1,5 @@
 //! One pseudo-random case: the call, what it is given, and what the independent program answers.
-use crate::answers::{binary64, reading, sign, text, word};
+use crate::answers::{binary64, reading, sign, text, word, word_said};
 use crate::choices::Choices;
 use crate::lent::{column, sheet_block};
 use crate::numbers::binary64::{binary64_in, binary64_out};
@@ -31,9 +31,9 @@ pub fn case(choices: &mut Choices) -> String {
 /// The rule's name, and the answer by it.
 fn by_rule(choices: &mut Choices, answers: Answers) -> (&'static str, String) {
     if choices.once_in(2) {
-        ("strict", word(answers.strict))
+        ("strict", word_said(answers.strict))
     } else {
-        ("rounded", word(answers.rounded))
+        ("rounded", word_said(answers.rounded))
     }
 }
 
@@ -75,13 +75,18 @@ fn of_writing(choices: &mut Choices) -> String {
 
 fn of_moving(choices: &mut Choices) -> String {
     let (from, to) = (choices.width(), choices.width());
-    let x = choices.word(from);
+    let x = if choices.once_in(2) { choices.edge_to_move(from, to) } else { choices.word(from) };
     let (rule, answer) = by_rule(choices, move_word(from, to, x));
     format!("move {from} {to} {rule} {x:#x} = {answer}")
 }
 
 fn of_whole_in(choices: &mut Choices) -> String {
-    let (n, whole) = (choices.width(), choices.whole());
+    let n = choices.width();
+    let (n, whole) = match choices.below(6) {
+        0 => choices.whole_at_end(),
+        1 => (n, choices.whole_halfway(n)),
+        _ => (n, choices.whole()),
+    };
     let (rule, answer) = by_rule(choices, whole_in(n, whole));
     format!("write_whole {n} {rule} {whole} = {answer}")
 }

@@ -2,8 +2,9 @@
 use crate::answers::{column_refused, row, text};
 use crate::choices::Choices;
 use crate::sheets::blocks::{end_of_words, good_block, read_block, room_of, seal, store, BLOCK_SIZE, BLOCK_WIDTHS};
-use crate::sheets::columns::{move_column, Rule};
+use crate::sheets::columns::{move_column, Moved, Rule};
 use crate::words::refusals::make_width;
+use crate::words::widths::nar_word;
 
 /// How much room the results have for `count` words: seldom too little.
 fn room_for(choices: &mut Choices, count: usize) -> usize {
@@ -17,24 +18,31 @@ fn room_for(choices: &mut Choices, count: usize) -> usize {
 pub fn column(choices: &mut Choices) -> String {
     let (from, to) = (choices.width(), choices.width());
     let length = choices.below(9) as usize;
-    let words: Vec<u64> = (0..length).map(|_| word_to_move(choices, from, to)).collect();
+    let is_loose = choices.once_in(3);
+    let words: Vec<u64> = (0..length).map(|_| word_to_move(choices, from, to, is_loose)).collect();
     let (name, rule) = if choices.once_in(2) { ("strict", Rule::Strict) } else { ("rounded", Rule::Rounded) };
     let room = room_for(choices, length);
     let mut results = vec![0; room];
     let answer = match move_column(from, to, rule, &words, &mut results) {
-        Ok(moved) => format!("moved {moved} {}", row(&results[..moved])),
+        Ok(Moved { count, exact }) => format!("moved {count} exact {exact} {}", row(&results[..count])),
         Err(refusal) => column_refused(refusal),
     };
     format!("move_column {from} {to} {name} {} room {room} = {answer}", row(&words))
 }
 
-/// Mostly a word whose value both widths have, so that a strict move goes on to the next.
-fn word_to_move(choices: &mut Choices, from: u32, to: u32) -> u64 {
-    if make_width(from).is_err() || make_width(to).is_err() || choices.once_in(8) {
+/// Mostly a word whose value both widths have, so that a strict move goes on to the next; in a loose column mostly any word, so that a rounded move
+/// has few that are exact. NaR and zero are among both.
+fn word_to_move(choices: &mut Choices, from: u32, to: u32, is_loose: bool) -> u64 {
+    if make_width(from).is_err() || make_width(to).is_err() || choices.once_in(12) {
         return choices.word(from);
     }
     let narrow = from.min(to);
-    (choices.number() >> (64 - narrow)) << (from - narrow)
+    match choices.below(10) {
+        0 => choices.one_of(&[0, nar_word(from).unwrap()]),
+        1 if is_loose => choices.edge_to_move(from, to),
+        _ if is_loose => choices.number() >> (64 - from),
+        _ => (choices.number() >> (64 - narrow)) << (from - narrow),
+    }
 }
 
 /// How many words a block has: mostly a few, never more than there is room for.

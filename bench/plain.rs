@@ -142,6 +142,7 @@ fn nearest(n: u32, negative: bool, h: i64, m: u64) -> Written {
     let fraction = m << 1;
     let low = (start << kept) + (fraction >> 1 >> (63 - kept));
     let cut = fraction << kept;
+    // One test for both ends: the string 0, or that of the largest word.
     if low.wrapping_sub(1) >= last - 1 {
         return at_end(low, cut);
     }

@@ -8,7 +8,7 @@ use crate::values::{self, Block, Offer, COUNT};
 
 pub fn agree_everywhere(offers: &[Offer], words: &[u64], wholes: &[i64], floats: &[f64]) {
     for (n, strict) in (0..=66).flat_map(|n| [(n, false), (n, true)]) {
-        agree_on_writes(WRITE, n, strict, offers);
+        agree_on_writes(WRITE, n, strict, offers.iter().step_by(16).chain(&values::end_offers(n)));
         for to in 0..=66 {
             agree_on_moves(MOVE, n, to, strict, words);
         }
@@ -27,8 +27,8 @@ fn perhaps_stray(n: u32, word: u64) -> u64 {
     word & (u64::MAX >> (63 - n.min(63)))
 }
 
-fn agree_on_writes(calls: [Write; 3], n: u32, strict: bool, offers: &[Offer]) {
-    for o in offers.iter().step_by(16) {
+fn agree_on_writes<'a>(calls: [Write; 3], n: u32, strict: bool, offers: impl Iterator<Item = &'a Offer>) {
+    for o in offers {
         let [ours, theirs] = [0, 1].map(|i| unsafe { calls[i](n, strict as u32, o.negative, o.m, o.k) }.parts());
         if ours != theirs {
             differ(&format!("writing at {}, strict {}: negative {}, m {:x}, k {}", n, strict, o.negative, o.m, o.k), ours, theirs);

@@ -1,11 +1,11 @@
 // The calls of the three sides: the library, the plain version and an empty call, which tells what the loop and the call cost by themselves.
 // All are called through a pointer, so none is inlined into the loop.
-use crate::handed::{HandedBlock, HandedColumn, HandedNumber, HandedReading, HandedWhole, HandedWord, HandedWriting};
+use crate::handed::{HandedBlock, HandedColumn, HandedNumber, HandedReading, HandedSaying, HandedWhole, HandedWriting};
 use crate::plain;
 use std::slice::{from_raw_parts, from_raw_parts_mut};
 
-pub type Write = unsafe extern "C" fn(u32, u32, bool, u64, i32) -> HandedWord;
-pub type Move = unsafe extern "C" fn(u32, u32, u32, u64) -> HandedWord;
+pub type Write = unsafe extern "C" fn(u32, u32, bool, u64, i32) -> HandedSaying;
+pub type Move = unsafe extern "C" fn(u32, u32, u32, u64) -> HandedSaying;
 // Something of one width in, or a word of it out: by a rule, or where there is none.
 pub type ByRule<T, R> = unsafe extern "C" fn(u32, u32, T) -> R;
 pub type Outright<T, R> = unsafe extern "C" fn(u32, T) -> R;
@@ -17,11 +17,11 @@ pub type WriteBlock = unsafe extern "C" fn(u32, u32, *const u64, usize, *mut u8,
 // crates/ledusprig
 extern "C" {
     fn takum_read(n: u32, word: u64) -> HandedReading;
-    fn takum_write(n: u32, rule: u32, negative: bool, m: u64, k: i32) -> HandedWord;
-    fn takum_move(from: u32, to: u32, rule: u32, word: u64) -> HandedWord;
-    fn takum_write_whole(n: u32, rule: u32, x: i64) -> HandedWord;
+    fn takum_write(n: u32, rule: u32, negative: bool, m: u64, k: i32) -> HandedSaying;
+    fn takum_move(from: u32, to: u32, rule: u32, word: u64) -> HandedSaying;
+    fn takum_write_whole(n: u32, rule: u32, x: i64) -> HandedSaying;
     fn takum_take_whole(n: u32, taking: u32, word: u64) -> HandedWhole;
-    fn takum_write_binary64(n: u32, rule: u32, x: f64) -> HandedWord;
+    fn takum_write_binary64(n: u32, rule: u32, x: f64) -> HandedSaying;
     fn takum_take_binary64(n: u32, word: u64) -> HandedNumber;
     fn takum_move_column(from: u32, to: u32, rule: u32, words: *const u64, count: usize, results: *mut u64, room: usize) -> HandedColumn;
     fn takum_read_block(block: *const u8, size: usize, results: *mut u64, room: usize) -> HandedBlock;
@@ -31,9 +31,9 @@ extern "C" {
 pub const READ: [Outright<u64, HandedReading>; 3] = [takum_read, plain_read, empty_read];
 pub const WRITE: [Write; 3] = [takum_write, plain_write, empty_write];
 pub const MOVE: [Move; 3] = [takum_move, plain_move, empty_move];
-pub const WRITE_WHOLE: [ByRule<i64, HandedWord>; 3] = [takum_write_whole, plain_write_whole, empty_write_whole];
+pub const WRITE_WHOLE: [ByRule<i64, HandedSaying>; 3] = [takum_write_whole, plain_write_whole, empty_write_whole];
 pub const TAKE_WHOLE: [ByRule<u64, HandedWhole>; 3] = [takum_take_whole, plain_take_whole, empty_take_whole];
-pub const WRITE_BINARY64: [ByRule<f64, HandedWord>; 3] = [takum_write_binary64, plain_write_binary64, empty_write_binary64];
+pub const WRITE_BINARY64: [ByRule<f64, HandedSaying>; 3] = [takum_write_binary64, plain_write_binary64, empty_write_binary64];
 pub const TAKE_BINARY64: [Outright<u64, HandedNumber>; 3] = [takum_take_binary64, plain_take_binary64, empty_take_binary64];
 pub const MOVE_COLUMN: [MoveColumn; 3] = [takum_move_column, plain_move_column, empty_move_column];
 pub const READ_BLOCK: [ReadBlock; 3] = [takum_read_block, plain_read_block, empty_read_block];
@@ -43,15 +43,15 @@ extern "C" fn plain_read(n: u32, word: u64) -> HandedReading {
     plain::reading::read_word(n, word).into()
 }
 
-extern "C" fn plain_write(n: u32, rule: u32, negative: bool, m: u64, k: i32) -> HandedWord {
+extern "C" fn plain_write(n: u32, rule: u32, negative: bool, m: u64, k: i32) -> HandedSaying {
     plain::write(n, rule != 0, negative, m, k).into()
 }
 
-extern "C" fn plain_move(from: u32, to: u32, rule: u32, word: u64) -> HandedWord {
+extern "C" fn plain_move(from: u32, to: u32, rule: u32, word: u64) -> HandedSaying {
     plain::move_word(from, to, rule != 0, word).into()
 }
 
-extern "C" fn plain_write_whole(n: u32, rule: u32, x: i64) -> HandedWord {
+extern "C" fn plain_write_whole(n: u32, rule: u32, x: i64) -> HandedSaying {
     plain::whole::write_whole(n, rule != 0, x).into()
 }
 
@@ -59,7 +59,7 @@ extern "C" fn plain_take_whole(n: u32, rule: u32, word: u64) -> HandedWhole {
     plain::whole::take_whole(n, rule != 0, word).into()
 }
 
-extern "C" fn plain_write_binary64(n: u32, rule: u32, x: f64) -> HandedWord {
+extern "C" fn plain_write_binary64(n: u32, rule: u32, x: f64) -> HandedSaying {
     plain::binary64::write_binary64(n, rule != 0, x).into()
 }
 
@@ -83,24 +83,24 @@ extern "C" fn empty_read(_n: u32, word: u64) -> HandedReading {
     HandedReading { refusal: 0, kind: 2, negative: false, h: 0, m: word, p: 0, own: 0 }
 }
 
-extern "C" fn empty_write(_n: u32, _rule: u32, _negative: bool, m: u64, _k: i32) -> HandedWord {
-    HandedWord { refusal: 0, word: m }
+extern "C" fn empty_write(_n: u32, _rule: u32, _negative: bool, m: u64, _k: i32) -> HandedSaying {
+    HandedSaying { refusal: 0, saying: 0, word: m }
 }
 
-extern "C" fn empty_move(_from: u32, _to: u32, _rule: u32, word: u64) -> HandedWord {
-    HandedWord { refusal: 0, word }
+extern "C" fn empty_move(_from: u32, _to: u32, _rule: u32, word: u64) -> HandedSaying {
+    HandedSaying { refusal: 0, saying: 0, word }
 }
 
-extern "C" fn empty_write_whole(_n: u32, _rule: u32, x: i64) -> HandedWord {
-    HandedWord { refusal: 0, word: x as u64 }
+extern "C" fn empty_write_whole(_n: u32, _rule: u32, x: i64) -> HandedSaying {
+    HandedSaying { refusal: 0, saying: 0, word: x as u64 }
 }
 
 extern "C" fn empty_take_whole(_n: u32, _rule: u32, word: u64) -> HandedWhole {
     HandedWhole { refusal: 0, whole: word as i64 }
 }
 
-extern "C" fn empty_write_binary64(_n: u32, _rule: u32, x: f64) -> HandedWord {
-    HandedWord { refusal: 0, word: x.to_bits() }
+extern "C" fn empty_write_binary64(_n: u32, _rule: u32, x: f64) -> HandedSaying {
+    HandedSaying { refusal: 0, saying: 0, word: x.to_bits() }
 }
 
 extern "C" fn empty_take_binary64(_n: u32, word: u64) -> HandedNumber {
@@ -108,7 +108,7 @@ extern "C" fn empty_take_binary64(_n: u32, word: u64) -> HandedNumber {
 }
 
 extern "C" fn empty_move_column(_from: u32, _to: u32, _rule: u32, _words: *const u64, count: usize, _results: *mut u64, _room: usize) -> HandedColumn {
-    HandedColumn { refusal: 0, position: 0, moved: count }
+    HandedColumn { refusal: 0, position: 0, moved: count, exact: 0 }
 }
 
 extern "C" fn empty_read_block(_block: *const u8, _size: usize, _results: *mut u64, _room: usize) -> HandedBlock {

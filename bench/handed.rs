@@ -1,11 +1,14 @@
 // What both sides hand over: the structs of crates/ledusprig/src/handed.rt, and the plain version's answers as such.
 use crate::plain::block::Header;
+use crate::plain::column::Moved;
 use crate::plain::reading::{Kind, Reading};
+use crate::plain::Written;
 
 #[repr(C)]
 #[derive(Clone, Copy)]
-pub struct HandedWord {
+pub struct HandedSaying {
     pub refusal: u32,
+    pub saying: u32,
     pub word: u64,
 }
 
@@ -42,6 +45,7 @@ pub struct HandedColumn {
     pub refusal: u32,
     pub position: usize,
     pub moved: usize,
+    pub exact: usize,
 }
 
 #[repr(C)]
@@ -60,12 +64,12 @@ pub struct HandedWriting {
     pub position: usize,
 }
 
-impl From<Result<u64, u32>> for HandedWord {
+impl From<Result<Written, u32>> for HandedSaying {
     #[inline(always)]
-    fn from(answer: Result<u64, u32>) -> Self {
+    fn from(answer: Result<Written, u32>) -> Self {
         match answer {
-            Ok(word) => HandedWord { refusal: 0, word },
-            Err(refusal) => HandedWord { refusal, word: 0 },
+            Ok(Written { word, saying }) => HandedSaying { refusal: 0, saying, word },
+            Err(refusal) => HandedSaying { refusal, saying: 0, word: 0 },
         }
     }
 }
@@ -104,12 +108,12 @@ impl From<Result<Option<f64>, u32>> for HandedNumber {
     }
 }
 
-impl From<Result<usize, (u32, Option<usize>)>> for HandedColumn {
+impl From<Result<Moved, (u32, Option<usize>)>> for HandedColumn {
     #[inline(always)]
-    fn from(answer: Result<usize, (u32, Option<usize>)>) -> Self {
+    fn from(answer: Result<Moved, (u32, Option<usize>)>) -> Self {
         match answer {
-            Ok(moved) => HandedColumn { refusal: 0, position: 0, moved },
-            Err((refusal, position)) => HandedColumn { refusal, position: position.unwrap_or(0), moved: 0 },
+            Ok(Moved { moved, exact }) => HandedColumn { refusal: 0, position: 0, moved, exact },
+            Err((refusal, position)) => HandedColumn { refusal, position: position.unwrap_or(0), moved: 0, exact: 0 },
         }
     }
 }
@@ -167,10 +171,10 @@ impl Parts for f64 {
     }
 }
 
-impl Parts for HandedWord {
+impl Parts for HandedSaying {
     #[inline(always)]
     fn parts(self) -> [u64; 4] {
-        [self.refusal as u64, self.word, 0, 0]
+        [self.refusal as u64, self.word, self.saying as u64, 0]
     }
 }
 
@@ -206,7 +210,7 @@ impl Parts for HandedNumber {
 impl Parts for HandedColumn {
     #[inline(always)]
     fn parts(self) -> [u64; 4] {
-        [self.refusal as u64, self.position as u64, self.moved as u64, 0]
+        [self.refusal as u64, self.position as u64, self.moved as u64, self.exact as u64]
     }
 }
 

@@ -67,13 +67,18 @@ pub fn floats() -> Vec<f64> {
         .collect()
 }
 
+// The word nearest to plus or minus m * 2^k.
+fn word_of(n: u32, negative: bool, m: u64, k: i32) -> u64 {
+    plain::write(n, false, negative, m, k).unwrap().word
+}
+
 // Words of values from 2^-3 up to 2^65 and both signs: most have a whole number in 64 bits.
 pub fn words_of_wholes(n: u32) -> Vec<u64> {
     let mut next = numbers(3);
     (0..COUNT)
         .map(|_| {
             let h = (next() % 68) as i32 - 3;
-            plain::write(n, false, next() % 2 == 1, next() | 1 << 63, h - 63).unwrap()
+            word_of(n, next() % 2 == 1, next() | 1 << 63, h - 63)
         })
         .collect()
 }
@@ -126,10 +131,20 @@ pub fn edge_words(n: u32) -> Vec<u64> {
     let nar = 1 << (n - 1);
     words.extend([all, nar, nar - 1, (nar + 1) & all]);
     for negative in [false, true] {
-        let word = plain::write(n, false, negative, 1, 63).unwrap();
+        let word = word_of(n, negative, 1, 63);
         words.extend([word, word.wrapping_sub(1) & all, (word + 1) & all]);
     }
     words
+}
+
+// The sizes of the smallest and of the largest word, and those just inside and outside of them, of either sign: there another saying begins.
+pub fn end_offers(n: u32) -> Vec<Offer> {
+    if !(2..=64).contains(&n) {
+        return vec![];
+    }
+    let sizes = [1, (1u64 << (n - 1)) - 1].map(|word| plain::read_positive(word << (64 - n)));
+    let offers = sizes.into_iter().flat_map(|(h, m)| [m - 1, m, m + 1].map(|m| (m, h - 63)));
+    offers.flat_map(|(m, k)| [false, true].map(|negative| Offer { negative, m, k })).collect()
 }
 
 // The words at which another regime begins, of either sign, and those beside them.
@@ -150,6 +165,6 @@ pub fn half_words(n: u32) -> Vec<u64> {
     }
     let all = u64::MAX >> (64 - n);
     let wholes = (0..64).chain((6..=55).flat_map(|k| (1u64 << k) - 2..(1 << k) + 2));
-    let halves = wholes.flat_map(|i| [false, true].map(|negative| plain::write(n, false, negative, 2 * i + 1, -1).unwrap()));
+    let halves = wholes.flat_map(|i| [false, true].map(|negative| word_of(n, negative, 2 * i + 1, -1)));
     halves.flat_map(|word| [word.wrapping_sub(1) & all, word, word.wrapping_add(1) & all]).collect()
 }

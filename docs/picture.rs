@@ -175,7 +175,7 @@ fn draw_arrow(y: f64) -> Result<(), Refusal> {
 
 // The whole number that the tally is rounded to.
 fn written(width: Width) -> Result<i64, Refusal> {
-    width.write_whole(Rule::Rounded, TALLY)?.take_whole(Taking::Strict)
+    width.write_whole(Rule::Rounded, TALLY)?.word.take_whole(Taking::Strict)
 }
 
 fn fate(width: Width) -> Result<String, Refusal> {

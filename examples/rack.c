@@ -65,26 +65,35 @@ static bool next_line(FILE *from, char line[LINE_ROOM]) {
     return !ferror(from);
 }
 
+/* Which way a length goes that has no word. */
+static const char *way_of(uint32_t saying) {
+    return saying == TAKUM_ABOVE ? "up" : saying == TAKUM_BELOW ? "down" : "past the end";
+}
+
 /* The word of a line; false, and said why, where it has none. */
 static bool has_word(const char *line, size_t line_number, uint32_t width, uint64_t *word) {
-    int64_t length = 0;
-    bool is_void = strcmp(line, "void") == 0;
-    if (!is_void && !is_whole(line, &length)) {
+    int64_t length;
+    if (strcmp(line, "void") == 0) {
+        takum_word_answer nar = takum_nar(width);
+        *word = nar.word;
+        return nar.refusal == TAKUM_OK; /* always so: the width was tried */
+    }
+    if (!is_whole(line, &length)) {
         fprintf(stderr, "rack: line %zu is not written: '%s' is no whole number of millimetres in 64 bits, as 10431, and not void\n", line_number,
                 line);
         return false;
     }
-    takum_word_answer got = is_void ? takum_nar(width) : takum_write_whole(width, TAKUM_STRICT, length);
+    takum_saying_answer got = takum_write_whole(width, TAKUM_STRICT, length);
     *word = got.word;
     if (got.refusal == TAKUM_OK) {
         return true;
     }
     fprintf(stderr, "rack: line %zu is not written: %" PRId64 " is refused with %" PRIu32 " (%s) at %" PRIu32 " bits", line_number, length,
             got.refusal, takum_refusal_name(got.refusal), width);
-    takum_word_answer rounded = takum_write_whole(width, TAKUM_ROUNDED, length);
+    takum_saying_answer rounded = takum_write_whole(width, TAKUM_ROUNDED, length);
     takum_whole_answer misread = takum_take_whole(width, TAKUM_NEAREST, rounded.word);
     if (rounded.refusal == TAKUM_OK && misread.refusal == TAKUM_OK) {
-        fprintf(stderr, "; rounded it would be read as %" PRId64, misread.whole);
+        fprintf(stderr, "; rounded it would go %s and be read as %" PRId64, way_of(rounded.saying), misread.whole);
     }
     fputc('\n', stderr);
     return false;

@@ -22,15 +22,20 @@ static bool is_whole(const char *text, int64_t *tally) {
     return end != text && *end == '\0' && errno == 0;
 }
 
-/* Why the tag stays empty, and what a tag by the rounded rule would have said instead: 516 for 515. */
+/* Which way a tally goes that has no word. */
+static const char *way_of(uint32_t saying) {
+    return saying == TAKUM_ABOVE ? "up" : saying == TAKUM_BELOW ? "down" : "past the end";
+}
+
+/* Why the tag stays empty, and what a tag by the rounded rule would have said instead: 515 would have gone up, to 516. */
 static void say_refused(int64_t tally, uint32_t refusal) {
     fprintf(stderr, "tag: %" PRId64 " is refused with %" PRIu32 " (%s), and nothing goes onto the tag\n", tally, refusal, takum_refusal_name(refusal));
-    takum_word_answer rounded = takum_write_whole(TAG_WIDTH, TAKUM_ROUNDED, tally);
+    takum_saying_answer rounded = takum_write_whole(TAG_WIDTH, TAKUM_ROUNDED, tally);
     takum_whole_answer misread = takum_take_whole(TAG_WIDTH, TAKUM_TAKE_STRICT, rounded.word);
     takum_limit_answer limit = takum_limit(TAG_WIDTH);
     if (rounded.refusal == TAKUM_OK && misread.refusal == TAKUM_OK && limit.refusal == TAKUM_OK) {
-        fprintf(stderr, "tag: rounded it would be read as %" PRId64 "; at %d bits every whole number up to %" PRIu64 " has a word\n", misread.whole,
-                TAG_WIDTH, limit.limit);
+        fprintf(stderr, "tag: rounded it would go %s and be read as %" PRId64 "; at %d bits every whole number up to %" PRIu64 " has a word\n",
+                way_of(rounded.saying), misread.whole, TAG_WIDTH, limit.limit);
     }
 }
 
@@ -40,7 +45,7 @@ int main(int argc, char **argv) {
         fprintf(stderr, "usage: tag TALLY, a whole number of at most 64 bits with its sign\n");
         return 2;
     }
-    takum_word_answer tag = takum_write_whole(TAG_WIDTH, TAKUM_STRICT, tally);
+    takum_saying_answer tag = takum_write_whole(TAG_WIDTH, TAKUM_STRICT, tally);
     if (tag.refusal != TAKUM_OK) {
         say_refused(tally, tag.refusal);
         return 1;

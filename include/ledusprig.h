@@ -1,8 +1,8 @@
 /* Linear takums of width 2 to 64: the calls of libledusprig.a, a library in which every function is proved to do what its contract says. This page
  * says the same in words, and tests/face tries it.
  *
- *     takum_word_answer tag = takum_write_whole(16, TAKUM_STRICT, 515);
- *     if (tag.refusal == TAKUM_INEXACT) puts("515 has no word of 16 bits");
+ *     takum_saying_answer tag = takum_write_whole(16, TAKUM_ROUNDED, 515);
+ *     if (tag.saying == TAKUM_ABOVE) puts("515 went up: the tag reads 516");
  *
  * It needs C99 or later, or C++11 or later. The archive is for x86-64 or for Arm (aarch64), under Linux. It is linked like any other, cc program.c
  * libledusprig.a, or, where it is installed, cc program.c $(pkg-config --cflags --libs ledusprig). It stands on nothing else, not even the C library,
@@ -105,6 +105,31 @@ static inline const char *takum_refusal_name(uint32_t refusal) TAKUM_NOEXCEPT {
     }
 }
 
+/* Which way a value went: where the word that was written for it, or that it was moved to, lies from there. Signs count: -512 is above -513.
+ *
+ * - EXACT: the word has the value. Zero and NaR are exact, and so is every word that the strict rule gives.
+ * - BELOW, ABOVE: the word is less than the value, or greater. At 16 bits 515 goes to the word of 516, which is above it; -515 to that of -516,
+ *   which is below it; and -513 to that of -512, which is above it.
+ * - PAST_THE_END: the size is beyond the largest word, or isn't zero and is short of the smallest one, and the word is the end word. This is said in
+ *   place of BELOW and ABOVE, since an end word may be any distance away. */
+enum takum_saying {
+    TAKUM_EXACT = 0,       /* the word has exactly the value */
+    TAKUM_BELOW = 1,       /* the word is below the value */
+    TAKUM_ABOVE = 2,       /* the word is above the value */
+    TAKUM_PAST_THE_END = 3 /* the size is beyond the largest word, or short of the smallest */
+};
+
+/* The name of a saying: "ABOVE" for 2, and "UNKNOWN" for a number that this header doesn't have. */
+static inline const char *takum_saying_name(uint32_t saying) TAKUM_NOEXCEPT {
+    switch (saying) {
+    case TAKUM_EXACT: return "EXACT";
+    case TAKUM_BELOW: return "BELOW";
+    case TAKUM_ABOVE: return "ABOVE";
+    case TAKUM_PAST_THE_END: return "PAST_THE_END";
+    default: return "UNKNOWN";
+    }
+}
+
 /* The bounds of a width in bits, the size of a block in bytes, and the most words that a block has. */
 enum { TAKUM_LEAST_WIDTH = 2, TAKUM_GREATEST_WIDTH = 64, TAKUM_BLOCK_SIZE = 512, TAKUM_BLOCK_WORDS = 496 };
 
@@ -132,6 +157,14 @@ typedef struct takum_word_answer {
     uint32_t refusal;
     uint64_t word;
 } takum_word_answer;
+
+/* A word that was written or moved, and by `saying` which way the value went: one of enum takum_saying. Beside a refusal it is 0, as the word is, and
+ * says nothing; so look at the refusal first. */
+typedef struct takum_saying_answer {
+    uint32_t refusal;
+    uint32_t saying;
+    uint64_t word;
+} takum_saying_answer;
 
 /* The fields after `kind` are zero unless it is TAKUM_KIND_NUMBER. Then the size is m * 2^(h - p), with 2^p <= m < 2^(p + 1), p being the number of
  * fraction bits (of a word of fewer than 12 bits with zero bits appended up to 12), and `negative` the sign.
@@ -171,12 +204,14 @@ typedef struct takum_number_answer {
     double number;
 } takum_number_answer;
 
-/* `moved` is how many words were moved. Where the refusal is STRAY or INEXACT, `position` is that of the word that was refused, counted from
- * 0; otherwise it is 0. */
+/* `moved` is how many words were moved, and `exact` how many of these have kept their value, NaR being kept too (TAKUM_EXACT): all of them if the rule
+ * is strict or the width isn't a narrower one. Where the refusal is STRAY or INEXACT, `position` is that of the word that was refused, counted from 0;
+ * otherwise it is 0. */
 typedef struct takum_column_answer {
     uint32_t refusal;
     size_t position;
     size_t moved;
+    size_t exact;
 } takum_column_answer;
 
 /* The width of a block's words in bits, the block's number, and how many words it has. */
@@ -211,32 +246,33 @@ TAKUM_MUST_USE takum_order_answer takum_compare(uint32_t n, uint64_t x, uint64_t
 /* The word with the negated value; zero and NaR stay. */
 TAKUM_MUST_USE takum_word_answer takum_negate(uint32_t n, uint64_t word) TAKUM_NOEXCEPT;
 
-/* The word for m * 2^k, or for -m * 2^k where `negative` is true; m = 0 is zero, whichever the sign. INEXACT by the strict rule. */
-TAKUM_MUST_USE takum_word_answer takum_write(uint32_t n, takum_rule rule, bool negative, uint64_t m, int32_t k) TAKUM_NOEXCEPT;
-
-/* The word of width `to` for the value of a word of width `from`; NaR gives NaR. Going wider never changes a value. INEXACT by the strict
+/* The word for m * 2^k, or for -m * 2^k where `negative` is true, and which way it went; m = 0 is zero, whichever the sign. INEXACT by the strict
  * rule. */
-TAKUM_MUST_USE takum_word_answer takum_move(uint32_t from, uint32_t to, takum_rule rule, uint64_t word) TAKUM_NOEXCEPT;
+TAKUM_MUST_USE takum_saying_answer takum_write(uint32_t n, takum_rule rule, bool negative, uint64_t m, int32_t k) TAKUM_NOEXCEPT;
 
-/* The word for a whole number. INEXACT by the strict rule. */
-TAKUM_MUST_USE takum_word_answer takum_write_whole(uint32_t n, takum_rule rule, int64_t x) TAKUM_NOEXCEPT;
+/* The word of width `to` for the value of a word of width `from`, and which way it went; NaR gives NaR. Going wider never changes a value, so it is
+ * always exact. INEXACT by the strict rule. */
+TAKUM_MUST_USE takum_saying_answer takum_move(uint32_t from, uint32_t to, takum_rule rule, uint64_t word) TAKUM_NOEXCEPT;
+
+/* The word for a whole number, and which way it went. INEXACT by the strict rule. */
+TAKUM_MUST_USE takum_saying_answer takum_write_whole(uint32_t n, takum_rule rule, int64_t x) TAKUM_NOEXCEPT;
 
 /* The whole number of a word, the nearest or strictly its own. NAR for NaR; OVER where the nearest whole number is below -2^63 or above 2^63 - 1; and,
  * by the strict rule, INEXACT where the value isn't whole. OVER is judged on the rounded number, but near those ends nothing is rounded: from 2^55 on
  * every word, of any width, is a whole number. */
 TAKUM_MUST_USE takum_whole_answer takum_take_whole(uint32_t n, takum_taking taking, uint64_t word) TAKUM_NOEXCEPT;
 
-/* The word for a double (binary64): NaN and both infinities give NaR, both zeros give zero. INEXACT by the strict rule. A signalling NaN raises the
- * floating-point exception INVALID, as every comparison with it does. */
-TAKUM_MUST_USE takum_word_answer takum_write_binary64(uint32_t n, takum_rule rule, double x) TAKUM_NOEXCEPT;
+/* The word for a double (binary64), and which way it went: NaN and both infinities give NaR, both zeros give zero, and these are exact. INEXACT by the
+ * strict rule. A signalling NaN raises the floating-point exception INVALID, as every comparison with it does. */
+TAKUM_MUST_USE takum_saying_answer takum_write_binary64(uint32_t n, takum_rule rule, double x) TAKUM_NOEXCEPT;
 
 /* The double for a word: exactly its value up to width 57; from 58 on the nearest double, ties to even, in every rounding mode. Zero is positive
  * zero. No floating-point exception is raised: nothing is rounded by the processor. */
 TAKUM_MUST_USE takum_number_answer takum_take_binary64(uint32_t n, uint64_t word) TAKUM_NOEXCEPT;
 
-/* Moves a column, each of the words as takum_move does: the first results are the moved words, in order, and the others stay as they were.
- * ROOM where there are fewer results than words, even if a word would be refused too. A word's refusal, STRAY or INEXACT, comes with its
- * position: the lowest at which there is one. An empty column moves 0 words. */
+/* Moves a column, each of the words as takum_move does: the first results are the moved words, in order, and the others stay as they were. The answer
+ * counts the exact ones; which way one of the others went, takum_move tells. ROOM where there are fewer results than words, even if a word would be
+ * refused too. A word's refusal, STRAY or INEXACT, comes with its position: the lowest at which there is one. An empty column moves 0 words. */
 TAKUM_MUST_USE TAKUM_NOT_NULL takum_column_answer takum_move_column(uint32_t from, uint32_t to, takum_rule rule, const uint64_t *words,
                                                                     size_t words_length, uint64_t *results,
                                                                     size_t results_length) TAKUM_NOEXCEPT;

@@ -1,9 +1,9 @@
 // binary64 in and out.
-use super::{read, string_of, with_sign, write_size, INEXACT, TOP, WIDTH};
+use super::{exactly, read, string_of, with_sign, write_size, Written, INEXACT, PAST_THE_END, TOP, WIDTH};
 
 // A binary64 number as a word; NaN and the infinities give NaR.
 #[inline]
-pub fn write_binary64(n: u32, strict: bool, x: f64) -> Result<u64, u32> {
+pub fn write_binary64(n: u32, strict: bool, x: f64) -> Result<Written, u32> {
     if !(2..=64).contains(&n) {
         return Err(WIDTH);
     }
@@ -11,14 +11,14 @@ pub fn write_binary64(n: u32, strict: bool, x: f64) -> Result<u64, u32> {
     let negative = bits >= TOP;
     let exponent = bits >> 52 & 0x7ff;
     if exponent == 0x7ff {
-        return Ok(1 << (n - 1));
+        return Ok(exactly(1 << (n - 1)));
     }
     if exponent == 0 {
         // Zero, or a number far below the smallest word.
         if bits << 1 == 0 {
-            return Ok(0);
+            return Ok(exactly(0));
         }
-        return if strict { Err(INEXACT) } else { Ok(with_sign(n, negative, 1)) };
+        return if strict { Err(INEXACT) } else { Ok(Written { word: with_sign(n, negative, 1), saying: PAST_THE_END }) };
     }
     write_size(n, strict, negative, exponent as i64 - 1023, TOP | bits << 11)
 }

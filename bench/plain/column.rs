@@ -1,8 +1,14 @@
 // A column moved to another width.
-use super::{move_word, moved, ROOM, STRAY, WIDTH};
+use super::{exactly, move_word, moved, EXACT, ROOM, STRAY, WIDTH};
 
-// Every word is tried before any result is written. How many were moved, or the refusal, with the position of the word that has it.
-pub fn move_column(from: u32, to: u32, strict: bool, words: &[u64], results: &mut [u64]) -> Result<usize, (u32, Option<usize>)> {
+// How many words were moved, and how many of these are exact.
+pub struct Moved {
+    pub moved: usize,
+    pub exact: usize,
+}
+
+// Every word is tried before any result is written. A refusal comes with the position of the word that has it.
+pub fn move_column(from: u32, to: u32, strict: bool, words: &[u64], results: &mut [u64]) -> Result<Moved, (u32, Option<usize>)> {
     if !(2..=64).contains(&from) || !(2..=64).contains(&to) {
         return Err((WIDTH, None));
     }
@@ -18,9 +24,12 @@ pub fn move_column(from: u32, to: u32, strict: bool, words: &[u64], results: &mu
             return Err((STRAY, Some(position)));
         }
     }
+    let mut exact = 0;
     for (result, &word) in results.iter_mut().zip(words) {
         // Every word was tried, so none is refused here.
-        *result = moved(to, false, word << (64 - from)).unwrap_or(0);
+        let written = moved(to, false, word << (64 - from)).unwrap_or(exactly(0));
+        *result = written.word;
+        exact += (written.saying == EXACT) as usize;
     }
-    Ok(words.len())
+    Ok(Moved { moved: words.len(), exact })
 }

@@ -1,9 +1,9 @@
 // Whole numbers in and out.
-use super::{read, string_of, write, INEXACT, NAR, OVER, TOP};
+use super::{read, string_of, write, Written, INEXACT, NAR, OVER, TOP};
 
 // A whole number as a word.
 #[inline]
-pub fn write_whole(n: u32, strict: bool, x: i64) -> Result<u64, u32> {
+pub fn write_whole(n: u32, strict: bool, x: i64) -> Result<Written, u32> {
     write(n, strict, x < 0, x.unsigned_abs(), 0)
 }
 

@@ -1,5 +1,5 @@
-//! Asks the library a question from the command line: `cargo run --example takum -- write-whole 16 strict 515`; `help` says more.
-use ledusprig::{Kind, Refusal, Rule, Taking, Takum, Value, Width};
+//! Asks the library a question from the command line: `cargo run --example takum -- write-whole 16 rounded 515`; `help` says more.
+use ledusprig::{Kind, Refusal, Rule, Saying, Taking, Takum, Value, Width, Written};
 use std::cmp::Ordering;
 use std::fmt::Display;
 use std::io::{self, ErrorKind, Write};
@@ -23,7 +23,8 @@ const HELP: &str = "Usage: takum QUESTION
 
 A WIDTH is a number of bits, 2 to 64. A RULE is rounded (the nearest word) or strict (exactly the value, or a refusal). A TAKING is nearest (the
 nearest whole number, halves to the even one) or strict. A WORD is digits without a sign, in hex after 0x, in binary after 0b; the lister's words
-are in hex and need 0x before them. A value with ~ before it is shown by some of its digits only; `read` tells it exactly.
+are in hex and need 0x before them. A value with ~ before it is shown by some of its digits only; `read` tells it exactly. Of a word that is written or
+moved it is said which way the value went: exact, below (the word is below it), above, or past the end.
 The status is 0 where the question was answered, 1 where it was refused, 2 where it can't be understood, 3 where the answer can't be put out.";
 
 /// Why there is no answer.
@@ -77,15 +78,15 @@ fn answer(given: &[&str]) -> Answer {
         ["write-whole", n, r, x] => {
             let (width, x) = (width(n)?, number::<i64>(x, "whole number of 64 bits")?);
             let value = Value { negative: x < 0, m: x.unsigned_abs(), k: 0 };
-            written(width, rule(r)?, x, value, |rule| width.write_whole(rule, x))
+            written(rule(r)?, x, value, |rule| width.write_whole(rule, x))
         }
         ["write", n, r, x] => {
             let (width, value) = (width(n)?, value(x)?);
-            written(width, rule(r)?, x, value, |rule| width.write(rule, value))
+            written(rule(r)?, x, value, |rule| width.write(rule, value))
         }
         ["write-double", n, r, x] => {
             let (width, x) = (width(n)?, number::<f64>(x, "number")?);
-            let answer = written(width, rule(r)?, format_args!("the double {x:?}"), value_of_double(x), |rule| width.write_binary64(rule, x));
+            let answer = written(rule(r)?, format_args!("the double {x:?}"), value_of_double(x), |rule| width.write_binary64(rule, x));
             told_first(&format!("double {x:?}"), answer)
         }
         ["read", n, word] => Ok(read(takum(n, word)?)),
@@ -97,7 +98,7 @@ fn answer(given: &[&str]) -> Answer {
         ["move", from, to, r, word] => {
             let (from, to) = (width(from)?, width(to)?);
             let takum = Takum::new(from, bits(word)?)?;
-            written(to, rule(r)?, takum, value_of(takum), |rule| takum.move_to(to, rule))
+            written(rule(r)?, takum, value_of(takum), |rule| takum.move_to(to, rule))
         }
         ["compare", n, x, y] => compared(takum(n, x)?, takum(n, y)?),
         ["negate", n, word] => Ok(shown(-takum(n, word)?)),
@@ -213,17 +214,21 @@ fn short(takum: Takum) -> String {
 }
 
 /// What a writing call answers; where no word has the value that was given, also where that lies.
-fn written(width: Width, rule: Rule, given: impl Display, value: Value, write: impl Fn(Rule) -> Result<Takum, Refusal>) -> Answer {
-    let answer = write(rule);
-    if write(Rule::Strict) != Err(Refusal::Inexact) {
-        return Ok(shown(answer?));
+fn written(rule: Rule, given: impl Display, value: Value, write: impl Fn(Rule) -> Result<Written<Takum>, Refusal>) -> Answer {
+    let (answer, rounded) = (write(rule), write(Rule::Rounded)?);
+    if rounded.is_exact() {
+        return Ok(said(answer?));
     }
-    let rounded = write(Rule::Rounded)?;
-    let place = format!("{given} has no word of {width} bits: it lies {}", place(value, rounded)?);
+    let place = format!("{given} has no word of {} bits: it lies {}", rounded.word.width(), place(value, rounded)?);
     match answer {
-        Ok(takum) => Ok(format!("{}\n       {place}", shown(takum))),
-        Err(refusal) => Err(Failure::Refused(format!("{refusal}\n{place}; rounded, it is {}", short(rounded)))),
+        Ok(written) => Ok(format!("{}\n       {place}", said(written))),
+        Err(refusal) => Err(Failure::Refused(format!("{refusal}\n{place}; rounded, it is {}", short(rounded.word)))),
     }
+}
+
+/// A word that was written, and which way the value went.
+fn said(written: Written<Takum>) -> String {
+    format!("{}\nsaying {}", shown(written.word), written.saying)
 }
 
 fn told_first(line: &str, answer: Answer) -> Answer {
@@ -234,26 +239,31 @@ fn told_first(line: &str, answer: Answer) -> Answer {
     }
 }
 
-/// Where a value lies that no word has: between the word that it is rounded to and the next one on the value's side, or past the last one.
-/// Words are in the order of their values, as two's complement numbers.
-fn place(value: Value, rounded: Takum) -> Result<String, Refusal> {
-    let unused = 64 - rounded.width().bits();
-    let next = |by: u64| Takum::new(rounded.width(), rounded.word().wrapping_add(by) << unused >> unused);
-    let (below, above) = if is_below(value, value_of(rounded)) { (next(u64::MAX)?, rounded) } else { (rounded, next(1)?) };
-    Ok(if above.is_nar() {
-        format!("above the largest word, {}", short(below))
-    } else if below.is_nar() {
-        format!("below the lowest word, {}", short(above))
-    } else {
-        format!("between {} and {}", short(below), short(above))
-    })
+/// Where a value lies, by what was said of it: between its word and the next one on its other side; past the end, beside zero or beyond the last word.
+fn place(value: Value, rounded: Written<Takum>) -> Result<String, Refusal> {
+    let word = rounded.word;
+    let between = |below: Takum, above: Takum| Ok(format!("between {} and {}", short(below), short(above)));
+    match rounded.saying {
+        Saying::Exact => Ok(format!("at {}", short(word))),
+        Saying::Below => between(word, neighbour(word, 1)?),
+        Saying::Above => between(neighbour(word, -1)?, word),
+        Saying::PastTheEnd if is_large(value) && value.negative => Ok(format!("below the lowest word, {}", short(word))),
+        Saying::PastTheEnd if is_large(value) => Ok(format!("above the largest word, {}", short(word))),
+        Saying::PastTheEnd if value.negative => between(word, word.width().zero()),
+        Saying::PastTheEnd => between(word.width().zero(), word),
+    }
 }
 
-/// Whether x is below y; they have the same sign, and neither is zero.
-fn is_below(x: Value, y: Value) -> bool {
-    // sizes are in the order of the powers of their highest bits, and then of the bits from there on
-    let size = |value: Value| (i64::from(value.k) - i64::from(value.m.leading_zeros()), value.m.rotate_left(value.m.leading_zeros()));
-    if x.negative { size(x) > size(y) } else { size(x) < size(y) }
+/// The next word up or down: words are in the order of their values, as two's complement numbers.
+fn neighbour(takum: Takum, by: i64) -> Result<Takum, Refusal> {
+    let unused = 64 - takum.width().bits();
+    Takum::new(takum.width(), takum.word().wrapping_add_signed(by) << unused >> unused)
+}
+
+/// Whether the size is at least 1, which has a word at every width: then it is past the largest one where it is past an end, and else short of the
+/// smallest.
+fn is_large(value: Value) -> bool {
+    i64::from(value.k) + 63 - i64::from(value.m.leading_zeros()) >= 0
 }
 
 fn compared(x: Takum, y: Takum) -> Answer {

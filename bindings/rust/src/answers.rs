@@ -24,7 +24,7 @@ pub enum Rule {
 /// ```
 /// use ledusprig::{Refusal, Rule, Taking, Width};
 ///
-/// let taken = |x: f64, taking: Taking| Width::W16.write_binary64(Rule::Strict, x)?.take_whole(taking);
+/// let taken = |x: f64, taking: Taking| Width::W16.write_binary64(Rule::Strict, x)?.word.take_whole(taking);
 /// assert_eq!([2.5, 3.5, -2.5].map(|x| taken(x, Taking::Nearest)), [Ok(2), Ok(4), Ok(-2)]);
 /// assert_eq!(taken(2.5, Taking::Strict), Err(Refusal::Inexact));
 /// ```
@@ -45,6 +45,80 @@ pub struct Value {
     pub m: u64,
     /// The exponent, any number.
     pub k: i32,
+}
+
+/// Which way a value went: where the word that was written for it, or that it was moved to, lies from there. Signs count: -512 is above -513. The
+/// numbers are the archive's.
+///
+/// ```
+/// use ledusprig::{Refusal, Rule, Saying, Value, Width};
+///
+/// let said = |x: i64| Width::W16.write_whole(Rule::Rounded, x).map(|written| written.saying);
+/// assert_eq!([512, 513, 515].map(said), [Ok(Saying::Exact), Ok(Saying::Below), Ok(Saying::Above)]);
+/// assert_eq!([-512, -513, -515].map(said), [Ok(Saying::Exact), Ok(Saying::Above), Ok(Saying::Below)]);
+///
+/// let far = Width::W16.write(Rule::Rounded, Value { negative: true, m: 1, k: 300 })?;
+/// assert_eq!((far.word, far.saying), (-Width::W16.largest(), Saying::PastTheEnd));
+/// # Ok::<(), Refusal>(())
+/// ```
+#[derive(Clone, Copy, Debug, PartialEq, Eq, Hash)]
+pub enum Saying {
+    /// The word has exactly the value. Zero and NaR are exact, and so is every word that the strict rule gives.
+    Exact = 0,
+    /// The word is below the value.
+    Below = 1,
+    /// The word is above the value.
+    Above = 2,
+    /// The size is beyond the largest word, or isn't zero and is short of the smallest one, and the word is the end word. This is said in place of
+    /// `Below` and `Above`, since an end word may be any distance away.
+    PastTheEnd = 3,
+}
+
+impl Saying {
+    /// That of the archive's number. One that there isn't, as a newer archive may have it, says least: it is taken as past the end.
+    pub(crate) fn of(number: u32) -> Saying {
+        let near = [Saying::Exact, Saying::Below, Saying::Above];
+        near.into_iter().find(|&saying| saying as u32 == number).unwrap_or(Saying::PastTheEnd)
+    }
+}
+
+/// A word that was written or moved, and which way the value went. The word is a number in [`calls`](crate::calls), and a [`Takum`](crate::Takum) by
+/// the calls of [`Width`](crate::Width) and `Takum`.
+///
+/// ```
+/// use ledusprig::{calls, Refusal, Rule, Saying, Width, Written};
+///
+/// // A clerk sees 512. Were there 512 joints, or 513?
+/// let [true_512, from_513] = [512, 513].map(|joints| Width::W16.write_whole(Rule::Rounded, joints).unwrap());
+/// assert_eq!(true_512.word, from_513.word);
+/// assert!(true_512.is_exact() && !from_513.is_exact());
+///
+/// assert_eq!(calls::write_whole(16, Rule::Rounded, 513)?, Written { word: 0x5A00, saying: Saying::Below });
+/// # Ok::<(), Refusal>(())
+/// ```
+#[derive(Clone, Copy, Debug, PartialEq, Eq, Hash)]
+pub struct Written<Word = u64> {
+    /// The word.
+    pub word: Word,
+    /// Which way the value went.
+    pub saying: Saying,
+}
+
+impl<Word> Written<Word> {
+    /// Whether the word has exactly the value.
+    #[must_use]
+    pub const fn is_exact(&self) -> bool {
+        matches!(self.saying, Saying::Exact)
+    }
+}
+
+/// How many words of a column were moved, and how many of these have kept their value.
+#[derive(Clone, Copy, Debug, PartialEq, Eq, Hash)]
+pub struct MovedColumn {
+    /// How many words were moved: all of the column.
+    pub moved: usize,
+    /// How many of these are [`Saying::Exact`]: zero and NaR are, and by the strict rule, or to a width that isn't narrower, all of them.
+    pub exact: usize,
 }
 
 /// The value of a word, and how fine it is.
@@ -100,4 +174,20 @@ pub struct Block {
     pub number: u32,
     /// How many words it has.
     pub count: u32,
+}
+
+#[cfg(test)]
+mod tests {
+    use super::Saying;
+
+    #[test]
+    fn the_archives_numbers_are_sayings_and_any_other_says_least() {
+        let sayings = [Saying::Exact, Saying::Below, Saying::Above, Saying::PastTheEnd];
+        for (saying, number) in sayings.into_iter().zip(0..) {
+            assert_eq!((Saying::of(number), saying as u32), (saying, number));
+        }
+        for number in [4, 5, 0x8000_0000, u32::MAX] {
+            assert_eq!(Saying::of(number), Saying::PastTheEnd);
+        }
+    }
 }

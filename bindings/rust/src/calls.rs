@@ -6,21 +6,25 @@
 //! Written blocks: `Width`, `Count`, `Size`, then `Stray` at the lowest position. A refused call leaves its results, or its buffer, as they were.
 //!
 //! ```
-//! use ledusprig::{calls, Refusal, Rule};
+//! use ledusprig::{calls, Refusal, Rule, Saying, Written};
 //!
-//! assert_eq!(calls::write_whole(16, Rule::Rounded, 515), Ok(0x5A02));
+//! assert_eq!(calls::write_whole(16, Rule::Rounded, 515), Ok(Written { word: 0x5A02, saying: Saying::Above }));
 //! assert_eq!(calls::move_word(16, 8, Rule::Strict, 0x10000), Err(Refusal::Stray));
 //! ```
 //
 // Safety, for all calls below: the archive's functions take every number and write to no memory but the lent results and the lent buffer. A slice is
 // handed over as what it is, its pointer and its length, and the borrow lasts until the call returns; a `&mut` slice overlaps no other.
-use crate::answers::{Block, Kind, Reading, Rule, Taking, Value};
-use crate::face::{self, WordAnswer};
+use crate::answers::{Block, Kind, MovedColumn, Reading, Rule, Saying, Taking, Value, Written};
+use crate::face::{self, SayingAnswer, WordAnswer};
 use crate::refusals::{ColumnRefusal, Refusal};
 use core::cmp::Ordering;
 
 fn word_of(answer: WordAnswer) -> Result<u64, Refusal> {
     Refusal::unless(answer.refusal, answer.word)
+}
+
+fn written_of(answer: SayingAnswer) -> Result<Written, Refusal> {
+    Refusal::unless(answer.refusal, Written { word: answer.word, saying: Saying::of(answer.saying) })
 }
 
 /// The largest positive word of width n, 2^(n - 1) - 1.
@@ -66,19 +70,20 @@ pub fn negate(n: u32, word: u64) -> Result<u64, Refusal> {
     word_of(unsafe { face::takum_negate(n, word) })
 }
 
-/// The word for a value.
-pub fn write(n: u32, rule: Rule, value: Value) -> Result<u64, Refusal> {
-    word_of(unsafe { face::takum_write(n, rule as u32, value.negative, value.m, value.k) })
+/// The word for a value, and which way it went.
+pub fn write(n: u32, rule: Rule, value: Value) -> Result<Written, Refusal> {
+    written_of(unsafe { face::takum_write(n, rule as u32, value.negative, value.m, value.k) })
 }
 
-/// The word of width `to` for the value of a word of width `from`; NaR gives NaR. Going wider never changes a value.
-pub fn move_word(from: u32, to: u32, rule: Rule, word: u64) -> Result<u64, Refusal> {
-    word_of(unsafe { face::takum_move(from, to, rule as u32, word) })
+/// The word of width `to` for the value of a word of width `from`, and which way it went; NaR gives NaR. Going wider never changes a value, so it is
+/// always exact.
+pub fn move_word(from: u32, to: u32, rule: Rule, word: u64) -> Result<Written, Refusal> {
+    written_of(unsafe { face::takum_move(from, to, rule as u32, word) })
 }
 
-/// The word for a whole number.
-pub fn write_whole(n: u32, rule: Rule, x: i64) -> Result<u64, Refusal> {
-    word_of(unsafe { face::takum_write_whole(n, rule as u32, x) })
+/// The word for a whole number, and which way it went.
+pub fn write_whole(n: u32, rule: Rule, x: i64) -> Result<Written, Refusal> {
+    written_of(unsafe { face::takum_write_whole(n, rule as u32, x) })
 }
 
 /// The whole number of a word; `Nar` for NaR, `Over` where the whole number nearest to its value falls outside signed 64 bits.
@@ -87,9 +92,9 @@ pub fn take_whole(n: u32, taking: Taking, word: u64) -> Result<i64, Refusal> {
     Refusal::unless(answer.refusal, answer.whole)
 }
 
-/// The word for a binary64 number: NaN and both infinities give NaR, both zeros give zero.
-pub fn write_binary64(n: u32, rule: Rule, x: f64) -> Result<u64, Refusal> {
-    word_of(unsafe { face::takum_write_binary64(n, rule as u32, x) })
+/// The word for a binary64 number, and which way it went: NaN and both infinities give NaR, both zeros give zero, and these are exact.
+pub fn write_binary64(n: u32, rule: Rule, x: f64) -> Result<Written, Refusal> {
+    written_of(unsafe { face::takum_write_binary64(n, rule as u32, x) })
 }
 
 /// The binary64 number for a word, none for NaR: exactly its value up to width 57; from 58 on the nearest, ties to even. Zero is positive
@@ -101,19 +106,21 @@ pub fn take_binary64(n: u32, word: u64) -> Result<Option<f64>, Refusal> {
 }
 
 /// Moves a column, each of the words as [`move_word`] does: the first results are the moved words, in order, the others stay as they were,
-/// and the answer is how many were moved. `Room` where there are fewer results than words.
+/// and the answer is how many were moved, and how many of these are exact. `Room` where there are fewer results than words.
 ///
 /// ```
-/// use ledusprig::{calls, Rule};
+/// use ledusprig::{calls, MovedColumn, Rule};
 ///
+/// // 515 goes up to 516, and a void stays one
 /// let mut results = [7; 3];
-/// assert_eq!(calls::move_column(16, 32, Rule::Strict, &[0x5A00, 0x8000], &mut results), Ok(2));
-/// assert_eq!(results, [0x5A00_0000, 0x8000_0000, 7]);
+/// assert_eq!(calls::move_column(32, 16, Rule::Rounded, &[0x5A01_8000, 0x8000_0000], &mut results), Ok(MovedColumn { moved: 2, exact: 1 }));
+/// assert_eq!(results, [0x5A02, 0x8000, 7]);
 /// ```
-pub fn move_column(from: u32, to: u32, rule: Rule, words: &[u64], results: &mut [u64]) -> Result<usize, ColumnRefusal> {
+pub fn move_column(from: u32, to: u32, rule: Rule, words: &[u64], results: &mut [u64]) -> Result<MovedColumn, ColumnRefusal> {
     let (given, room) = (words.len(), results.len());
     let answer = unsafe { face::takum_move_column(from, to, rule as u32, words.as_ptr(), given, results.as_mut_ptr(), room) };
-    Refusal::unless(answer.refusal, answer.moved).map_err(|refusal| ColumnRefusal::at(refusal, answer.position))
+    let moved = MovedColumn { moved: answer.moved, exact: answer.exact };
+    Refusal::unless(answer.refusal, moved).map_err(|refusal| ColumnRefusal::at(refusal, answer.position))
 }
 
 /// Reads a sheet block of 512 bytes: the first results are its words, in order, and the others stay as they were.

@@ -1,7 +1,7 @@
 //! Conversions by the standard traits: where a change of type can be meant in one way only.
 //!
-//! What can fail is strict: a value becomes exactly what is asked for, or is refused. Rounding has to be asked for by the name of its rule
-//! ([`Width::write_whole`], [`Takum::take_whole`] and the like).
+//! What can fail is strict: a value becomes exactly what is asked for, or is refused, so that it has no way to have gone. Rounding has to be asked for
+//! by the name of its rule ([`Width::write_whole`], [`Takum::take_whole`] and the like).
 use crate::answers::{Rule, Taking};
 use crate::refusals::Refusal;
 use crate::words::{Takum, Width};
@@ -51,7 +51,7 @@ impl TryFrom<(Width, i64)> for Takum {
     type Error = Refusal;
 
     fn try_from((width, x): (Width, i64)) -> Result<Takum, Refusal> {
-        width.write_whole(Rule::Strict, x)
+        width.write_whole(Rule::Strict, x).map(|written| written.word)
     }
 }
 
@@ -69,7 +69,7 @@ impl TryFrom<(Width, f64)> for Takum {
     type Error = Refusal;
 
     fn try_from((width, x): (Width, f64)) -> Result<Takum, Refusal> {
-        width.write_binary64(Rule::Strict, x)
+        width.write_binary64(Rule::Strict, x).map(|written| written.word)
     }
 }
 

@@ -7,6 +7,13 @@ pub struct WordAnswer {
 }
 
 #[repr(C)]
+pub struct SayingAnswer {
+    pub refusal: u32,
+    pub saying: u32,
+    pub word: u64,
+}
+
+#[repr(C)]
 pub struct ReadingAnswer {
     pub refusal: u32,
     pub kind: u32,
@@ -51,6 +58,7 @@ pub struct ColumnAnswer {
     pub refusal: u32,
     pub position: usize,
     pub moved: usize,
+    pub exact: usize,
 }
 
 #[repr(C)]
@@ -75,11 +83,11 @@ extern "C" {
     pub fn takum_read(n: u32, word: u64) -> ReadingAnswer;
     pub fn takum_compare(n: u32, x: u64, y: u64) -> OrderAnswer;
     pub fn takum_negate(n: u32, word: u64) -> WordAnswer;
-    pub fn takum_write(n: u32, rule: u32, negative: bool, m: u64, k: i32) -> WordAnswer;
-    pub fn takum_move(from: u32, to: u32, rule: u32, word: u64) -> WordAnswer;
-    pub fn takum_write_whole(n: u32, rule: u32, x: i64) -> WordAnswer;
+    pub fn takum_write(n: u32, rule: u32, negative: bool, m: u64, k: i32) -> SayingAnswer;
+    pub fn takum_move(from: u32, to: u32, rule: u32, word: u64) -> SayingAnswer;
+    pub fn takum_write_whole(n: u32, rule: u32, x: i64) -> SayingAnswer;
     pub fn takum_take_whole(n: u32, taking: u32, word: u64) -> WholeAnswer;
-    pub fn takum_write_binary64(n: u32, rule: u32, x: f64) -> WordAnswer;
+    pub fn takum_write_binary64(n: u32, rule: u32, x: f64) -> SayingAnswer;
     pub fn takum_take_binary64(n: u32, word: u64) -> NumberAnswer;
     pub fn takum_move_column(
         from: u32,

@@ -19,10 +19,10 @@ macro_rules! refusals {
         /// It is an [`Error`], so `?` hands it on:
         ///
         /// ```
-        /// use ledusprig::{Rule, Width};
+        /// use ledusprig::{Takum, Width};
         ///
         /// fn tag(tally: i64) -> Result<u64, Box<dyn std::error::Error>> {
-        ///     Ok(Width::W16.write_whole(Rule::Strict, tally)?.word())
+        ///     Ok(Takum::try_from((Width::W16, tally))?.word())
         /// }
         /// assert_eq!(tag(514).unwrap(), 0x5A01);
         /// assert!(tag(515).unwrap_err().to_string().starts_with("refusal 4 (INEXACT): "));

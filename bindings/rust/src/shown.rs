@@ -1,5 +1,5 @@
-//! How widths and words are shown.
-use crate::answers::{Kind, Reading, Rule, Taking};
+//! How widths, words and sayings are shown.
+use crate::answers::{Kind, Reading, Saying, Taking};
 use crate::words::{Takum, Width};
 use core::fmt::{self, Alignment, Write};
 
@@ -7,6 +7,24 @@ use core::fmt::{self, Alignment, Write};
 impl fmt::Display for Width {
     fn fmt(&self, f: &mut fmt::Formatter<'_>) -> fmt::Result {
         self.bits().fmt(f)
+    }
+}
+
+/// `exact`, `below`, `above` or `past the end`.
+///
+/// ```
+/// use ledusprig::Saying;
+///
+/// assert_eq!(format!("{:<6}[{}]", Saying::Above, Saying::PastTheEnd), "above [past the end]");
+/// ```
+impl fmt::Display for Saying {
+    fn fmt(&self, f: &mut fmt::Formatter<'_>) -> fmt::Result {
+        f.pad(match self {
+            Saying::Exact => "exact",
+            Saying::Below => "below",
+            Saying::Above => "above",
+            Saying::PastTheEnd => "past the end",
+        })
     }
 }
 
@@ -21,7 +39,7 @@ impl fmt::Display for Width {
 /// ```
 /// use ledusprig::{Refusal, Rule, Takum, Width};
 ///
-/// let third = |width: Width| width.write_binary64(Rule::Rounded, 1.0 / 3.0);
+/// let third = |width: Width| width.write_binary64(Rule::Rounded, 1.0 / 3.0).map(|written| written.word);
 /// assert_eq!(Takum::new(Width::W16, 0x5A01)?.to_string(), "514");
 /// assert_eq!(Takum::new(Width::W16, 0xBC00)?.to_string(), "-1.5");
 /// assert_eq!(third(Width::W8)?.to_string(), "0.3125");
@@ -42,7 +60,7 @@ impl fmt::Display for Takum {
             (Ok(whole), Some(decimals)) => pad_number(f, true, sign, format_args!("{}.{:0<decimals$}", whole.unsigned_abs(), "")),
             (Err(_), None) => pad_number(f, is_short(self.read()), sign, format_args!("{size:?}")),
             (Err(_), Some(decimals)) => {
-                let exact = self.width().write_binary64(Rule::Strict, number) == Ok(*self) && has_decimals(self.read(), decimals);
+                let exact = Takum::try_from((self.width(), number)) == Ok(*self) && has_decimals(self.read(), decimals);
                 pad_number(f, exact, sign, format_args!("{size:.decimals$}"))
             }
         }

@@ -1,5 +1,5 @@
 //! A width and a word that have been accepted once.
-use crate::answers::{Kind, Reading, Rule, Taking, Value, ZERO};
+use crate::answers::{Kind, MovedColumn, Reading, Rule, Taking, Value, Written, ZERO};
 use crate::calls;
 use crate::refusals::{ColumnRefusal, Refusal};
 use core::cmp::Ordering;
@@ -28,7 +28,7 @@ pub struct Width {
 /// let one_and_a_half = Takum::new(Width::W16, 0x4400)?;
 /// assert_eq!(one_and_a_half.take_binary64(), Some(1.5));
 /// assert_eq!((-one_and_a_half).word(), 0xBC00);
-/// assert_eq!(one_and_a_half.move_to(Width::W64, Rule::Strict)?.take_binary64(), Some(1.5));
+/// assert_eq!(one_and_a_half.move_to(Width::W64, Rule::Strict)?.word.take_binary64(), Some(1.5));
 /// # Ok::<(), Refusal>(())
 /// ```
 #[derive(Clone, Copy, PartialEq, Eq, Hash)]
@@ -78,6 +78,11 @@ impl Width {
         Takum { width: self, word }
     }
 
+    /// What was written at this width.
+    fn written(self, answer: Result<Written, Refusal>) -> Result<Written<Takum>, Refusal> {
+        answer.map(|Written { word, saying }| Written { word: self.given(word), saying })
+    }
+
     /// The largest positive word.
     #[must_use]
     pub fn largest(self) -> Takum {
@@ -115,40 +120,41 @@ impl Width {
         accepted(calls::limit(self.bits))
     }
 
-    /// The word for a value, or [`Refusal::Inexact`] by the strict rule.
+    /// The word for a value and which way it went, or [`Refusal::Inexact`] by the strict rule.
     ///
     /// ```
     /// use ledusprig::{Refusal, Rule, Value, Width};
     ///
     /// let three_quarters = Value { negative: false, m: 3, k: -2 };
-    /// assert_eq!(Width::W16.write(Rule::Strict, three_quarters)?.take_binary64(), Some(0.75));
+    /// assert_eq!(Width::W16.write(Rule::Strict, three_quarters)?.word.take_binary64(), Some(0.75));
     /// # Ok::<(), Refusal>(())
     /// ```
-    pub fn write(self, rule: Rule, value: Value) -> Result<Takum, Refusal> {
-        calls::write(self.bits, rule, value).map(|word| self.given(word))
+    pub fn write(self, rule: Rule, value: Value) -> Result<Written<Takum>, Refusal> {
+        self.written(calls::write(self.bits, rule, value))
     }
 
-    /// The word for a whole number, or [`Refusal::Inexact`] by the strict rule.
-    pub fn write_whole(self, rule: Rule, x: i64) -> Result<Takum, Refusal> {
-        calls::write_whole(self.bits, rule, x).map(|word| self.given(word))
+    /// The word for a whole number and which way it went, or [`Refusal::Inexact`] by the strict rule.
+    pub fn write_whole(self, rule: Rule, x: i64) -> Result<Written<Takum>, Refusal> {
+        self.written(calls::write_whole(self.bits, rule, x))
     }
 
-    /// The word for a binary64 number, or [`Refusal::Inexact`] by the strict rule. NaN and both infinities give NaR, both zeros give zero.
-    pub fn write_binary64(self, rule: Rule, x: f64) -> Result<Takum, Refusal> {
-        calls::write_binary64(self.bits, rule, x).map(|word| self.given(word))
+    /// The word for a binary64 number and which way it went, or [`Refusal::Inexact`] by the strict rule. NaN and both infinities give NaR, both zeros
+    /// give zero, and these are exact.
+    pub fn write_binary64(self, rule: Rule, x: f64) -> Result<Written<Takum>, Refusal> {
+        self.written(calls::write_binary64(self.bits, rule, x))
     }
 
     /// Moves a column of words of this width to another; see [`calls::move_column`].
-    pub fn move_column(self, to: Width, rule: Rule, words: &[u64], results: &mut [u64]) -> Result<usize, ColumnRefusal> {
+    pub fn move_column(self, to: Width, rule: Rule, words: &[u64], results: &mut [u64]) -> Result<MovedColumn, ColumnRefusal> {
         calls::move_column(self.bits, to.bits, rule, words, results)
     }
 
     /// Writes words of this width as the sheet block of that number; see [`calls::write_block`].
     ///
     /// ```
-    /// use ledusprig::{calls, Block, ColumnRefusal, Refusal, Rule, Width, BLOCK_SIZE, BLOCK_WORDS};
+    /// use ledusprig::{calls, Block, ColumnRefusal, Refusal, Takum, Width, BLOCK_SIZE, BLOCK_WORDS};
     ///
-    /// let rows = [42, 38, 516].map(|joints| Width::W16.write_whole(Rule::Strict, joints).unwrap().word());
+    /// let rows = [42_i64, 38, 516].map(|joints| Takum::try_from((Width::W16, joints)).unwrap().word());
     /// let mut block = [0; BLOCK_SIZE];
     /// Width::W16.write_block(7, &rows, &mut block)?;
     ///
@@ -212,9 +218,21 @@ impl Takum {
         accepted(calls::read(self.width.bits, self.word))
     }
 
-    /// The word of another width for its value, or [`Refusal::Inexact`] by the strict rule. Going wider never changes a value.
-    pub fn move_to(self, to: Width, rule: Rule) -> Result<Takum, Refusal> {
-        calls::move_word(self.width.bits, to.bits, rule, self.word).map(|word| to.given(word))
+    /// The word of another width for its value and which way that went, or [`Refusal::Inexact`] by the strict rule. Going wider never changes a value,
+    /// so it is always exact.
+    ///
+    /// ```
+    /// use ledusprig::{Refusal, Rule, Saying, Takum, Width, Written};
+    ///
+    /// // 515 stays itself at 32 bits, and goes up to 516 at 16
+    /// let tally = Takum::try_from((Width::W32, 515_i64))?;
+    /// assert!(tally.move_to(Width::W64, Rule::Rounded)?.is_exact());
+    /// let tag = Takum::try_from((Width::W16, 516_i64))?;
+    /// assert_eq!(tally.move_to(Width::W16, Rule::Rounded)?, Written { word: tag, saying: Saying::Above });
+    /// # Ok::<(), Refusal>(())
+    /// ```
+    pub fn move_to(self, to: Width, rule: Rule) -> Result<Written<Takum>, Refusal> {
+        to.written(calls::move_word(self.width.bits, to.bits, rule, self.word))
     }
 
     /// Its whole number, or [`Refusal::Nar`], [`Refusal::Over`] or, by the strict rule, [`Refusal::Inexact`].

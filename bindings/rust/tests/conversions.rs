@@ -28,7 +28,7 @@ fn a_number_that_is_no_u32_is_no_width() {
 fn whole_numbers_go_in_and_out_strictly() {
     for x in (-1030..=1030).chain([i64::MIN, i64::MAX]) {
         let written = Takum::try_from((Width::W16, x));
-        assert_eq!(written, Width::W16.write_whole(Rule::Strict, x));
+        assert_eq!(written, Width::W16.write_whole(Rule::Strict, x).map(|written| written.word));
         if let Ok(takum) = written {
             assert_eq!(i64::try_from(takum), Ok(x));
         }

@@ -1,5 +1,5 @@
 //! What is shown of a word: its value, never as if it were exact where it is not, and its bits.
-use ledusprig::{Rule, Takum, Value, Width};
+use ledusprig::{Rule, Saying, Takum, Value, Width};
 
 /// The digits that count: no sign, point or exponent, and no zeros at the ends.
 fn digits(text: &str) -> String {
@@ -29,13 +29,13 @@ fn a_value_without_a_mark_has_all_its_digits() {
 
 #[test]
 fn of_a_wide_word_it_is_never_said_to_be_exact_by_too_few_digits() {
-    let shown = |x: f64| Width::W64.write_binary64(Rule::Strict, x).unwrap().to_string();
+    let shown = |x: f64| Takum::try_from((Width::W64, x)).unwrap().to_string();
     assert_eq!(shown(0.1), "~0.1");
     assert_eq!(shown(0.75), "0.75");
     assert_eq!(shown(-1.0 / 1_048_576.0), "-9.5367431640625e-7");
     assert_eq!(shown((1_u64 << 60) as f64), "1152921504606846976");
     assert_eq!(shown((1_u64 << 63) as f64), "~9.223372036854776e18");
-    let odd = Width::W64.write_whole(Rule::Strict, (1 << 54) + 1).unwrap();
+    let odd = Takum::try_from((Width::W64, (1_i64 << 54) + 1)).unwrap();
     assert_eq!(odd.to_string(), "18014398509481985");
 }
 
@@ -62,13 +62,13 @@ fn with_a_precision_too_only_what_is_exact_has_no_mark() {
 
 #[test]
 fn a_whole_number_has_zeros_for_decimals() {
-    let odd = Width::W64.write_whole(Rule::Strict, -(1 << 53) - 1).unwrap();
+    let odd = Takum::try_from((Width::W64, -(1_i64 << 53) - 1)).unwrap();
     assert_eq!(format!("{odd} {odd:.0} {odd:.2} {:.1}", Width::W64.zero()), "-9007199254740993 -9007199254740993 -9007199254740993.00 0.0");
     // beyond an i64 the binary64 number is all there is, exact or not
-    let beyond = Width::W64.write_binary64(Rule::Strict, (1_u64 << 63) as f64).unwrap();
+    let beyond = Takum::try_from((Width::W64, (1_u64 << 63) as f64)).unwrap();
     assert_eq!(format!("{beyond} {beyond:.0} {beyond:.1}"), "~9.223372036854776e18 9223372036854775808 9223372036854775808.0");
     // 1 + 2^-54 has a word of 64 bits, and its binary64 number is 1
-    let near = Width::W64.write(Rule::Strict, Value { negative: false, m: (1 << 54) + 1, k: -54 }).unwrap();
+    let near = Width::W64.write(Rule::Strict, Value { negative: false, m: (1 << 54) + 1, k: -54 }).unwrap().word;
     assert_eq!(format!("{near} {near:.1} {near:.60}"), format!("~1.0 ~1.0 ~1.{:060}", 0));
 }
 
@@ -84,6 +84,13 @@ fn fields_are_filled_as_those_of_numbers() {
     assert_eq!(format!("[{up:+}] [{up:+06}] [{ten:+}] [{ten:05}] [{ten:+07.1}]"), "[+0.5] [+000.5] [+10] [00010] [+0010.0]");
     assert_eq!(format!("[{tenth:+}] [{tenth:+07.1}] [{:07}] [{tenth:>+7}]", -tenth), "[~+0.1] [~+000.1] [~-000.1] [  ~+0.1]");
     assert_eq!(format!("[{nar:+}] [{nar:06}] [{nar:+06.1}]"), "[NaR] [   NaR] [   NaR]");
+}
+
+#[test]
+fn sayings_are_texts() {
+    let sayings = [Saying::Exact, Saying::Below, Saying::Above, Saying::PastTheEnd];
+    assert_eq!(sayings.map(|saying| saying.to_string()), ["exact", "below", "above", "past the end"]);
+    assert_eq!(format!("[{:7}] [{:>7}] [{:?}]", Saying::Exact, Saying::Below, Saying::PastTheEnd), "[exact  ] [  below] [PastTheEnd]");
 }
 
 #[test]

@@ -1,5 +1,5 @@
 //! Widths, the words that belong to them, and the crate's version.
-use ledusprig::{Kind, Reading, Rule, Takum, Width, VERSION, ZERO};
+use ledusprig::{Kind, Reading, Rule, Saying, Takum, Width, Written, VERSION, ZERO};
 
 #[test]
 fn the_widths_of_sheets_are_constants() {
@@ -14,7 +14,7 @@ fn zero_is_what_the_library_writes_for_it() {
     assert_eq!(EMPTY.word(), ZERO);
     for bits in 2..=64 {
         let width = Width::new(bits).unwrap();
-        assert_eq!(width.write_whole(Rule::Strict, 0), Ok(width.zero()));
+        assert_eq!(width.write_whole(Rule::Strict, 0), Ok(Written { word: width.zero(), saying: Saying::Exact }));
         assert_eq!(width.zero().read(), Reading { kind: Kind::Zero, own: 0 });
     }
 }
@@ -32,7 +32,7 @@ fn zero_and_nar_are_told_apart_from_all_others() {
 fn zeros_that_are_appended_are_no_fraction_bits_of_a_word() {
     for bits in 2..=64_u32 {
         let width = Width::new(bits).unwrap();
-        let (one, largest) = (width.write_whole(Rule::Strict, 1).unwrap(), width.largest());
+        let (one, largest) = (Takum::try_from((width, 1_i64)).unwrap(), width.largest());
         assert_eq!((fraction_bits(one), one.read().own), (Some(bits.max(12) - 5), bits.saturating_sub(5)));
         assert_eq!(width.nar().read(), Reading { kind: Kind::Nar, own: 0 });
         if bits >= 5 {

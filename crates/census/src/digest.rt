@@ -1,5 +1,6 @@
 // A digest: it takes in one number after another, so that a change in one number always changes it. A sequence is made the same way.
 use bounds::answer::Answer;
+use bounds::answer::Written;
 use bounds::refusal::Refusal;
 
 // D0 of docs/CENSUS.md: the digest that has taken in nothing.
@@ -41,5 +42,13 @@ pub fn take_answer(digest: u64, answer: Answer) -> u64 {
     match answer {
         Answer::Word(word) => take_kind(digest, 0, word),
         Answer::Refused(refusal) => take_refusal(digest, refusal),
+    }
+}
+
+// A word that was written or moved comes with its saying.
+pub fn take_written(digest: u64, written: Written) -> u64 {
+    match written {
+        Written::Word { word, saying } => take(take_kind(digest, 0, word), saying.number() as u64),
+        Written::Refused(refusal) => take_refusal(digest, refusal),
     }
 }

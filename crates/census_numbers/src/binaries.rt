@@ -9,7 +9,7 @@ use crate::patterns::drawn_of_words;
 use crate::patterns::drawn_pattern;
 use crate::patterns::pattern_out;
 use crate::ways::take_binary64_in;
-use crate::ways::word_or;
+use bounds::answer::Answer;
 use bounds::width::Width;
 use census::bits::TOP_BIT;
 use census::digest::EMPTY;
@@ -59,10 +59,17 @@ pub(crate) fn take_two(digest: u64, n: u32, place: u64) -> u64
 pub(crate) fn print_extreme(name: &[u8], n: u32)
     requires { ⌜ (2 ≤ n) × (n ≤ 64) ⌝ }
 {
-    let largest = word_or((Width { bits: n }).largest(), 0);
     let after_numbers = take_extreme_numbers(n);
     let after_smallest = take_beside_word(after_numbers, n, 1);
-    print_of_one(name, n, take_beside_word(after_smallest, n, largest));
+    print_of_one(name, n, take_beside_word(after_smallest, n, largest_of(n)));
+}
+
+// Where the library refuses it, the word 0 has to show it.
+fn largest_of(n: u32) -> u64 {
+    match (Width { bits: n }).largest() {
+        Answer::Word(word) => word,
+        Answer::Refused(_) => 0,
+    }
 }
 
 fn take_extreme_numbers(n: u32) -> u64

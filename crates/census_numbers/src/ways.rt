@@ -5,9 +5,9 @@ use crate::numbers::number_of;
 use crate::numbers::whole_of;
 use binary64::taking::take_binary64;
 use binary64::writing::write_binary64;
-use bounds::answer::Answer;
+use bounds::answer::Written;
 use bounds::width::Width;
-use census::digest::take_answer;
+use census::digest::take_written;
 use round::value::Rule;
 use whole::taking::Taking;
 use whole::taking::take_whole;
@@ -17,16 +17,16 @@ use whole::writing::write_whole;
 pub(crate) fn take_whole_in(digest: u64, n: u32, bits: u64) -> u64 {
     let width = Width { bits: n };
     let z = whole_of(bits);
-    let after_rounded = take_answer(digest, write_whole(width, Rule::Rounded, z));
-    take_answer(after_rounded, write_whole(width, Rule::Strict, z))
+    let after_rounded = take_written(digest, write_whole(width, Rule::Rounded, z));
+    take_written(after_rounded, write_whole(width, Rule::Strict, z))
 }
 
 // The ways in of the binary64 number of a pattern.
 pub(crate) fn take_binary64_in(digest: u64, n: u32, pattern: u64) -> u64 {
     let width = Width { bits: n };
     let x = number_of(pattern);
-    let after_rounded = take_answer(digest, write_binary64(width, Rule::Rounded, x));
-    take_answer(after_rounded, write_binary64(width, Rule::Strict, x))
+    let after_rounded = take_written(digest, write_binary64(width, Rule::Rounded, x));
+    take_written(after_rounded, write_binary64(width, Rule::Strict, x))
 }
 
 // The ways out of a word.
@@ -43,10 +43,10 @@ pub(crate) fn take_round(digest: u64, n: u32, bits: u64) -> u64 {
     take_out(take_whole_in(digest, n, bits), n, word_or(written, 0))
 }
 
-// The word of an answer, or another where the library has refused; what is taken in of it has to show a wrong refusal.
-pub(crate) fn word_or(answer: Answer, other: u64) -> u64 {
-    match answer {
-        Answer::Word(word) => word,
-        Answer::Refused(_) => other,
+// The word that was written, or another where the library has refused; what is taken in of it has to show a wrong refusal.
+pub(crate) fn word_or(written: Written, other: u64) -> u64 {
+    match written {
+        Written::Word { word, saying: _ } => word,
+        Written::Refused(_) => other,
     }
 }

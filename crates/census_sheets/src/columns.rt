@@ -7,9 +7,11 @@ use bounds::width::Width;
 use census::bits::low_bits;
 use census::bits::power_of_two;
 use census::digest::scramble;
+use census::digest::take;
 use census::digest::take_kind;
 use census::digest::take_refusal;
 use column::moving::Column;
+use column::moving::MovedColumn;
 use column::moving::move_column;
 use round::value::Rule;
 ghost use Prim.Native.Nat.{_≤_};
@@ -123,9 +125,11 @@ fn take_lent(digest: u64, rule: Rule, column: &[u64], shape: Shape, room: usize)
     take_row(take_column(digest, moved), &row, end + BESIDE)
 }
 
-fn take_column(digest: u64, column: Column) -> u64 {
-    match column {
-        Column::Moved(count) => take_kind(digest, 0, count as u64),
+// How many were exact comes last; a refused column has none.
+fn take_column(digest: u64, moved: MovedColumn) -> u64 {
+    let answer = moved.answer;
+    match answer {
+        Column::Moved(count) => take(take_kind(digest, 0, count as u64), moved.exact as u64),
         Column::Refused(refusal) => take_refusal(digest, refusal),
         Column::RefusedAt { position, refusal } => take_refusal_at(digest, position, refusal),
     }

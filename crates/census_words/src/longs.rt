@@ -1,7 +1,7 @@
 // Long values: the four roundings of one, and part 43, those of drawn ones.
 use bounds::width::Width;
 use census::digest::scramble;
-use census::digest::take_answer;
+use census::digest::take_written;
 use census::exponent::ORIGIN;
 use census::exponent::exponent;
 use census::run::Run;
@@ -42,8 +42,8 @@ pub(crate) fn take_roundings(digest: u64, n: u32, high: u64, low: u64, k: i32) -
 
 fn take_both_rules(digest: u64, n: u32, value: LongValue) -> u64 {
     let width = Width { bits: n };
-    let after_rounded = take_answer(digest, write_long(width, Rule::Rounded, value));
-    take_answer(after_rounded, write_long(width, Rule::Strict, value))
+    let after_rounded = take_written(digest, write_long(width, Rule::Rounded, value));
+    take_written(after_rounded, write_long(width, Rule::Strict, value))
 }
 
 // Part 43. A draw takes four numbers from the sequence.

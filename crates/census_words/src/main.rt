@@ -2,6 +2,7 @@
 mod answers;
 mod draws;
 mod edges;
+mod ends;
 mod facts;
 mod farther;
 mod longs;
@@ -66,7 +67,7 @@ fn print_writings() {
     print_everywhere(b"strayed", Part::Strays(Asked::Moving));
 }
 
-// Parts 41 to 44.
+// Parts 41 to 44, and then part 52, of short and of long values.
 fn print_long_values() {
     print_part(b"midway", Part::Runs(Subject::Midway), 3, WIDEST_WHOLE);
     print_part(
@@ -77,4 +78,5 @@ fn print_long_values() {
     );
     print_everywhere(b"long", Part::Runs(Subject::Long));
     print_at_all_widths(b"farther");
+    print_everywhere(b"ends", Part::Ends);
 }

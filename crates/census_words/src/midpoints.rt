@@ -52,7 +52,7 @@ fn take_midpoint(digest: u64, n: u32, low: Size, high: Size) -> u64
 }
 
 // A size itself, just below it and just above it.
-fn take_around(digest: u64, n: u32, size: Size) -> u64
+pub(crate) fn take_around(digest: u64, n: u32, size: Size) -> u64
     requires { ⌜ (300 ≤ size .place) × (size .place ≤ 1500) ⌝ }
 {
     let full = full_size(size);

@@ -63,8 +63,8 @@ fn midpoint(low: Size, high: Size) -> Long
     }
 }
 
-// The lowest bit of a midpoint is 0, so one more changes nothing else.
-fn one_more(long: Long) -> Long
+// The lowest bit of a word's size in 128 bits, and that of a midpoint, is 0, so one more changes nothing else.
+pub(crate) fn one_more(long: Long) -> Long
     ensures { λ r. ⌜ r .place ≤ long .place ⌝ }
 {
     Long {
@@ -74,7 +74,7 @@ fn one_more(long: Long) -> Long
     }
 }
 
-fn one_less(long: Long) -> Long
+pub(crate) fn one_less(long: Long) -> Long
     ensures { λ r. ⌜ r .place ≤ long .place ⌝ }
 {
     if long.low == 0 {

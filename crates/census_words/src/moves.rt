@@ -1,6 +1,6 @@
 // Part 9: the moves of a word to other widths, each rounded and strict.
 use bounds::width::Width;
-use census::digest::take_answer;
+use census::digest::take_written;
 use round::value::Rule;
 use write::moving::move_word;
 ghost use Prim.Native.Nat.{_≤_};
@@ -48,6 +48,6 @@ fn take_wide_moves(start: u64, from: u32, word: u64) -> u64 {
 pub(crate) fn take_moves(digest: u64, from: u32, to: u32, word: u64) -> u64 {
     let source = Width { bits: from };
     let target = Width { bits: to };
-    let after_rounded = take_answer(digest, move_word(source, target, Rule::Rounded, word));
-    take_answer(after_rounded, move_word(source, target, Rule::Strict, word))
+    let after_rounded = take_written(digest, move_word(source, target, Rule::Rounded, word));
+    take_written(after_rounded, move_word(source, target, Rule::Strict, word))
 }

@@ -1,4 +1,5 @@
 // The parts that go from width to width: one loop serves them all.
+use crate::ends::print_ends;
 use crate::farther::print_farther;
 use crate::past::print_past;
 use crate::refused::Asked;
@@ -17,6 +18,7 @@ pub(crate) enum Part {
     Strays(Asked),
     Past,
     Farther,
+    Ends,
 }
 
 // Prints a part at every width.
@@ -55,5 +57,6 @@ fn print_at(name: &[u8], part: Part, n: u32)
         Part::Strays(asked) => print_strays(name, asked, n),
         Part::Past => print_past(name, n),
         Part::Farther => print_farther(name, n),
+        Part::Ends => print_ends(name, n),
     }
 }

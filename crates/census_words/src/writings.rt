@@ -1,7 +1,7 @@
 // The four writings of a size: with either sign, rounded and strict.
 use crate::offers::Size;
 use bounds::width::Width;
-use census::digest::take_answer;
+use census::digest::take_written;
 use census::exponent::exponent;
 use round::value::Rule;
 use write::value::Value;
@@ -30,6 +30,6 @@ pub(crate) fn take_writings(digest: u64, n: u32, m: u64, k: i32) -> u64 {
 }
 
 fn take_both_rules(digest: u64, width: Width, value: Value) -> u64 {
-    let after_rounded = take_answer(digest, write(width, Rule::Rounded, value));
-    take_answer(after_rounded, write(width, Rule::Strict, value))
+    let after_rounded = take_written(digest, write(width, Rule::Rounded, value));
+    take_written(after_rounded, write(width, Rule::Strict, value))
 }

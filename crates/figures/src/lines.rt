@@ -3,8 +3,9 @@ use crate::text::print_bytes;
 use crate::text::print_hex;
 use crate::text::print_number;
 use crate::value::print_value;
-use bounds::answer::Answer;
+use bounds::answer::Written;
 use bounds::refusal::Refusal;
+use bounds::saying::Saying;
 use bounds::width::Limit;
 use bounds::width::Made;
 use bounds::width::Width;
@@ -70,7 +71,7 @@ pub(crate) fn print_writing(n: u32, rule: Rule, value: Value) {
     print_width(n);
     print_bytes(b" writing ");
     print_value(value.negative, value.k, value.m, 0);
-    print_answer(rule, write(Width { bits: n }, rule, value));
+    print_written(rule, write(Width { bits: n }, rule, value));
 }
 
 pub(crate) fn print_move(from: u32, to: u32, rule: Rule, word: u64) {
@@ -81,23 +82,33 @@ pub(crate) fn print_move(from: u32, to: u32, rule: Rule, word: u64) {
     print_width(to);
     let source = Width { bits: from };
     let target = Width { bits: to };
-    print_answer(rule, move_word(source, target, rule, word));
+    print_written(rule, move_word(source, target, rule, word));
 }
 
 // The rest of a line, from the rule on.
-pub(crate) fn print_answer(rule: Rule, answer: Answer) {
+pub(crate) fn print_written(rule: Rule, written: Written) {
     print_rule(rule);
-    match answer {
-        Answer::Word(word) => {
+    match written {
+        Written::Word { word, saying } => {
             print_bytes(b" gives ");
             print_hex(word);
+            print_saying(saying);
         }
-        Answer::Refused(refusal) => {
+        Written::Refused(refusal) => {
             print_bytes(b" is ");
             print_refusal(refusal);
         }
     }
     print_bytes(b"\n");
+}
+
+fn print_saying(saying: Saying) {
+    match saying {
+        Saying::Exact => print_bytes(b", exact"),
+        Saying::Below => print_bytes(b", below"),
+        Saying::Above => print_bytes(b", above"),
+        Saying::PastTheEnd => print_bytes(b", past the end"),
+    }
 }
 
 fn print_rule(rule: Rule) {

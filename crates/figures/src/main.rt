@@ -33,6 +33,7 @@ fn main() {
     print_own_bits_of_tags();
     print_own_bits_below_12();
     print_own_bits_from_12();
+    print_sayings();
 }
 
 fn print_words() {
@@ -250,6 +251,96 @@ fn print_own_bits_from_12() {
     print_own_bits(64, 0);
     print_own_bits(64, 0x8000_0000_0000_0000);
     print_own_bits(64, 1);
+}
+
+// Which way a value went, by each of the calls that write or move.
+fn print_sayings() {
+    print_sayings_of_tallies();
+    print_sayings_at_the_largest();
+    print_sayings_at_the_smallest();
+    print_sayings_of_narrow_words();
+    print_sayings_of_moves();
+    print_sayings_of_whole_numbers();
+    print_sayings_of_binary64();
+}
+
+// A true 512 and a rounded 513; below zero the word of -512 is above -513.
+fn print_sayings_of_tallies() {
+    print_rounded(16, plus(513, 0));
+    print_rounded(16, plus(1, 9));
+    print_rounded(16, minus(513, 0));
+    print_rounded(16, minus(515, 0));
+}
+
+// 31 * 2^250 has the largest word. What is beyond it is past the end, however little, and what is short of it is below.
+fn print_sayings_at_the_largest() {
+    print_rounded(16, minus(1, 300));
+    print_rounded(16, plus(31, 250));
+    print_rounded(16, minus(31, 250));
+    print_strict(16, plus(31, 250));
+    print_rounded(16, plus(0xffff_ffff_ffff_ffff, 190));
+    print_rounded(16, plus(0xf800_0000_0000_0001, 191));
+    print_rounded(16, plus(0xf7ff_ffff_ffff_ffff, 191));
+}
+
+// 17 * 2^-259 has the smallest word, and zero is exact.
+fn print_sayings_at_the_smallest() {
+    print_rounded(16, plus(17, -259));
+    print_rounded(16, minus(17, -259));
+    print_rounded(16, plus(33, -260));
+    print_rounded(16, minus(33, -260));
+    print_rounded(16, plus(35, -260));
+    print_rounded(16, minus(35, -260));
+    print_rounded(16, plus(0, 0));
+    print_rounded(16, minus(0, 0));
+}
+
+// At width 2 only 1 and -1 are within the ends; at width 8 words lie far apart there.
+fn print_sayings_of_narrow_words() {
+    print_rounded(2, minus(3, 0));
+    print_rounded(2, minus(1, 0));
+    print_rounded(2, plus(1, -1));
+    print_strict(2, plus(1, 0));
+    print_rounded(8, minus(1, 231));
+    print_rounded(8, plus(1, 239));
+    print_rounded(8, plus(3, 238));
+    print_rounded(8, plus(1, -239));
+    print_rounded(8, plus(3, -241));
+}
+
+fn print_sayings_of_moves() {
+    print_move(16, 8, Rule::Rounded, 0x5a01);
+    print_move(16, 8, Rule::Rounded, 0x8000);
+    print_move(16, 8, Rule::Rounded, 0);
+    print_move(16, 8, Rule::Rounded, 0x7fff);
+    print_move(16, 8, Rule::Rounded, 1);
+    print_move(16, 64, Rule::Rounded, 0xa600);
+    print_move(64, 16, Rule::Rounded, 0x5a00_8000_0000_0000);
+    print_move(64, 16, Rule::Rounded, 0xa5ff_8000_0000_0000);
+    print_move(32, 16, Rule::Rounded, 0x5a01_8000);
+}
+
+fn print_sayings_of_whole_numbers() {
+    print_whole_in(16, Rule::Rounded, 513);
+    print_whole_in(16, Rule::Rounded, 512);
+    print_whole_in(16, Rule::Rounded, -513);
+    print_whole_in(16, Rule::Rounded, -515);
+    print_whole_in(32, Rule::Rounded, 515);
+    print_whole_in(16, Rule::Rounded, 0);
+    print_whole_in(2, Rule::Rounded, 3);
+    print_whole_in(2, Rule::Rounded, 1);
+}
+
+// 515 and -513, the infinities and NaN, negative zero, the least number and -2^-1074.
+fn print_sayings_of_binary64() {
+    print_binary64_in(16, Rule::Rounded, 515.0);
+    print_binary64_in(16, Rule::Rounded, -513.0);
+    print_binary64_in(16, Rule::Rounded, f64::from_bits(0x7ff0_0000_0000_0000));
+    print_binary64_in(16, Rule::Rounded, f64::from_bits(0xfff0_0000_0000_0000));
+    print_binary64_in(16, Rule::Rounded, 0.0 / 0.0);
+    print_binary64_in(16, Rule::Rounded, -0.0);
+    print_binary64_in(16, Rule::Rounded, f64::from_bits(0xffef_ffff_ffff_ffff));
+    print_binary64_in(16, Rule::Rounded, f64::from_bits(0x8000_0000_0000_0001));
 }
 
 fn plus(m: u64, k: i32) -> Value {

@@ -1,8 +1,8 @@
 // Lines of whole numbers and of binary64: what goes in or out, and the answer.
-use crate::lines::print_answer;
 use crate::lines::print_refusal;
 use crate::lines::print_width;
 use crate::lines::print_word_of_width;
+use crate::lines::print_written;
 use crate::text::print_bytes;
 use crate::text::print_hex;
 use crate::text::print_signed;
@@ -20,7 +20,7 @@ pub(crate) fn print_whole_in(n: u32, rule: Rule, x: i64) {
     print_width(n);
     print_bytes(b" whole number ");
     print_signed(x);
-    print_answer(rule, write_whole(Width { bits: n }, rule, x));
+    print_written(rule, write_whole(Width { bits: n }, rule, x));
 }
 
 pub(crate) fn print_whole_out(n: u32, rule: Taking, word: u64) {
@@ -46,7 +46,7 @@ pub(crate) fn print_binary64_in(n: u32, rule: Rule, x: f64) {
     print_width(n);
     print_bytes(b" binary64 ");
     print_pattern(x);
-    print_answer(rule, write_binary64(Width { bits: n }, rule, x));
+    print_written(rule, write_binary64(Width { bits: n }, rule, x));
 }
 
 pub(crate) fn print_binary64_out(n: u32, word: u64) {

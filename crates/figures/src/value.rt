@@ -2,22 +2,26 @@
 use crate::text::print_bytes;
 use crate::text::print_number;
 use crate::text::print_signed;
+ghost use Prim.Native.Nat.{_<_};
 
 // The size is m * 2^(h - p).
 pub(crate) fn print_value(negative: bool, h: i32, m: u64, p: u32) {
     if negative {
         print_bytes(b"-");
     }
-    let twos = u64::trailing_zeros(m);
-    print_number(odd_part(m, twos));
+    let twos = twos_in(m);
+    print_number(m >> twos);
     print_bytes(b" * 2^");
     print_signed(exponent(h, p, twos));
 }
 
-// What is left of m once its factors two are taken out. Only zero has 64 of them, and it stays zero.
-fn odd_part(m: u64, twos: u32) -> u64 {
+// How many factors two m has. Zero, which has no end of them, stays as it is.
+fn twos_in(m: u64) -> u32
+    ensures { λ r. ⌜ r < 64 ⌝ }
+{
+    let twos = u64::trailing_zeros(m);
     if twos < 64 {
-        return m >> twos;
+        return twos;
     }
     0
 }

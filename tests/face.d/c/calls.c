@@ -24,6 +24,13 @@ static void put_word(answer *to, takum_word_answer got) {
     }
 }
 
+static void put_saying(answer *to, takum_saying_answer got) {
+    if (!put_refusal(to, got.refusal, got.saying == 0 && got.word == 0)) {
+        put_hex(to, "word ", got.word);
+        put_lower(to, " ", takum_saying_name(got.saying));
+    }
+}
+
 /* The header says that every number but 0 is strict, so each strict call takes another one. */
 static unsigned strict_in_turn(void) {
     static const unsigned numbers[] = {TAKUM_STRICT, TAKUM_TAKE_STRICT, 2, 0x100, 0x80000000, 0xffffffff};
@@ -124,20 +131,20 @@ void of_write(given *from, answer *to) {
     takum_rule rule = take_rule(from);
     bool negative = take_choice(from, "plus", "minus");
     uint64_t m = take_number(from);
-    put_word(to, takum_write(n, rule, negative, m, (int32_t)take_signed(from)));
+    put_saying(to, takum_write(n, rule, negative, m, (int32_t)take_signed(from)));
 }
 
 void of_move(given *from, answer *to) {
     uint32_t source = take_width(from);
     uint32_t target = take_width(from);
     takum_rule rule = take_rule(from);
-    put_word(to, takum_move(source, target, rule, take_number(from)));
+    put_saying(to, takum_move(source, target, rule, take_number(from)));
 }
 
 void of_write_whole(given *from, answer *to) {
     uint32_t n = take_width(from);
     takum_rule rule = take_rule(from);
-    put_word(to, takum_write_whole(n, rule, take_signed(from)));
+    put_saying(to, takum_write_whole(n, rule, take_signed(from)));
 }
 
 void of_take_whole(given *from, answer *to) {
@@ -162,7 +169,7 @@ void of_write_binary64(given *from, answer *to) {
     uint32_t n = take_width(from);
     takum_rule rule = take_rule(from);
     uint64_t pattern = take_number(from);
-    put_word(to, takum_write_binary64(n, rule, number_of(pattern)));
+    put_saying(to, takum_write_binary64(n, rule, number_of(pattern)));
     if (is_signalling(pattern)) {
         lower_invalid();
     }

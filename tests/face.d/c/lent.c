@@ -56,13 +56,14 @@ void of_move_column(given *from, answer *to) {
     takum_column_answer got = takum_move_column(source, target, rule, lent + GUARDS, count, results, room);
 
     bool has_position = got.refusal == TAKUM_STRAY || got.refusal == TAKUM_INEXACT;
-    if (put_refusal(to, got.refusal, got.moved == 0 && (has_position || got.position == 0))) {
+    if (put_refusal(to, got.refusal, got.moved == 0 && got.exact == 0 && (has_position || got.position == 0))) {
         if (has_position) {
             put_number(to, " at ", got.position);
         }
         put_changes(to, room, 0);
     } else {
         put_number(to, "moved ", got.moved);
+        put_number(to, " exact ", got.exact);
         put_words(to, " ", results, got.moved <= room ? got.moved : room);
         if (got.position != 0) {
             put(to, " beside a position that is not zero");

@@ -168,6 +168,14 @@ void put(answer *to, const char *text) {
     to->length += length;
 }
 
+void put_lower(answer *to, const char *before, const char *name) {
+    put(to, before);
+    for (; *name != '\0'; name++) {
+        char letter[] = {(char)(*name >= 'A' && *name <= 'Z' ? *name - 'A' + 'a' : *name), '\0'};
+        put(to, letter);
+    }
+}
+
 enum { MOST_DIGITS = 20 };
 
 static void put_digits(answer *to, uint64_t number, unsigned base) {

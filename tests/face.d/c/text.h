@@ -35,6 +35,7 @@ typedef struct answer {
 } answer;
 
 void put(answer *to, const char *text);
+void put_lower(answer *to, const char *before, const char *name); /* a name, in small letters */
 void put_number(answer *to, const char *before, uint64_t number);
 void put_signed(answer *to, const char *before, int64_t number);
 void put_hex(answer *to, const char *before, uint64_t number);

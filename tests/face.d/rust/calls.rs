@@ -1,8 +1,8 @@
 //! The calls of one word, each by plain numbers and by the types, which must answer the same.
-use crate::text::{put, stop, Given};
+use crate::text::{put, put_saying, stop, Given};
 use std::cmp::Ordering;
 use std::fmt::{Debug, Write};
-use ledusprig::{calls, Kind, Reading, Refusal, Rule, Taking, Takum, Value, Width, BLOCK_SIZE, BLOCK_WORDS};
+use ledusprig::{calls, Kind, Reading, Refusal, Rule, Saying, Taking, Takum, Value, Width, Written, BLOCK_SIZE, BLOCK_WORDS};
 
 /// The answer by plain numbers; where the one by the types is another, the text says so.
 pub fn same<T: PartialEq + Debug>(to: &mut String, plain: T, typed: T) -> T {
@@ -15,6 +15,14 @@ pub fn same<T: PartialEq + Debug>(to: &mut String, plain: T, typed: T) -> T {
 fn put_word(to: &mut String, plain: Result<u64, Refusal>, typed: Result<Takum, Refusal>) {
     let answer = same(to, plain, typed.map(Takum::word));
     put(to, answer, |to, word| write!(to, "word {word:#x}"));
+}
+
+fn put_written(to: &mut String, plain: Result<Written, Refusal>, typed: Result<Written<Takum>, Refusal>) {
+    let answer = same(to, plain, typed.map(|Written { word, saying }| Written { word: word.word(), saying }));
+    put(to, answer, |to, Written { word, saying }| {
+        write!(to, "word {word:#x} ")?;
+        put_saying(to, saying)
+    });
 }
 
 pub fn rule(given: &mut Given) -> Rule {
@@ -40,6 +48,11 @@ fn same_by_conversion<T: PartialEq>(to: &mut String, is_one: bool, typed: T, con
         to.push_str("by conversion another, and ");
     }
     typed
+}
+
+/// What is converted is exact.
+fn exactly(word: Takum) -> Written<Takum> {
+    Written { word, saying: Saying::Exact }
 }
 
 pub fn constant(given: &mut Given, to: &mut String) {
@@ -110,7 +123,7 @@ pub fn write(given: &mut Given, to: &mut String) {
     let (n, rule) = (given.width(), rule(given));
     let negative = given.choice(("plus", false), ("minus", true));
     let value = Value { negative, m: given.number(), k: given.signed() as i32 };
-    put_word(to, calls::write(n, rule, value), width(n).and_then(|width| width.write(rule, value)));
+    put_written(to, calls::write(n, rule, value), width(n).and_then(|width| width.write(rule, value)));
 }
 
 pub fn move_word(given: &mut Given, to: &mut String) {
@@ -119,14 +132,14 @@ pub fn move_word(given: &mut Given, to: &mut String) {
         let (source, target) = (Width::new(source)?, Width::new(target)?);
         Takum::new(source, word)?.move_to(target, rule)
     };
-    put_word(to, calls::move_word(source, target, rule, word), typed());
+    put_written(to, calls::move_word(source, target, rule, word), typed());
 }
 
 pub fn write_whole(given: &mut Given, to: &mut String) {
     let (n, rule, x) = (given.width(), rule(given), given.signed());
     let typed = width(n).and_then(|width| width.write_whole(rule, x));
-    let typed = same_by_conversion(to, rule == Rule::Strict, typed, || Takum::try_from((width(n)?, x)));
-    put_word(to, calls::write_whole(n, rule, x), typed);
+    let typed = same_by_conversion(to, rule == Rule::Strict, typed, || Takum::try_from((width(n)?, x)).map(exactly));
+    put_written(to, calls::write_whole(n, rule, x), typed);
 }
 
 pub fn take_whole(given: &mut Given, to: &mut String) {
@@ -142,8 +155,8 @@ pub fn take_whole(given: &mut Given, to: &mut String) {
 pub fn write_binary64(given: &mut Given, to: &mut String) {
     let (n, rule, x) = (given.width(), rule(given), f64::from_bits(given.number()));
     let typed = width(n).and_then(|width| width.write_binary64(rule, x));
-    let typed = same_by_conversion(to, rule == Rule::Strict, typed, || Takum::try_from((width(n)?, x)));
-    put_word(to, calls::write_binary64(n, rule, x), typed);
+    let typed = same_by_conversion(to, rule == Rule::Strict, typed, || Takum::try_from((width(n)?, x)).map(exactly));
+    put_written(to, calls::write_binary64(n, rule, x), typed);
 }
 
 pub fn take_binary64(given: &mut Given, to: &mut String) {

@@ -2,7 +2,7 @@
 use crate::calls::{rule, same};
 use crate::text::{put, put_bytes, put_words, Given};
 use std::fmt::Write;
-use ledusprig::{calls, Width};
+use ledusprig::{calls, MovedColumn, Width};
 
 const GUARDS: usize = 8;
 
@@ -56,14 +56,14 @@ pub fn move_column(given: &mut Given, to: &mut String) {
     });
     let (answer, row) = same(to, plain, typed);
     let position = answer.err().and_then(|refused| refused.position);
-    put(to, answer.map_err(|refused| refused.refusal), |to, moved| {
-        write!(to, "moved {moved} ")?;
+    put(to, answer.map_err(|refused| refused.refusal), |to, MovedColumn { moved, exact }| {
+        write!(to, "moved {moved} exact {exact} ")?;
         put_words(to, &row[GUARDS..GUARDS + moved])
     });
     if let Some(position) = position {
         write!(to, " at {position}").expect("a text takes all that is put");
     }
-    put_changes(to, &row, answer.unwrap_or(0));
+    put_changes(to, &row, answer.map_or(0, |column| column.moved));
     put_difference(to, &column, &copy);
 }
 

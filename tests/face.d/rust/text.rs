@@ -1,7 +1,7 @@
 //! The text of a case, taken apart and put together.
 use std::borrow::Cow;
 use std::fmt::Write;
-use ledusprig::Refusal;
+use ledusprig::{Refusal, Saying};
 
 /// Ends the program: the case can't be understood.
 pub fn stop(why: &str, text: &str) -> ! {
@@ -145,6 +145,21 @@ pub fn put<T>(to: &mut String, answer: Result<T, Refusal>, text: impl FnOnce(&mu
         Err(refusal) => put_refusal(to, refusal),
     }
     .expect("a text takes all that is put");
+}
+
+/// What is said of a word, by the variant; where the bindings show it by another text, that is put too.
+pub fn put_saying(to: &mut String, saying: Saying) -> std::fmt::Result {
+    let text = match saying {
+        Saying::Exact => "exact",
+        Saying::Below => "below",
+        Saying::Above => "above",
+        Saying::PastTheEnd => "past_the_end",
+    };
+    to.push_str(text);
+    if saying.to_string() != text.replace('_', " ") {
+        write!(to, ", which the bindings show as {saying}")?;
+    }
+    Ok(())
 }
 
 pub fn put_words(to: &mut String, words: &[u64]) -> std::fmt::Result {

@@ -185,6 +185,18 @@ module _ (h : ℤ) (raised bits P K : ℕ) (binade : Binade h raised bits P K) (
             ∙ size-in-binade h raised bits P K binade (c * 2 ^ (64 - n)) (le-trans (mul-le-mul-right (2 ^ (64 - n)) l) (le-of-eq halves)) (subst (λ (y : ℕ). y < 2 ^ 63) (raised-word c) room)
             ∙ ap (λ (y : ℕ). y * 2 ^ K) (omega (arith, halves))
 
+        one-more : 2 ^ (P - (64 - n)) * 2 ^ cut ≡ 2 ^ 63
+        unfolding cut
+        one-more = pow-sum (P - (64 - n)) cut 63 (omega (arith, most, fine))
+
+        -- the significand is Q coarse units and the bits that are cut off
+        parts : m ≡ Q * 2 ^ cut + m % 2 ^ cut
+        unfolding Q
+        parts = sym (split m cut) ∙ ap (λ (y : ℕ). y * 2 ^ cut + m % 2 ^ cut) (ap (λ (y : ℕ). y / 2 ^ cut) whole-m ∙ mul-add-div-right (pow-pos cut) (2 ^ (P - (64 - n))) (m - 2 ^ 63))
+          where
+            whole-m : m ≡ 2 ^ (P - (64 - n)) * 2 ^ cut + (m - 2 ^ 63)
+            whole-m = omega (arith, one-more, full)
+
         -- both neighbours
         module _ (room : suc (floorString bits P m / 2 ^ (64 - n)) < 2 ^ (n - 1)) (first : zero < floorString bits P m / 2 ^ (64 - n)) where
           at-low : grown n (floorString bits P m / 2 ^ (64 - n)) ≡ Q * 2 ^ (64 - n) * 2 ^ K
@@ -203,6 +215,25 @@ module _ (h : ℤ) (raised bits P K : ℕ) (binade : Binade h raised bits P K) (
               next : suc (floorString bits P m / 2 ^ (64 - n)) ≡ bits * 2 ^ (P - (64 - n)) + suc ((m - 2 ^ 63) / 2 ^ cut)
               next = ap suc word-is ∙ omega arith
 
+          -- the lower one is the size itself where nothing is cut off, and else below it
+          low-amount : grown n (floorString bits P m / 2 ^ (64 - n)) * b * den x ≡ Q * 2 ^ cut * unit
+          unfolding cut
+          low-amount =
+              ap (λ (y : ℕ). y * b * den x) at-low ∙ scaled (Q * 2 ^ (64 - n)) ∙ ap (λ (y : ℕ). y * unit) (mul-assoc Q (2 ^ (64 - n)) (2 ^ (63 - P)) ∙ ap (λ (y : ℕ). Q * y) (pow-sum (64 - n) (63 - P) cut (add-comm (64 - n) (63 - P))))
+
+          pub fine-exact : m % 2 ^ (63 - P + (64 - n)) ≡ 0 → rest ≡ Rest.Nothing → grown n (floorString bits P m / 2 ^ (64 - n)) * b ≡ a
+          unfolding Amounts cut
+          fine-exact none nothing =
+              eq-of-mul-eq-mul-right (den x) (unit-some x .1) _ a (low-amount ∙ ap (λ (y : ℕ). y * unit) (omega (arith, parts, none)) ∙ sym (subst (λ (r : Rest). Amounts m r (a * den x) unit) nothing amounts))
+
+          pub fine-finer : (zero < m % 2 ^ (63 - P + (64 - n))) ⊎ (rest ≡ Rest.Nothing → ⊥) → grown n (floorString bits P m / 2 ^ (64 - n)) * b < a
+          unfolding cut
+          fine-finer more = lt-of-mul-lt-mul-right (den x) (lt-of-le-of-lt (le-of-eq low-amount) (by more))
+            where
+              by : (zero < m % 2 ^ (63 - P + (64 - n))) ⊎ (rest ≡ Rest.Nothing → ⊥) → Q * 2 ^ cut * unit < a * den x
+              by (inl some-bits) = lt-of-lt-of-le (mul-lt-mul-of-pos-right (omega (arith, parts, some-bits)) unit-is-some) (bounds .low)
+              by (inr some-rest) = lt-of-le-of-lt (mul-le-mul-right unit (omega (arith, parts))) (past-unit m rest unit (a * den x) unit-is-some amounts some-rest)
+
           -- the bits that are cut off against their half tell the size against the midpoint
           pub fine-side : (side : Side) → TellsHalf (m % 2 ^ (63 - P + (64 - n))) (2 ^ (62 - P + (64 - n))) rest side → TellsSide side (2 * a) ((grown n (floorString bits P m / 2 ^ (64 - n)) + grown n (suc (floorString bits P m / 2 ^ (64 - n)))) * b)
           unfolding TellsHalf cut Q
@@ -211,18 +242,6 @@ module _ (h : ℤ) (raised bits P K : ℕ) (binade : Binade h raised bits P K) (
               (subst (λ (y : ℕ). TellsSide side y ((grown n (floorString bits P m / 2 ^ (64 - n)) + grown n (suc (floorString bits P m / 2 ^ (64 - n)))) * b * den x)) (sym (mul-assoc 2 a (den x)))
               (subst (TellsSide side (2 * (a * den x))) (sym sum) (double side (a * den x) ((Q * 2 ^ cut + 2 ^ (62 - P + (64 - n))) * unit) (t (Q * 2 ^ cut) unit (a * den x) unit-is-some (subst (λ (y : ℕ). Amounts y rest (a * den x) unit) parts amounts)))))
             where
-              one-more : 2 ^ (P - (64 - n)) * 2 ^ cut ≡ 2 ^ 63
-              one-more = pow-sum (P - (64 - n)) cut 63 (omega (arith, most, fine))
-
-              quotient : m / 2 ^ cut ≡ Q
-              quotient = ap (λ (y : ℕ). y / 2 ^ cut) whole-m ∙ mul-add-div-right (pow-pos cut) (2 ^ (P - (64 - n))) (m - 2 ^ 63)
-                where
-                  whole-m : m ≡ 2 ^ (P - (64 - n)) * 2 ^ cut + (m - 2 ^ 63)
-                  whole-m = omega (arith, one-more, full)
-
-              parts : m ≡ Q * 2 ^ cut + m % 2 ^ cut
-              parts = sym (split m cut) ∙ ap (λ (y : ℕ). y * 2 ^ cut + m % 2 ^ cut) quotient
-
               spread : (q d k b e : ℕ) → (q * d * k + suc q * d * k) * b * e ≡ (q + suc q) * d * k * b * e
               spread q d k b e = omega arith
 

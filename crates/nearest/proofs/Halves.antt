@@ -1,5 +1,6 @@
 -- An exact size (m + rest) units, rest being below one unit, against a half and against the midpoint of two powers of two. Assumes nothing.
 use mathlib.Core.Path.{_≡_, refl, sym, ap, _∙_, subst}
+use mathlib.Core.Bool.{true, false, true≢false}
 use Prim.Native.Nat.{ℕ, zero, _+_, _-_, _*_, _^_, _≤_, _<_}
 use native.Mathlib.Nat.{mul-le-mul-right, mul-lt-mul-of-pos-right, mul-right-comm, lt-of-mul-lt-mul-right, eq-of-mul-eq-mul-right, one-mul, mod-lt, le-antisymm}
 use native.Mathlib.Decide.{decLt}
@@ -10,7 +11,7 @@ use Rattle.bounds.proofs.Powers.{pow-sum, not-more}
 use Rattle.nearest.specs.declared.size.Rest.{Rest}
 use Rattle.nearest.specs.declared.size.Side.{Side}
 use Rattle.nearest.specs.Offers.{Amounts}
-use Rattle.nearest.specs.Parts.{TellsSide, TellsHalf, TellsPowers, chosenOf, marginOf, ChoosesByCut}
+use Rattle.nearest.specs.Parts.{TellsSide, TellsHalf, TellsPowers, chosenOf, marginOf, ChoosesByCut, isNone}
 
 -- the size lies from m units up to m + 1
 pub record Within (m unit a : ℕ) : Type 0 where
@@ -26,6 +27,16 @@ within m Rest.OverHalf unit a h x = record { low = omega (arith, x .0); high = x
 
 neither : (x y : ℕ) → ¬ (x < y) → ¬ (y < x) → y ≡ x
 neither x y f g = le-antisymm (not-more f) (not-more g)
+
+-- a rest is none, or isn't
+pub no-rest : (rest : Rest) → isNone rest ≡ true → rest ≡ Rest.Nothing
+no-rest Rest.Nothing q = refl
+no-rest Rest.UnderHalf q = absurd (true≢false (sym q))
+no-rest Rest.Half q = absurd (true≢false (sym q))
+no-rest Rest.OverHalf q = absurd (true≢false (sym q))
+
+pub some-rest : (rest : Rest) → isNone rest ≡ false → rest ≡ Rest.Nothing → ⊥
+some-rest rest q e = true≢false (sym (ap isNone e) ∙ q)
 
 -- with any rest it is more than m units
 pub past-unit : (m : ℕ) (rest : Rest) (unit a : ℕ) → zero < unit → Amounts m rest a unit → (rest ≡ Rest.Nothing → ⊥) → m * unit < a

@@ -28,5 +28,7 @@ pub mod Hub
 pub mod Classes
 -- which way it lies from the size: one of four, and strings tell it
 pub mod Sayings
+-- both with the sign
+pub mod Signs
 -- two outcomes that the contract allows are equal
 pub mod OneOutcome

@@ -1,13 +1,14 @@
 -- What is said of a word beside a value: one of the four always holds and only one, both negated exchange below and above, and strings tell it.
 -- Assumes nothing.
 use mathlib.Core.Path.{_≡_, refl, sym, ap, ap₂, _∙_, subst}
-use mathlib.Core.Bool.{Bool, true, false, not}
+use mathlib.Core.Bool.{Bool, true, false, not, cond}
 use Prim.Native.Nat.{ℕ, zero, suc, _+_, _-_, _*_, _/_, _%_, _^_, _≤_, _<_}
-use native.Mathlib.Nat.{le-of-lt, le-of-eq, le-trans, lt-of-lt-of-le, lt-of-le-of-lt, lt-irrefl, mul-le-mul-right, mul-lt-mul-of-pos-right, mul-pos, zero-lt-suc, lt-of-not-le}
+use native.Mathlib.Nat.{le-of-lt, le-of-eq, le-trans, lt-of-lt-of-le, lt-of-le-of-lt, lt-irrefl, mul-le-mul-right, mul-lt-mul-of-pos-right, mul-pos, zero-lt-suc, le-antisymm, div-mul-le-self, pos-of-ne-zero, eq-of-mul-eq-mul-right, zero-mul}
 use native.Mathlib.Decide.{decLt}
 use native.Mathlib.Omega.{arith}
-use mathlib.Core.Logic.{_⊎_}
-use borrow.Author.Tests.{lt-ltb, le-ltb}
+use mathlib.Core.Logic.{_⊎_, inl, inr}
+use borrow.Author.Tests.{lt-ltb, le-ltb, eqb-true, eqb-false}
+use lib.Dec.{eqb}
 use lib.IntN.{ℤ, pos, negsuc, negℤ, natAbs, _*ℤ_, _-ℤ_, negℤ-negℤ, pos-ne-negsuc}
 use lib.Signed.{mag}
 use lib.Pow.{pow-pos}
@@ -16,7 +17,7 @@ use Rattle.bounds.specs.declared.saying.Saying.the-variants.{Exact, Below, Abov
 use Rattle.bounds.specs.Refusals.{IsWord}
 use Rattle.bounds.specs.Sayings.{oppositeSaying}
 use Rattle.bounds.specs.Widths.{largest, smallest}
-use Rattle.bounds.proofs.Powers.{shl-below, not-more, twice}
+use Rattle.bounds.proofs.Powers.{shl-out, not-more}
 use Rattle.word.specs.Takum.{real, takum}
 use Rattle.word.specs.Orders.{order, negated, opposite}
 use Rattle.word.specs.Reads.{signedSize}
@@ -28,15 +29,15 @@ use Rattle.nearest.specs.declared.size.Rest.{Rest}
 use Rattle.nearest.specs.declared.size.Start.{Start}
 use Rattle.nearest.specs.Nearest.{HasValue, distance, Nearest}
 use Rattle.nearest.specs.Offers.{IsOffered, IsNearest}
-use Rattle.nearest.specs.Parts.{Begins, firstBits, IsRaised, TellsMore}
+use Rattle.nearest.specs.Parts.{Begins, firstBits, IsRaised, TellsEnd, TellsNothing, sayingOf}
 use Rattle.nearest.specs.Sayings.{Against, IsPastTheEnd, beyond, short, Says, SaysOffered}
-use Rattle.nearest.proofs.Floors.{floorString, floor-lt, floor-size-low, floor-low, floor-high, floor-exact, floor-finer}
+use Rattle.nearest.proofs.Floors.{floorString, floor-lt, floor-size-low, floor-low, floor-high, floor-exact, floor-finer, word-low, word-high, fine-exact, fine-finer}
 use Rattle.nearest.proofs.Hub.{past-all, before-all}
 use Rattle.nearest.proofs.Nearest.{distance-below, distance-above}
 use Rattle.nearest.proofs.Classes.{some-size}
-use Rattle.nearest.proofs.Places.{two, wordOf, has-value, Place, place-of, value-is, size-some, increasing, not-decreasing}
+use Rattle.nearest.proofs.Places.{two, wordOf, has-value, place-of, value-is, size-some, increasing, not-decreasing}
 use Rattle.nearest.proofs.Sides.{floor-is}
-use Rattle.nearest.proofs.Strings.{binade-of}
+use Rattle.nearest.proofs.Strings.{Binade, binade-of}
 
 -- ---- numbers with a sign, times a whole number
 pub negated-times : (x : ℤ) (b : ℕ) → negℤ x *ℤ pos b ≡ negℤ (x *ℤ pos b)
@@ -223,13 +224,12 @@ module _ (n : ℕ) (lo : 2 ≤ n) (hi : n ≤ 64) where
   beyond-said a b v q h = beyond (grown n (2 ^ (n - 1) - 1)) (has-value n lo hi false (2 ^ (n - 1) - 1) last-some last-lt) (subst (λ (y : ℕ). grown n y * b < a) q h)
 
   -- ---- past every characteristic lies no word
-  pub outside-said : (h : ℤ) (m : ℕ) (rest : Rest) (v : ℕ) → 254 < mag h → 2 ^ 63 ≤ m → m < 2 ^ 64 → SaysOffered n h m rest v PastTheEnd
+  pub outside-said : (h : ℤ) (m : ℕ) (rest : Rest) (v : ℕ) → 254 < mag h → 2 ^ 63 ≤ m → m < 2 ^ 64 → SaysOffered n false h m rest v PastTheEnd
   unfolding SaysOffered Says largest smallest wordOf
   outside-said (pos i) m rest v far full top a b some offered = beyond (grown n (2 ^ (n - 1) - 1)) (has-value n lo hi false (2 ^ (n - 1) - 1) last-some last-lt) (past-all n lo hi i m rest far full a b some offered)
   outside-said (negsuc i) m rest v far full top a b some offered = let x = before-all n lo hi i m rest far full top a b some offered in
       short (grown n 1) (has-value n lo hi false 1 (zero-lt-suc 0) first-lt) (x .0) (x .1)
 
-  -- ---- the same by strings: those of the word and of the size, cut to 64 bits
   -- the word that is nearest to a class of sizes is a positive one
   pub is-positive : (h : ℤ) (m : ℕ) (rest : Rest) (v : ℕ) → IsNearest n h m rest v → (zero < v) × (v < 2 ^ (n - 1))
   unfolding IsNearest wordOf
@@ -239,86 +239,173 @@ module _ (n : ℕ) (lo : 2 ≤ n) (hi : n ≤ 64) where
       let p = place-of n lo hi false (x .z) v (x .some) (x .is) in
       (subst (λ (y : ℕ). zero < y) (sym (p .word-is)) (p .first), subst (λ (y : ℕ). y < 2 ^ (n - 1)) (sym (p .word-is)) (p .last))
 
-  module _ (h : ℤ) (e m : ℕ) (rest : Rest) (start : Start) (is : IsRaised h e) (begins : Begins h start) (full : 2 ^ 63 ≤ m) (top : m < 2 ^ 64) (v : ℕ) (near : IsNearest n h m rest v) where
+  -- ---- inside: low is the last word at or below the size, by the first bits of its string
+  module _ (h : ℤ) (e m : ℕ) (rest : Rest) (start : Start) (is : IsRaised h e) (begins : Begins h start) (full : 2 ^ 63 ≤ m) (top : m < 2 ^ 64) (low : ℕ) (low-is : low ≡ firstBits start m / 2 ^ (64 - n)) where
     F : ℕ
     F = floorString (start .bits) (59 - start .r) m
 
-    first : zero < v
-    first = is-positive h m rest v near .0
+    floor : firstBits start m ≡ F
+    unfolding F
+    floor = floor-is start m (begins .regime)
 
-    last : v < 2 ^ (n - 1)
-    last = is-positive h m rest v near .1
+    low-floor : low ≡ F / 2 ^ (64 - n)
+    low-floor = low-is ∙ ap (λ (y : ℕ). y / 2 ^ (64 - n)) floor
 
-    -- where the size goes on behind its string, the two are equal only as far as it reaches
-    pub data Past : Type 0 where
-      over : v * 2 ^ (64 - n) < firstBits start m → Past
-      finer : firstBits start m ≡ v * 2 ^ (64 - n) → TellsMore (start .r) m rest true → Past
+    cut : 63 - (59 - start .r) ≡ 4 + start .r
+    cut = omega (arith, begins .regime)
 
     module _ (a b : ℕ) (some : zero < b) (offered : IsOffered m rest (h -ℤ pos 63) a b) where
-      nearest : Nearest n false a b v
-      unfolding IsNearest
-      nearest = near a b some offered
-
-      at-lt : v * 2 ^ (64 - n) < 2 ^ 63
-      at-lt = shl-below (n - 1) (64 - n) 63 last (omega (arith, lo, hi))
-
-      size-at : size (v * 2 ^ (64 - n)) ≡ grown n v
-      size-at = sym (grown-suc n v first)
-
-      -- its floor
-      floor : firstBits start m ≡ F
-      unfolding F
-      floor = floor-is start m (begins .regime)
-
-      cut : 63 - (59 - start .r) ≡ 4 + start .r
-      cut = omega (arith, begins .regime)
-
       nonzero : zero < a
       unfolding F
       nonzero =
           let K = binade-of h e start is begins in
           lt-of-lt-of-le (mul-pos (lt-of-lt-of-le (pow-pos (e + 52)) (floor-size-low h e (start .bits) (59 - start .r) (K .0) (K .1) m full top)) some) (floor-low h e (start .bits) (59 - start .r) (K .0) (K .1) m full top rest a b some offered)
 
-      under : firstBits start m < v * 2 ^ (64 - n) → a < grown n v * b
+      -- the next word is above the size
+      next-above : suc low < 2 ^ (n - 1) → a < grown n (suc low) * b
       unfolding F
-      under p =
+      next-above room =
           let K = binade-of h e start is begins in
-          let q : suc F ≤ v * 2 ^ (64 - n) = subst (λ (y : ℕ). y < v * 2 ^ (64 - n)) floor p in
-          lt-of-lt-of-le (floor-high h e (start .bits) (59 - start .r) (K .0) (K .1) m full top rest a b some offered (lt-of-le-of-lt q at-lt)) (mul-le-mul-right b (le-trans (size-le (suc F) (v * 2 ^ (64 - n)) q at-lt) (le-of-eq size-at)))
+          subst (λ (x : ℕ). a < grown n (suc x) * b) (sym low-floor) (word-high h e (start .bits) (59 - start .r) (K .0) (K .1) m full top rest a b some offered n lo hi (subst (λ (x : ℕ). suc x < 2 ^ (n - 1)) low-floor room))
 
-      past : Past → grown n v * b < a
-      unfolding F TellsMore
-      past (over p) =
-          let K = binade-of h e start is begins in
-          lt-of-lt-of-le (mul-lt-mul-of-pos-right (lt-of-le-of-lt (le-of-eq (sym size-at)) (size-lt (v * 2 ^ (64 - n)) F (subst (λ (y : ℕ). v * 2 ^ (64 - n) < y) floor p) (floor-lt h e (start .bits) (59 - start .r) (K .0) (K .1) m full top))) some)
-          (floor-low h e (start .bits) (59 - start .r) (K .0) (K .1) m full top rest a b some offered)
-      past (finer q t) =
-          let K = binade-of h e start is begins in
-          lt-of-le-of-lt (le-of-eq (ap (λ (y : ℕ). y * b) (sym size-at ∙ ap size (sym q ∙ floor))))
-          (floor-finer h e (start .bits) (59 - start .r) (K .0) (K .1) m full top rest a b some offered (subst (λ (j : ℕ). (zero < m % 2 ^ j) ⊎ (rest ≡ Rest.Nothing → ⊥)) (sym cut) t))
+      -- and low is the size where it ends there, and else below it
+      module _ (first : zero < low) where
+        size-at : size (low * 2 ^ (64 - n)) ≡ grown n low
+        size-at = sym (grown-suc n low first)
 
-      same : firstBits start m ≡ v * 2 ^ (64 - n) → TellsMore (start .r) m rest false → grown n v * b ≡ a
-      unfolding F TellsMore
-      same q t =
-          let K = binade-of h e start is begins in
-          ap (λ (y : ℕ). y * b) (sym size-at ∙ ap size (sym q ∙ floor)) ∙ floor-exact h e (start .bits) (59 - start .r) (K .0) (K .1) m full top rest a b some offered (subst (λ (j : ℕ). m % 2 ^ j ≡ 0) (sym cut) (t .0)) (t .1)
+        ends : TellsEnd n low (firstBits start m) (start .r) m rest true → grown n low * b ≡ a
+        unfolding F TellsEnd
+        ends t =
+            let K = binade-of h e start is begins in
+            ap (λ (y : ℕ). y * b) (sym size-at ∙ ap size (sym (t .0) ∙ floor)) ∙ floor-exact h e (start .bits) (59 - start .r) (K .0) (K .1) m full top rest a b some offered (subst (λ (j : ℕ). m % 2 ^ j ≡ 0) (sym cut) (t .1)) (t .2)
 
-    pub string-short : firstBits start m < v * 2 ^ (64 - n) → v ≡ 1 → SaysOffered n h m rest v PastTheEnd
+        goes-on : TellsEnd n low (firstBits start m) (start .r) m rest false → grown n low * b < a
+        unfolding F TellsEnd
+        goes-on t = by (decLt (low * 2 ^ (64 - n)) F) t
+          where
+            K : (K : ℕ) × Binade h e (start .bits) (59 - start .r) K
+            K = binade-of h e start is begins
+
+            under : low * 2 ^ (64 - n) ≤ F
+            under = subst (λ (x : ℕ). x * 2 ^ (64 - n) ≤ F) (sym low-floor) (div-mul-le-self F (2 ^ (64 - n)))
+
+            finer : low * 2 ^ (64 - n) ≡ F → (zero < m % 2 ^ (4 + start .r)) ⊎ (rest ≡ Rest.Nothing → ⊥) → grown n low * b < a
+            finer q u =
+                lt-of-le-of-lt (le-of-eq (ap (λ (y : ℕ). y * b) (sym size-at ∙ ap size q)))
+                (floor-finer h e (start .bits) (59 - start .r) (K .0) (K .1) m full top rest a b some offered (subst (λ (j : ℕ). (zero < m % 2 ^ j) ⊎ (rest ≡ Rest.Nothing → ⊥)) (sym cut) u))
+
+            by : Dec (low * 2 ^ (64 - n) < F) → (firstBits start m ≡ low * 2 ^ (64 - n) → ⊥) ⊎ ((zero < m % 2 ^ (4 + start .r)) ⊎ (rest ≡ Rest.Nothing → ⊥)) → grown n low * b < a
+            by (yes p) t =
+                lt-of-lt-of-le (mul-lt-mul-of-pos-right (lt-of-le-of-lt (le-of-eq (sym size-at)) (size-lt (low * 2 ^ (64 - n)) F p (floor-lt h e (start .bits) (59 - start .r) (K .0) (K .1) m full top))) some)
+                (floor-low h e (start .bits) (59 - start .r) (K .0) (K .1) m full top rest a b some offered)
+            by (no f) (inl g) = absurd (g (floor ∙ le-antisymm (not-more f) under))
+            by (no f) (inr u) = finer (le-antisymm under (not-more f)) u
+
+    -- low is the size, or below it
+    unfoldable pub LowTells : Bool → Type 0
+    LowTells true = (a b : ℕ) → zero < b → IsOffered m rest (h -ℤ pos 63) a b → grown n low * b ≡ a
+    LowTells false = (a b : ℕ) → zero < b → IsOffered m rest (h -ℤ pos 63) a b → grown n low * b < a
+
+    -- as its string tells, wherever the cut falls
+    pub by-end : zero < low → (exact : Bool) → TellsEnd n low (firstBits start m) (start .r) m rest exact → LowTells exact
+    unfolding LowTells
+    by-end first true t = λ a b some offered. ends a b some offered first t
+    by-end first false t = λ a b some offered. goes-on a b some offered first t
+
+    -- and where it falls in the fraction, as the bits tell that are cut off
+    pub by-nothing : zero < low → suc low < 2 ^ (n - 1) → 5 + start .r ≤ n → (exact : Bool) → TellsNothing (m * 2 ^ (n - start .r - 4) % 2 ^ 64) rest exact → LowTells exact
+    unfolding LowTells TellsNothing F
+    by-nothing first room fine exact t = by exact t
+      where
+        k : ℕ
+        k = n - start .r - 4
+
+        inside : 64 - n ≤ 59 - start .r
+        inside = omega (arith, fine)
+
+        behind : 63 - (59 - start .r) + (64 - n) ≡ 64 - k
+        behind = omega (arith, fine, hi, begins .regime)
+
+        shifted : m * 2 ^ k % 2 ^ 64 ≡ m % 2 ^ (63 - (59 - start .r) + (64 - n)) * 2 ^ k
+        shifted = shl-out m k (omega (arith, hi)) ∙ ap (λ (j : ℕ). m % 2 ^ j * 2 ^ k) (sym behind)
+
+        first-floor : zero < F / 2 ^ (64 - n)
+        first-floor = subst (λ (x : ℕ). zero < x) low-floor first
+
+        room-floor : suc (F / 2 ^ (64 - n)) < 2 ^ (n - 1)
+        room-floor = subst (λ (x : ℕ). suc x < 2 ^ (n - 1)) low-floor room
+
+        K : (K : ℕ) × Binade h e (start .bits) (59 - start .r) K
+        K = binade-of h e start is begins
+
+        some-bits : (zero < m * 2 ^ k % 2 ^ 64) ⊎ (rest ≡ Rest.Nothing → ⊥) → (zero < m % 2 ^ (63 - (59 - start .r) + (64 - n))) ⊎ (rest ≡ Rest.Nothing → ⊥)
+        some-bits (inl h) = inl (pos-of-ne-zero (λ (q : m % 2 ^ (63 - (59 - start .r) + (64 - n)) ≡ 0). lt-irrefl 0 (subst (λ (x : ℕ). zero < x) (shifted ∙ ap (λ (x : ℕ). x * 2 ^ k) q ∙ zero-mul (2 ^ k)) h)))
+        some-bits (inr f) = inr f
+
+        by : (exact : Bool) → TellsNothing (m * 2 ^ k % 2 ^ 64) rest exact → LowTells exact
+        by true t = λ a b some offered.
+            subst (λ (x : ℕ). grown n x * b ≡ a) (sym low-floor)
+            (fine-exact h e (start .bits) (59 - start .r) (K .0) (K .1) m full top rest a b some offered n lo hi inside room-floor first-floor (eq-of-mul-eq-mul-right (2 ^ k) (pow-pos k) _ 0 (sym shifted ∙ t .0 ∙ sym (zero-mul (2 ^ k)))) (t .1))
+        by false t = λ a b some offered. subst (λ (x : ℕ). grown n x * b < a) (sym low-floor) (fine-finer h e (start .bits) (59 - start .r) (K .0) (K .1) m full top rest a b some offered n lo hi inside room-floor first-floor (some-bits t))
+
+    -- ---- what is said
+    pub said-short : low ≡ 0 → SaysOffered n false h m rest 1 PastTheEnd
     unfolding SaysOffered
-    string-short p q a b some offered = short-said a b v q (nonzero a b some offered) (under a b some offered p)
+    said-short q a b some offered = short-said a b 1 refl (nonzero a b some offered) (subst (λ (x : ℕ). a < grown n (suc x) * b) q (next-above a b some offered (omega (arith, q, two n lo hi))))
 
-    pub string-above : firstBits start m < v * 2 ^ (64 - n) → (v ≡ 1 → ⊥) → SaysOffered n h m rest v Above
-    unfolding SaysOffered
-    string-above p f a b some offered = above-inside a b v first last some (nearest a b some offered) (under a b some offered p) f
+    pub said-beyond : low ≡ 2 ^ (n - 1) - 1 → LowTells false → SaysOffered n false h m rest low PastTheEnd
+    unfolding SaysOffered LowTells
+    said-beyond q t a b some offered = beyond-said a b low q (t a b some offered)
 
-    pub string-exact : firstBits start m ≡ v * 2 ^ (64 - n) → TellsMore (start .r) m rest false → SaysOffered n h m rest v Exact
-    unfolding SaysOffered
-    string-exact q t a b some offered = exactly a b v first last (same a b some offered q t)
+    pub said-largest : low ≡ 2 ^ (n - 1) - 1 → LowTells true → SaysOffered n false h m rest low Exact
+    unfolding SaysOffered LowTells
+    said-largest q t a b some offered = exactly a b low (omega (arith, q, two n lo hi)) (omega (arith, q, two n lo hi)) (t a b some offered)
 
-    pub string-beyond : Past → v ≡ 2 ^ (n - 1) - 1 → SaysOffered n h m rest v PastTheEnd
-    unfolding SaysOffered
-    string-beyond p q a b some offered = beyond-said a b v q (past a b some offered p)
+    -- of the nearest word, low or the next
+    module _ (first : zero < low) (room : suc low < 2 ^ (n - 1)) (v : ℕ) (near : IsNearest n h m rest v) where
+      last : v < 2 ^ (n - 1)
+      last = is-positive h m rest v near .1
 
-    pub string-below : Past → (v ≡ 2 ^ (n - 1) - 1 → ⊥) → SaysOffered n h m rest v Below
-    unfolding SaysOffered
-    string-below p f a b some offered = below-inside a b v first last some (nearest a b some offered) (past a b some offered p) f
+      -- any other than low lies above the size
+      module _ (a b : ℕ) (some : zero < b) (offered : IsOffered m rest (h -ℤ pos 63) a b) (other : v ≡ low → ⊥) where
+        nearest : Nearest n false a b v
+        unfolding IsNearest
+        nearest = near a b some offered
+
+        low-under : grown n low * b ≤ a
+        unfolding F
+        low-under =
+            let K = binade-of h e start is begins in
+            subst (λ (x : ℕ). grown n x * b ≤ a) (sym low-floor) (word-low h e (start .bits) (59 - start .r) (K .0) (K .1) m full top rest a b some offered n lo hi (subst (λ (x : ℕ). zero < x) low-floor first))
+
+        after : suc low ≤ v
+        after = by (decLt v low)
+          where
+            by : Dec (v < low) → suc low ≤ v
+            by (yes p) =
+                let less : grown n v * b < grown n low * b = mul-lt-mul-of-pos-right (increasing n lo hi v low (is-positive h m rest v near .0) p (omega (arith, room))) some in
+                absurd (omega (arith, nearer a b v (is-positive h m rest v near .0) last some nearest low first (omega (arith, room)), distance-below a (grown n v * b) (omega (arith, less, low-under)), distance-below a (grown n low * b) low-under, less, low-under))
+            by (no f) = omega (arith, not-more f, other)
+
+        over : a < grown n v * b
+        over = lt-of-lt-of-le (next-above a b some offered room) (mul-le-mul-right b (not-decreasing n lo hi (suc low) v (zero-lt-suc low) after last))
+
+        above : Says n false a b v Above
+        above = above-inside a b v (is-positive h m rest v near .0) last some nearest over (λ q. omega (arith, q, after, first))
+
+        -- so the size isn't exactly low
+        not-low : grown n low * b ≡ a → ⊥
+        not-low q =
+            omega (arith, nearer a b v (is-positive h m rest v near .0) last some nearest low first (omega (arith, room)), distance-above a (grown n v * b) (le-of-lt over), distance-below a (grown n low * b) low-under, over, q)
+
+      pub said-beside : (exact : Bool) → LowTells exact → SaysOffered n false h m rest v (sayingOf (record { word = v; past = false; exact = exact; up = not (eqb v low) }))
+      unfolding SaysOffered IsNearest sayingOf LowTells
+      said-beside exact t a b some offered = by (eqb v low) refl exact t
+        where
+          by : (same : Bool) → eqb v low ≡ same → (exact : Bool) → LowTells exact → Says n false a b v (cond exact Exact (cond (not same) Above Below))
+          by true q true t = exactly a b v (is-positive h m rest v near .0) last (subst (λ (x : ℕ). grown n x * b ≡ a) (sym (eqb-true v low q)) (t a b some offered))
+          by true q false t =
+              let same = eqb-true v low q in
+              below-inside a b v (is-positive h m rest v near .0) last some (near a b some offered) (subst (λ (x : ℕ). grown n x * b < a) (sym same) (t a b some offered)) (λ r. omega (arith, r, same, room))
+          by false q true t = absurd (not-low a b some offered (eqb-false v low q) (t a b some offered))
+          by false q false t = above a b some offered (eqb-false v low q)

@@ -1,6 +1,6 @@
 -- The normal size that is offered to `nearest`, (m + rest) * 2^(h - 63), and the word that it answers.
 use mathlib.Core.Path.{_≡_}
-use mathlib.Core.Bool.{false}
+use mathlib.Core.Bool.{Bool, false}
 use Prim.Native.Nat.{ℕ, _+_, _-_, _*_, _%_, _^_, _<_}
 use lib.IntN.{ℤ, pos, _+ℤ_, _-ℤ_}
 use Rattle.bounds.specs.declared.answer.Answer.{Answer}
@@ -31,6 +31,10 @@ IsRest below Rest.UnderHalf = (0 < below) × (below < 2 ^ 63)
 IsRest below Rest.Half = below ≡ 2 ^ 63
 IsRest below Rest.OverHalf = 2 ^ 63 < below
 
--- WIDTH; else the positive word that is nearest to the size of m and what lies below it, the top bit of m being taken as set
-unfoldable pub FindsNearest : ℕ → ℤ → ℕ → ℕ → Answer → Type 0
-FindsNearest n h m below r = Decided (widthTest n) (λ q. r ≡ Answer.Refused q) ((w : ℕ) × (r ≡ Answer.Word w) × (rest : Rest) × IsRest below rest × IsNearest n h (2 ^ 63 + m % 2 ^ 63) rest w)
+-- the word of the sign that is nearest to every exact size that is so offered
+unfoldable pub IsSignedNearest : ℕ → Bool → ℤ → ℕ → Rest → ℕ → Type 0
+IsSignedNearest n negative h m rest w = (a b : ℕ) → 0 < b → IsOffered m rest (h -ℤ pos 63) a b → Nearest n negative a b w
+
+-- WIDTH; else the word of the sign that is nearest to the size of m and what lies below it, the top bit of m being taken as set
+unfoldable pub FindsNearest : ℕ → Bool → ℤ → ℕ → ℕ → Answer → Type 0
+FindsNearest n negative h m below r = Decided (widthTest n) (λ q. r ≡ Answer.Refused q) ((w : ℕ) × (r ≡ Answer.Word w) × (rest : Rest) × IsRest below rest × IsSignedNearest n negative h (2 ^ 63 + m % 2 ^ 63) rest w)

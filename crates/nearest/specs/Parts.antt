@@ -1,16 +1,22 @@
 -- What the parts of `nearest` answer: how strings begin, on which side of a midpoint a size lies, and which word is chosen so. All serve private
 -- functions.
 use mathlib.Core.Path.{_≡_}
-use mathlib.Core.Bool.{Bool, true, false}
+use mathlib.Core.Bool.{Bool, true, false, cond}
 use mathlib.Core.Logic.{_⊎_}
 use Prim.Native.Nat.{ℕ, suc, _+_, _-_, _*_, _/_, _%_, _^_, _≤_, _<_}
 use lib.IntN.{ℤ, pos, _+ℤ_}
 use lib.Signed.{mag}
+use Rattle.bounds.specs.declared.saying.Saying.{Saying}
+use Rattle.bounds.specs.declared.saying.Saying.the-variants.{Exact, Below, Above, PastTheEnd}
+use Rattle.bounds.specs.Sayings.{oppositeSaying}
+use Rattle.word.specs.Orders.{negated}
 use Rattle.word.specs.Takum as Takum
+use Rattle.nearest.specs.declared.size.Near.{Near}
 use Rattle.nearest.specs.declared.size.Rest.{Rest}
 use Rattle.nearest.specs.declared.size.Side.{Side}
 use Rattle.nearest.specs.declared.size.Start.{Start}
-use Rattle.nearest.specs.Offers.{Amounts}
+use Rattle.nearest.specs.Offers.{Amounts, IsNearest}
+use Rattle.nearest.specs.Sayings.{SaysOffered}
 
 -- whether h is a characteristic, from -255 to 254
 unfoldable pub TellsCharacteristic : ℤ → Bool → Type 0
@@ -73,7 +79,35 @@ IsRaised h e = h +ℤ pos 255 ≡ pos e
 unfoldable pub TellsPowers : ℕ → ℕ → ℕ → ℕ → Rest → Side → Type 0
 TellsPowers i j e m rest side = (unit a : ℕ) → 0 < unit → Amounts m rest a unit → (y z : ℕ) → y * 2 ^ e ≡ 2 ^ (63 + i) * unit → z * 2 ^ e ≡ 2 ^ (63 + j) * unit → TellsSide side (2 * a) (y + z)
 
--- whether a size goes on behind its first 64 bits, which leave out the lowest 4 + r bits of its significand
-unfoldable pub TellsMore : ℕ → ℕ → Rest → Bool → Type 0
-TellsMore r m rest true = (0 < m % 2 ^ (4 + r)) ⊎ (rest ≡ Rest.Nothing → ⊥)
-TellsMore r m rest false = (m % 2 ^ (4 + r) ≡ 0) × (rest ≡ Rest.Nothing)
+abbrev pub isNone : Rest → Bool
+isNone Rest.Nothing = true
+isNone Rest.UnderHalf = false
+isNone Rest.Half = false
+isNone Rest.OverHalf = false
+
+-- whether a size ends with its first 64 bits, `bits`, and these with the word low: nothing is cut off, neither of the string nor of the significand, whose
+-- lowest 4 + r bits the string leaves out, and there is no rest
+unfoldable pub TellsEnd : ℕ → ℕ → ℕ → ℕ → ℕ → Rest → Bool → Type 0
+TellsEnd n low bits r m rest true = (bits ≡ low * 2 ^ (64 - n)) × (m % 2 ^ (4 + r) ≡ 0) × (rest ≡ Rest.Nothing)
+TellsEnd n low bits r m rest false = (bits ≡ low * 2 ^ (64 - n) → ⊥) ⊎ ((0 < m % 2 ^ (4 + r)) ⊎ (rest ≡ Rest.Nothing → ⊥))
+
+-- whether nothing is cut off of a fraction
+unfoldable pub TellsNothing : ℕ → Rest → Bool → Type 0
+TellsNothing cut rest true = (cut ≡ 0) × (rest ≡ Rest.Nothing)
+TellsNothing cut rest false = (0 < cut) ⊎ (rest ≡ Rest.Nothing → ⊥)
+
+-- what is said of a positive word by where it lies from the size
+unfoldable pub sayingOf : Near → Saying
+sayingOf near = cond (near .past) PastTheEnd (cond (near .exact) Exact (cond (near .up) Above Below))
+
+-- the nearest positive word, and where it lies from every exact size that is so offered
+pub record IsNear (n : ℕ) (h : ℤ) (m : ℕ) (rest : Rest) (near : Near) : Type 0 where
+  pub is : IsNearest n h m rest (near .word)
+  pub lies : SaysOffered n false h m rest (near .word) (sayingOf near)
+
+-- the word with the sign, and what is said of it then
+unfoldable pub withSign : ℕ → Bool → ℕ → ℕ
+withSign n negative w = cond negative (negated n w) w
+
+unfoldable pub signedSaying : Bool → Saying → Saying
+signedSaying negative s = cond negative (oppositeSaying s) s

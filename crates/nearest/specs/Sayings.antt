@@ -34,15 +34,15 @@ Says n negative a b w Below = (IsPastTheEnd n a b → ⊥) × Against n negative
 Says n negative a b w Above = (IsPastTheEnd n a b → ⊥) × Against n negative a b w (pos 1)
 Says n negative a b w PastTheEnd = IsPastTheEnd n a b
 
--- ---- what `nearest` says of a positive word
--- the same of every exact size that is so offered
-unfoldable pub SaysOffered : ℕ → ℤ → ℕ → Rest → ℕ → Saying → Type 0
-SaysOffered n h m rest w s = (a b : ℕ) → 0 < b → IsOffered m rest (h -ℤ pos 63) a b → Says n false a b w s
+-- ---- what `nearest` says
+-- the same of every exact size that is so offered, with the sign
+unfoldable pub SaysOffered : ℕ → Bool → ℤ → ℕ → Rest → ℕ → Saying → Type 0
+SaysOffered n negative h m rest w s = (a b : ℕ) → 0 < b → IsOffered m rest (h -ℤ pos 63) a b → Says n negative a b w s
 
 -- what lies below m being counted in 2^-64 of its last unit, and the top bit of m being taken as set
-unfoldable pub SaysFound : ℕ → ℤ → ℕ → ℕ → ℕ → Saying → Type 0
-SaysFound n h m below w s = (rest : Rest) → IsRest below rest → SaysOffered n h (2 ^ 63 + m % 2 ^ 63) rest w s
+unfoldable pub SaysFound : ℕ → Bool → ℤ → ℕ → ℕ → ℕ → Saying → Type 0
+SaysFound n negative h m below w s = (rest : Rest) → IsRest below rest → SaysOffered n negative h (2 ^ 63 + m % 2 ^ 63) rest w s
 
 -- ---- what the call answers
-unfoldable pub FindsAndSays : ℕ → ℤ → ℕ → ℕ → Written → Type 0
-FindsAndSays n h m below r = AndSays (FindsNearest n h m below) (SaysFound n h m below) r
+unfoldable pub FindsAndSays : ℕ → Bool → ℤ → ℕ → ℕ → Written → Type 0
+FindsAndSays n negative h m below r = AndSays (FindsNearest n negative h m below) (SaysFound n negative h m below) r

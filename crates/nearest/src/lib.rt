@@ -1,3 +1,2 @@
 // The nearest word of a size, whatever lies below its first 64 bits: by value, ties to the even word, end words past the ends.
-mod saying;
 pub mod size;

@@ -1,17 +1,20 @@
 // One normal size goes in and the nearest positive word comes out: every number that is written passes here.
-use crate::saying::saying_of;
 use bounds::answer::Written;
 use bounds::refusal::Verdict;
+use bounds::saying::Saying;
 use bounds::width::Width;
 use word::fields::cut;
+ghost use mathlib.Core.Bool.{true, false, not, cond};
 ghost use mathlib.Core.Path.{_≡_};
 ghost use Prim.Native.Nat.{_+_, _-_, _*_, _^_, _≤_, _<_};
+ghost use lib.Dec.{eqb};
 ghost use lib.Signed.{mag};
+ghost use Rattle.bounds.specs.declared.saying.Saying.the-variants.{Below, Above};
 ghost use Rattle.word.specs.Takum as Takum;
 ghost use Rattle.bounds.specs.Refusals.{IsWord};
-ghost use Rattle.nearest.specs.Offers.{IsNearest, IsRest};
+ghost use Rattle.nearest.specs.Offers.{IsRest};
 ghost use Rattle.nearest.specs.Sayings.{FindsAndSays};
-ghost use Rattle.nearest.specs.Parts.{TellsCharacteristic, Begins, StartsAbove, turned, firstBits, IsRaised, TellsHalf, TellsPowers, chosenOf, marginOf, ChoosesByCut};
+ghost use Rattle.nearest.specs.Parts.{TellsCharacteristic, Begins, StartsAbove, turned, firstBits, IsRaised, TellsHalf, TellsPowers, chosenOf, marginOf, ChoosesByCut, TellsEnd, TellsNothing, isNone, sayingOf, IsNear, withSign, signedSaying};
 
 // What lies below the last unit of a significand.
 pub enum Rest {
@@ -29,24 +32,70 @@ pub enum Side {
 }
 
 // How every string of a characteristic begins after its sign: direction, regime and characteristic bits, and the regime.
-pub(crate) struct Start {
-    pub(crate) bits: u64,
-    pub(crate) r: u32,
+struct Start {
+    bits: u64,
+    r: u32,
 }
 
-// The positive word nearest to the size (m + below * 2^-64) * 2^(h - 63), the top bit of m being taken as set, and which way it lies from it.
-pub fn nearest(width: Width, h: i64, m: u64, below: u64) -> Written
-    ensures { λ r. ⌜ FindsAndSays (width .bits) h m below r ⌝ }
+// A positive word and where it lies from the size that it is nearest to: past it lies the size, it is exactly the size, or it is up from it, or down.
+struct Near {
+    word: u64,
+    past: bool,
+    exact: bool,
+    up: bool,
+}
+
+// The word nearest to plus or minus the size (m + below * 2^-64) * 2^(h - 63), the top bit of m being taken as set, and which way it went.
+pub fn nearest(width: Width, negative: bool, h: i64, m: u64, below: u64) -> Written
+    ensures { λ r. ⌜ FindsAndSays (width .bits) negative h m below r ⌝ }
 {
     let verdict = width.test();
     if let Verdict::Refused(q) = verdict {
         return Written::Refused(q);
     }
     let full = (1 << 63) + m % (1 << 63);
-    let rest = rest_of(below);
-    let word = nearest_word(width.bits, h, full, rest);
-    let saying = saying_of(width.bits, h, full, rest, word);
-    Written::Word { word, saying }
+    let near = nearest_word(width.bits, h, full, rest_of(below));
+    Written::Word {
+        word: with_sign(width.bits, negative, near.word),
+        saying: said(negative, near),
+    }
+}
+
+// A word's opposite lies as far above NaR as the word lies below it.
+fn with_sign(n: u32, negative: bool, word: u64) -> u64
+    requires { ⌜ (2 ≤ n) × (n ≤ 64) × (0 < word) × (word < 2 ^ (n - 1)) ⌝ }
+    ensures { λ w. ⌜ w ≡ withSign n negative word ⌝ }
+{
+    if negative {
+        let nar = 1 << (n - 1);
+        return nar + (nar - word);
+    }
+    word
+}
+
+// Which way it went, with the sign: of two negative values the larger one in size is below.
+fn said(negative: bool, near: Near) -> Saying
+    ensures { λ s. ⌜ s ≡ signedSaying negative (sayingOf near) ⌝ }
+{
+    if near.past {
+        return Saying::PastTheEnd;
+    }
+    if near.exact {
+        return Saying::Exact;
+    }
+    if negative {
+        return beside_value(!near.up);
+    }
+    beside_value(near.up)
+}
+
+fn beside_value(up: bool) -> Saying
+    ensures { λ s. ⌜ s ≡ cond up Above Below ⌝ }
+{
+    if up {
+        return Saying::Above;
+    }
+    Saying::Below
 }
 
 // What lies below the last unit, beside a half of it.
@@ -66,21 +115,33 @@ fn rest_of(below: u64) -> Rest
 }
 
 // The positive word nearest to the size (m + rest) * 2^(h - 63), m having its top bit set: past either end the end word.
-fn nearest_word(n: u32, h: i64, m: u64, rest: Rest) -> u64
+fn nearest_word(n: u32, h: i64, m: u64, rest: Rest) -> Near
     requires { ⌜ (2 ≤ n) × (n ≤ 64) × (2 ^ 63 ≤ m) ⌝ }
-    ensures { λ w. ⌜ IsNearest n h m rest w ⌝ }
+    ensures { λ near. ⌜ IsNear n h m rest near ⌝ }
 {
     if is_characteristic(h) {
         return nearest_inside(n, h, m, rest);
     }
     if h < 0 {
-        return 1;
+        return end_word(1);
     }
-    last_word(n)
+    end_word(last_word(n))
+}
+
+// An end word, where the size lies past it.
+fn end_word(word: u64) -> Near
+    ensures { λ near. ⌜ near ≡ record { word = word; past = true; exact = false; up = false } ⌝ }
+{
+    Near {
+        word,
+        past: true,
+        exact: false,
+        up: false,
+    }
 }
 
 // Both ends in one answer, which the machine has by one test.
-pub(crate) fn is_characteristic(h: i64) -> bool
+fn is_characteristic(h: i64) -> bool
     ensures { λ b. ⌜ TellsCharacteristic h b ⌝ }
 {
     if h < -255 {
@@ -90,28 +151,80 @@ pub(crate) fn is_characteristic(h: i64) -> bool
 }
 
 // The same where h is a characteristic.
-fn nearest_inside(n: u32, h: i64, m: u64, rest: Rest) -> u64
+fn nearest_inside(n: u32, h: i64, m: u64, rest: Rest) -> Near
     requires { ⌜ (2 ≤ n) × (n ≤ 64) × (2 ^ 63 ≤ m) × (mag h ≤ 254) ⌝ }
-    ensures { λ w. ⌜ IsNearest n h m rest w ⌝ }
+    ensures { λ near. ⌜ IsNear n h m rest near ⌝ }
 {
     let start = start_of(h);
-    let low = first_bits(start, m) >> (64 - n);
+    let bits = first_bits(start, m);
+    let low = bits >> (64 - n);
     if low == 0 {
-        return 1;
+        return end_word(1);
     }
     if low == last_word(n) {
-        return low;
+        if ends_at(n, low, bits, start.r, m, rest) {
+            return beside(low, low, true);
+        }
+        return end_word(low);
     }
     // The nearest is low or the next word, which is one more, across fractions, characteristics and regimes: the carry needs no code.
     // Where the cut falls in the regime or the characteristic, both are powers of two.
     if n < 5 + start.r {
-        return chosen(
-            low,
-            side_of_powers(exponent(n, low), exponent(n, low + 1), raised(h), m, rest),
-        );
+        let side = side_of_powers(exponent(n, low), exponent(n, low + 1), raised(h), m, rest);
+        let word = chosen(low, side);
+        return beside(low, word, ends_at(n, low, bits, start.r, m, rest));
     }
     // Where it falls in the fraction, words are evenly spaced and the bits that are cut off decide.
-    chosen_by_cut(low, (m << 1) << (n - start.r - 5), rest)
+    let cut = (m << 1) << (n - start.r - 5);
+    let word = chosen_by_cut(low, cut, rest);
+    beside(low, word, is_nothing(cut, rest))
+}
+
+// The word that is nearest, low being the last one that is not above the size, and the size being exactly low or not.
+fn beside(low: u64, word: u64, exact: bool) -> Near
+    ensures { λ near. ⌜ near ≡ record { word = word; past = false; exact = exact; up = not (eqb word low) } ⌝ }
+{
+    Near {
+        word,
+        past: false,
+        exact,
+        up: word != low,
+    }
+}
+
+// Whether the size is exactly low: neither the string nor the significand nor the rest goes on behind it.
+fn ends_at(n: u32, low: u64, bits: u64, r: u32, m: u64, rest: Rest) -> bool
+    requires { ⌜ (2 ≤ n) × (n ≤ 64) × (low < 2 ^ (n - 1)) × (r ≤ 7) ⌝ }
+    ensures { λ b. ⌜ TellsEnd n low bits r m rest b ⌝ }
+{
+    if bits != low << (64 - n) {
+        return false;
+    }
+    if m << (60 - r) != 0 {
+        return false;
+    }
+    is_none(rest)
+}
+
+// Whether nothing was cut off of the fraction.
+fn is_nothing(cut: u64, rest: Rest) -> bool
+    ensures { λ b. ⌜ TellsNothing cut rest b ⌝ }
+{
+    if cut != 0 {
+        return false;
+    }
+    is_none(rest)
+}
+
+fn is_none(rest: Rest) -> bool
+    ensures { λ b. ⌜ b ≡ isNone rest ⌝ }
+{
+    match rest {
+        Rest::Nothing => true,
+        Rest::UnderHalf => false,
+        Rest::Half => false,
+        Rest::OverHalf => false,
+    }
 }
 
 // Low or low + 1, halfway the even one.
@@ -150,14 +263,14 @@ fn margin(low: u64, rest: Rest) -> u64
     }
 }
 
-pub(crate) fn last_word(n: u32) -> u64
+fn last_word(n: u32) -> u64
     requires { ⌜ (2 ≤ n) × (n ≤ 64) ⌝ }
     ensures { λ w. ⌜ w ≡ 2 ^ (n - 1) - 1 ⌝ }
 {
     (1 << (n - 1)) - 1
 }
 
-pub(crate) fn start_of(c: i64) -> Start
+fn start_of(c: i64) -> Start
     requires { ⌜ mag c ≤ 254 ⌝ }
     ensures { λ s. ⌜ Begins c s ⌝ }
 {
@@ -203,7 +316,7 @@ fn start_below(above: Start) -> Start
 }
 
 // The first 64 bits of a size's endless string, its sign among them.
-pub(crate) fn first_bits(start: Start, m: u64) -> u64
+fn first_bits(start: Start, m: u64) -> u64
     requires { ⌜ (start .r ≤ 7) × (start .bits < 2 ^ (4 + start .r)) × (2 ^ 63 ≤ m) ⌝ }
     ensures { λ t. ⌜ t ≡ firstBits start m ⌝ }
 {

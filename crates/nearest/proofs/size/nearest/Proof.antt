@@ -7,14 +7,19 @@ use lib.IntN.{ℤ}
 use lib.Pow.{pow-pos}
 use mir.Facts.{toZ-ofZ}
 use borrow.Author.Needs.{needs}
+use Rattle.bounds.specs.declared.answer.Written.{Written}
 use Rattle.bounds.specs.declared.refusal.Verdict.{Verdict}
+use Rattle.bounds.specs.declared.saying.Saying.{Saying}
 use Rattle.bounds.specs.Refusals.{widthTest, through, refused}
 use Rattle.bounds.proofs.Verdicts.{width-through}
 use Rattle.bounds.proofs.Answers.{word-said, refusal-said}
 use Rattle.nearest.specs.declared.size.Rest.{Rest}
-use Rattle.nearest.specs.Offers.{FindsNearest, IsNearest, IsRest}
+use Rattle.nearest.specs.Offers.{FindsNearest, IsRest}
+use Rattle.nearest.specs.Parts.{sayingOf, IsNear, withSign, signedSaying}
 use Rattle.nearest.specs.Sayings.{SaysOffered, SaysFound, FindsAndSays}
 use Rattle.nearest.proofs.OneOutcome.{rest-one}
+use Rattle.nearest.proofs.Sayings.{is-positive}
+use Rattle.nearest.proofs.Signs.{class-signed, class-said}
 use Rattle.nearest.proofs.size.nearest.Statement.{statement}
 use Rattle.nearest.proofs.size.nearest.Tie as tie
 
@@ -52,25 +57,32 @@ rest-of-requires : tie.Need-rest-of-requires
 rest-of-requires c κs = search needs
 
 -- the word that is found
-near : (c : tie.After-nearest-word) → IsNearest (s (c .before .before) .args .width .bits) (s (c .before .before) .args .h) (2 ^ 63 + s (c .before .before) .args .m % 2 ^ 63) (c .before .rest-of .result) (c .nearest-word .result)
+near : (c : tie.After-nearest-word) → IsNear (s (c .before .before) .args .width .bits) (s (c .before .before) .args .h) (2 ^ 63 + s (c .before .before) .args .m % 2 ^ 63) (c .before .rest-of .result) (c .nearest-word .result)
 near c = let t = s (c .before .before) in
-    subst (λ (z : ℤ). IsNearest (t .args .width .bits) z (2 ^ 63 + t .args .m % 2 ^ 63) (c .before .rest-of .result) (c .nearest-word .result)) (toZ-ofZ (t .fits .h)) (c .nearest-word .ensures)
+    subst (λ (z : ℤ). IsNear (t .args .width .bits) z (2 ^ 63 + t .args .m % 2 ^ 63) (c .before .rest-of .result) (c .nearest-word .result)) (toZ-ofZ (t .fits .h)) (c .nearest-word .ensures)
 
 nearest-word-requires : tie.Need-nearest-word-requires
 nearest-word-requires c κs = let b = bounds (c .before) in
     (b .0, b .1, le-add-right _ _)
 
-saying-of-requires : tie.Need-saying-of-requires
-saying-of-requires c κs = let b = bounds (c .before .before) in
-    (b .0, b .1, le-add-right _ _, c .nearest-word .ensures)
+with-sign-requires : tie.Need-with-sign-requires
+with-sign-requires c κs = let b = bounds (c .before .before) in
+    let p = is-positive _ (b .0) (b .1) _ _ _ _ (near c .is) in
+    (b .0, b .1, p .0, p .1)
+
+said-requires : tie.Need-said-requires
+said-requires c κs = search needs
 
 returns-2 : tie.Need-returns-2
 unfolding FindsAndSays FindsNearest SaysFound
-returns-2 c = let w = c .before in
+returns-2 c = let w = c .before .before in
     let k = w .before in
     let t = s (k .before) in
-    word-said (w .nearest-word .result) (c .saying-of .result) (through (let-through (k .before)) (w .nearest-word .result, refl, k .rest-of .result, k .rest-of .ensures, near w))
-    (λ rest is. subst₂ (λ (z : ℤ) (rest : Rest). SaysOffered (t .args .width .bits) z (2 ^ 63 + t .args .m % 2 ^ 63) rest (w .nearest-word .result) (c .saying-of .result)) (toZ-ofZ (t .fits .h)) (rest-one (t .args .below) (k .rest-of .result) rest (k .rest-of .ensures) is) (c .saying-of .ensures))
+    let b = bounds (k .before) in
+    let x = near w in
+    subst₂ (λ (v : ℕ) (q : Saying). FindsAndSays (t .args .width .bits) (t .args .negative) (t .args .h) (t .args .m) (t .args .below) (Written.Word v q)) (sym (c .before .with-sign .ensures)) (sym (c .said .ensures))
+    (word-said _ _ (through (let-through (k .before)) (withSign (t .args .width .bits) (t .args .negative) (w .nearest-word .result .word), refl, k .rest-of .result, k .rest-of .ensures, class-signed _ (b .0) (b .1) _ _ _ _ (x .is) (t .args .negative)))
+    (λ rest is. subst (λ (rest : Rest). SaysOffered (t .args .width .bits) (t .args .negative) (t .args .h) (2 ^ 63 + t .args .m % 2 ^ 63) rest (withSign (t .args .width .bits) (t .args .negative) (w .nearest-word .result .word)) (signedSaying (t .args .negative) (sayingOf (w .nearest-word .result)))) (rest-one (t .args .below) (k .rest-of .result) rest (k .rest-of .ensures) is) (class-said _ (b .0) (b .1) _ _ _ _ (x .is) (t .args .negative) _ (x .lies))))
 
 pub nearest-spec : {M : Type 1} → statement M
 nearest-spec =
@@ -84,5 +96,6 @@ nearest-spec =
     add-full
     rest-of-requires
     nearest-word-requires
-    saying-of-requires
+    with-sign-requires
+    said-requires
     returns-2)

@@ -9,8 +9,9 @@ use mir.Syntax.{w64}
 use mir.Facts.{toZ-ofZ}
 use Rattle.word.proofs.Casts.{not-negative, is-negative, tested}
 use Rattle.nearest.specs.Offers.{IsNearest}
-use Rattle.nearest.specs.Parts.{TellsCharacteristic}
+use Rattle.nearest.specs.Parts.{TellsCharacteristic, sayingOf, IsNear}
 use Rattle.nearest.proofs.Hub.{past-last, before-first}
+use Rattle.nearest.proofs.Sayings.{outside-said}
 use Rattle.nearest.proofs.size.nearest_word.Statement.{statement}
 use Rattle.nearest.proofs.size.nearest_word.Tie as tie
 
@@ -38,19 +39,39 @@ nearest-inside-requires c κs = (s c .pre .0, s c .pre .1, s c .pre .2, subst (�
 
 returns : tie.Need-returns
 returns c = let t = s (c .before) in
-    subst (λ (z : ℤ). IsNearest (t .args .n) z (t .args .m) (t .args .rest) (c .nearest-inside .result)) (toZ-ofZ (t .fits .h)) (c .nearest-inside .ensures)
+    subst (λ (z : ℤ). IsNear (t .args .n) z (t .args .m) (t .args .rest) (c .nearest-inside .result)) (toZ-ofZ (t .fits .h)) (c .nearest-inside .ensures)
+
+end-word-requires : tie.Need-end-word-requires
+end-word-requires c κs = search needs
 
 returns-2 : tie.Need-returns-2
-returns-2 c = let t = c .before .before .before in
-    subst (λ (z : ℤ). IsNearest (t .args .n) z (t .args .m) (t .args .rest) 1) (sym (is-negative (t .args .h) (tested w64 tt (t .fits .h) (c .if2 .taken)))) (before-first (t .args .n) (t .pre .0) (t .pre .1) (mag (t .args .h)) (t .args .m) (t .args .rest) (outside (c .before)) (t .pre .2) (t .fits .m .fits))
+unfolding sayingOf
+returns-2 c = let e = c .before in
+    let t = e .before .before .before in
+    let h = is-negative (t .args .h) (tested w64 tt (t .fits .h) (e .if2 .taken)) in
+    subst (IsNear _ _ _ _) (sym (c .end-word .ensures))
+    (record {
+      is = subst (λ (z : ℤ). IsNearest (t .args .n) z (t .args .m) (t .args .rest) 1) (sym h) (before-first (t .args .n) (t .pre .0) (t .pre .1) (mag (t .args .h)) (t .args .m) (t .args .rest) (outside (e .before)) (t .pre .2) (t .fits .m .fits));
+      lies = outside-said (t .args .n) (t .pre .0) (t .pre .1) (t .args .h) (t .args .m) (t .args .rest) 1 (outside (e .before)) (t .pre .2) (t .fits .m .fits);
+    })
 
 last-word-requires : tie.Need-last-word-requires
 last-word-requires c κs = search needs
 
+end-word-requires-2 : tie.Need-end-word-requires-2
+end-word-requires-2 c κs = search needs
+
 returns-3 : tie.Need-returns-3
-returns-3 c = let e = c .before in
+unfolding sayingOf
+returns-3 c = let l = c .before in
+    let e = l .before in
     let t = e .before .before .before in
-    subst₂ (λ (z : ℤ) (w : ℕ). IsNearest (t .args .n) z (t .args .m) (t .args .rest) w) (sym (not-negative (t .args .h) (tested w64 tt (t .fits .h) (e .if2 .left)))) (sym (c .last-word .ensures)) (past-last (t .args .n) (t .pre .0) (t .pre .1) (mag (t .args .h)) (t .args .m) (t .args .rest) (outside (e .before)) (t .pre .2))
+    let h = not-negative (t .args .h) (tested w64 tt (t .fits .h) (e .if2 .left)) in
+    subst (IsNear _ _ _ _) (sym (c .end-word2 .ensures))
+    (record {
+      is = subst₂ (λ (z : ℤ) (w : ℕ). IsNearest (t .args .n) z (t .args .m) (t .args .rest) w) (sym h) (sym (l .last-word .ensures)) (past-last (t .args .n) (t .pre .0) (t .pre .1) (mag (t .args .h)) (t .args .m) (t .args .rest) (outside (e .before)) (t .pre .2));
+      lies = outside-said (t .args .n) (t .pre .0) (t .pre .1) (t .args .h) (t .args .m) (t .args .rest) _ (outside (e .before)) (t .pre .2) (t .fits .m .fits);
+    })
 
 pub nearest-word-spec : {M : Type 1} → statement M
 nearest-word-spec =
@@ -59,6 +80,8 @@ nearest-word-spec =
     is-characteristic-requires
     nearest-inside-requires
     returns
+    end-word-requires
     returns-2
     last-word-requires
+    end-word-requires-2
     returns-3)

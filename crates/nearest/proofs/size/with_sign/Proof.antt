@@ -6,10 +6,10 @@ use native.Mathlib.Omega.{arith}
 use lib.Pow.{pow-mono}
 use Rattle.bounds.proofs.Powers.{one-shl, twice}
 use Rattle.word.proofs.Signed.{negated-other}
-use Rattle.round.specs.Offers.{withSign}
+use Rattle.nearest.specs.Parts.{withSign}
 use borrow.Author.Needs.{needs}
-use Rattle.round.proofs.writing.with_sign.Statement.{statement}
-use Rattle.round.proofs.writing.with_sign.Tie as tie
+use Rattle.nearest.proofs.size.with_sign.Statement.{statement}
+use Rattle.nearest.proofs.size.with_sign.Tie as tie
 
 -- NaR's word, and the carrier
 module _ (s : tie.Start) where

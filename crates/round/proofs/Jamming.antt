@@ -22,14 +22,13 @@ use Rattle.nearest.specs.declared.size.Side.{Side}
 use Rattle.nearest.specs.Nearest.{HasValue, Nearest}
 use Rattle.round.specs.Writes.{other, IsWritten}
 use Rattle.nearest.specs.Offers.{Amounts, IsOffered, IsNearest}
-use Rattle.nearest.specs.Parts.{TellsSide}
-use Rattle.round.specs.Offers.{withSign}
+use Rattle.nearest.specs.Parts.{TellsSide, withSign}
 use Rattle.round.specs.Jamming.{Between, jammed}
 use Rattle.nearest.proofs.Classes.{class-nearest}
 use Rattle.round.proofs.Finer.{coarser-between, no-word-between}
 use Rattle.round.proofs.Rounding.{over-nearest, tie-nearest, written-one}
 use Rattle.round.proofs.Scales.{plain-offer, coarser}
-use Rattle.round.proofs.Signs.{signed-nearest}
+use Rattle.nearest.proofs.Signs.{signed-nearest}
 
 -- a size between two multiples isn't zero
 nonzero : (y : ℕ) (k : ℤ) (a b : ℕ) → Between y k a b → 0 < a

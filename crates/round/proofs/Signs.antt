@@ -18,9 +18,8 @@ use Rattle.word.proofs.Signed.{negated-other}
 use Rattle.word.proofs.Values.{words-differ}
 use Rattle.nearest.specs.Nearest.{HasValue, distance, Nearest}
 use Rattle.round.specs.Writes.{IsExact}
-use Rattle.round.specs.Offers.{withSign}
 use Rattle.nearest.proofs.Nearest.{distance-below, distance-above, either-side}
-use Rattle.nearest.proofs.Places.{wordOf, has-value, value-is, to-word, from-word}
+use Rattle.nearest.proofs.Places.{wordOf, has-value, value-is, from-word}
 
 -- the distance is nothing only from the number itself
 no-distance : (a x : ℕ) → distance a x ≡ 0 → x ≡ a
@@ -30,11 +29,6 @@ same-distance : (a : ℕ) → distance a a ≡ 0
 same-distance a = distance-below a a (le-of-eq refl) ∙ sub-self a
 
 module _ (n : ℕ) (lo : 2 ≤ n) (hi : n ≤ 64) where
-  pub signed-word : (s : Bool) (v w : ℕ) → zero < v → v < 2 ^ (n - 1) → w ≡ wordOf n false v → wordOf n s v ≡ withSign n s w
-  unfolding wordOf withSign
-  signed-word false v w h b q = sym q
-  signed-word true v w h b q = sym (ap (negated n) q ∙ negated-other n v h (omega (arith, b, twice n lo)))
-
   -- the word without its sign is a positive one
   pub unsigned-word : (w : ℕ) → IsWord n w → zero < w → (w ≡ 2 ^ (n - 1) → ⊥) → IsWord n (withoutSign (2 ^ (n - 1)) w) × (zero < withoutSign (2 ^ (n - 1)) w) × (withoutSign (2 ^ (n - 1)) w < 2 ^ (n - 1))
   unfolding withoutSign
@@ -68,11 +62,6 @@ module _ (n : ℕ) (lo : 2 ≤ n) (hi : n ≤ 64) where
 
           back : 2 ^ (n - 1) < w → w ≡ 2 ^ n - (2 ^ (n - 1) + 2 ^ (n - 1) - w)
           back l = omega (arith, l, i .fits, twice n lo)
-
-  pub signed-nearest : (s : Bool) (a b w : ℕ) → Nearest n false a b w → Nearest n s a b (withSign n s w)
-  signed-nearest s a b w x =
-      let t = from-word n lo hi false a b w x in
-      subst (Nearest n s a b) (signed-word s (t .0) w (t .1 .first) (t .1 .last) (t .2)) (to-word n lo hi s a b (t .0) (t .1))
 
   pub nearest-positive : (a b w : ℕ) → Nearest n false a b w → (zero < w) × (w < 2 ^ (n - 1))
   unfolding wordOf

@@ -207,7 +207,7 @@ returns-4 c =
     let k = b .before .before .before in
     let t = b .before .before in
     let near = by-powers _ (lo k) (hi k) _ _ _ _ _ (raised-is k) (begins k) (full k) (top k) _ (is k) (first t) (omega (arith, room b)) _ _ (r .before .before .before .if4 .taken) (r .before .before .exponent .ensures) (r .before .exponent2 .ensures) _ _
-          (subst (λ (e : ℕ). TellsPowers (r .before .before .exponent .result) (r .before .exponent2 .result) e (k .before .before .args .m) (k .before .before .args .rest) (d .before .side-of-powers .result)) (raised-result r) (d .before .side-of-powers .ensures)) (d .chosen .ensures) in
+    (subst (λ (e : ℕ). TellsPowers (r .before .before .exponent .result) (r .before .exponent2 .result) e (k .before .before .args .m) (k .before .before .args .rest) (d .before .side-of-powers .result)) (raised-result r) (d .before .side-of-powers .ensures)) (d .chosen .ensures) in
     subst (IsNear _ _ _ _) (sym (c .beside2 .ensures))
     (record {
       is = near;
@@ -250,7 +250,7 @@ returns-5 c =
     let kept = k .before .before .args .n - k .before .start-of .result .r in
     let shifts = two-shifts (k .before .before .args .m) (kept - 5) (kept - 4) (omega (arith, hi k)) (omega (arith, fine)) in
     let near = by-cut _ (lo k) (hi k) _ _ _ _ _ (raised-is k) (begins k) (full k) (top k) _ (is k) (first t) (omega (arith, room b)) fine _
-          (subst (λ (cut : ℕ). ChoosesByCut (low k) cut (k .before .before .args .rest) (d .chosen-by-cut .result)) shifts (d .chosen-by-cut .ensures)) in
+    (subst (λ (cut : ℕ). ChoosesByCut (low k) cut (k .before .before .args .rest) (d .chosen-by-cut .result)) shifts (d .chosen-by-cut .ensures)) in
     subst (IsNear _ _ _ _) (sym (c .beside3 .ensures))
     (record {
       is = near;

@@ -13,7 +13,12 @@ use Rattle.word.proofs.Units.{unit-some}
 use Rattle.nearest.specs.declared.size.Rest.{Rest}
 use Rattle.nearest.specs.Offers.{IsOffered}
 use Rattle.bounds.proofs.Verdicts.{width-fits, answered}
-use Rattle.round.specs.Offers.{topBits, WritesNormal, Settles, WritesTimes}
+use Rattle.round.specs.Offers.{topBits, WritesTimes}
+use Rattle.round.specs.Writes.{IsWritten}
+use Rattle.round.proofs.Rules.{settles}
+use Rattle.bounds.specs.declared.answer.Written.{Written}
+use Rattle.bounds.specs.Sayings.{AndSays}
+use Rattle.nearest.specs.Sayings.{Says, FindsAndSays}
 use Rattle.round.proofs.Held.{raised-fits, held-sum, wide}
 use Rattle.round.proofs.Long.{few-zeros, high-shifted, top-full, long-offer, some-rest, finer-offer}
 use Rattle.round.proofs.writing.write_full.Statement.{statement}
@@ -75,19 +80,24 @@ cast-below c = record { fits = lt-of-le-of-lt (few (c .before)) (lit< tt) }
 shl-below : tie.Need-shl-below
 shl-below c = lt-of-le-of-lt (few (c .before)) (lit< tt)
 
-rounded-requires : tie.Need-rounded-requires
-rounded-requires c κs = full c
+nearest-requires : tie.Need-nearest-requires
+nearest-requires c κs = search needs
 
 by-rule-requires : tie.Need-by-rule-requires
 by-rule-requires c κs = search needs
 
 returns : tie.Need-returns
-unfolding WritesTimes WritesNormal Settles
+unfolding WritesTimes
 returns c = let k = c .before .before in
     let s = k .before in
     let t = some-rest (below s) in
-    subst (λ (z : ℤ). WritesNormal (s .args .width .bits) (s .args .rule) (s .args .negative) z (k .top-bits .result) (below s) (c .by-rule .result)) (held-sum (s .args .k) (s .fits .k) (127 - zeros s) (small s)) (answered (width-fits _ (s .pre .0) (s .pre .1)) (c .by-rule .ensures _ (s .args .negative) _ _ _ (c .before .rounded .ensures))) (t .0) (t .1) _ _ (mul-pos (some s) (unit-some _ .0)) (unit-some _ .1)
-    (finer-offer (k .top-bits .result) (below s) (t .0) (h s) _ _ (unit-some _ .1) (below-lt s) (t .1) (offered s (k .top-bits .result) (k .top-bits .ensures)))
+    let through-width = width-fits (s .args .width .bits) (s .pre .0) (s .pre .1) in
+    let x = settles (s .args .width .bits) (s .args .rule) (s .args .negative) (h s) (k .top-bits .result) (below s) (c .before .nearest .result) (full k) (k .top-bits .ok)
+    (subst (λ (z : ℤ). FindsAndSays (s .args .width .bits) (s .args .negative) z (k .top-bits .result) (below s) (c .before .nearest .result)) (held-sum (s .args .k) (s .fits .k) (127 - zeros s) (small s)) (c .before .nearest .ensures))
+    (t .0) (t .1) _ _ (mul-pos (some s) (unit-some _ .0)) (unit-some _ .1)
+    (finer-offer (k .top-bits .result) (below s) (t .0) (h s) _ _ (unit-some _ .1) (below-lt s) (t .1) (offered s (k .top-bits .result) (k .top-bits .ensures))) in
+    subst (λ (r : Written). AndSays (IsWritten (s .args .width .bits) (s .args .rule) (s .args .negative) (X s * num (s .args .k +ℤ pos 307)) (den (s .args .k +ℤ pos 307))) (Says (s .args .width .bits) (s .args .negative) (X s * num (s .args .k +ℤ pos 307)) (den (s .args .k +ℤ pos 307))) r) (sym (c .by-rule .ensures))
+    (record { answers = answered through-width (x .answers); says = x .says })
 
 pub write-full-spec : {M : Type 1} → statement M
 write-full-spec =
@@ -100,6 +110,6 @@ write-full-spec =
     top-bits-requires
     cast-below
     shl-below
-    rounded-requires
+    nearest-requires
     by-rule-requires
     returns)

@@ -14,7 +14,7 @@ use Rattle.bounds.proofs.Answers.{refusal-said, decided-said}
 use Rattle.bounds.proofs.Verdicts.{width-through}
 use Rattle.round.specs.Writes.{WritesShort}
 use Rattle.round.specs.Sayings.{WritesShortAndSays, WritesLongAndSays}
-use Rattle.round.specs.Offers.{IsWrittenAndSaid, WritesTimes}
+use Rattle.round.specs.Offers.{WritesTimes}
 use Rattle.round.proofs.writing.write_long.Statement.{statement}
 use Rattle.round.proofs.writing.write_long.Tie as tie
 
@@ -59,7 +59,7 @@ write-full-requires c κs = let b = bounds (c .before) in
     (b .0, b .1, pos-of-ne-zero (c .before .before .before .before .if1 .left))
 
 returns-3 : tie.Need-returns-3
-unfolding WritesLongAndSays WritesShortAndSays WritesShort WritesTimes IsWrittenAndSaid
+unfolding WritesLongAndSays WritesShortAndSays WritesShort WritesTimes
 returns-3 c = let k = c .before in
     let t = s (k .before) in
     let v = t .args .value in

@@ -1,23 +1,22 @@
 -- `write_short` meets its contract: zero, and any other significand with its top bit moved to 2^63. Assumes nothing.
-use mathlib.Core.Path.{_≡_, refl, ap, _∙_, subst}
+use mathlib.Core.Path.{_≡_, refl, sym, ap, _∙_, subst}
 use Prim.Native.Nat.{ℕ, zero, _-_, _*_, _%_, _^_, _≤_, _<_}
-use native.Mathlib.Nat.{pos-of-ne-zero, zero-mul, lt-of-le-of-lt, mul-pos}
+use native.Mathlib.Nat.{pos-of-ne-zero, zero-mul, lt-of-le-of-lt, mul-pos, mod-lt}
 use native.Mathlib.Omega.{arith}
 use borrow.Author.Needs.{needs}
 use lib.Dec.{lit<}
+use lib.Pow.{pow-pos}
 use lib.Count.{leadingZeros}
 use lib.IntN.{ℤ, pos, _+ℤ_}
-use Rattle.bounds.specs.declared.answer.Written.{Written}
-use Rattle.bounds.specs.Refusals.{widthTest, Decided}
 use Rattle.word.specs.Reads.{num}
 use Rattle.word.proofs.Units.{unit-some}
 use Rattle.round.specs.Writes.{WritesShort}
 use Rattle.round.specs.Sayings.{WritesShortAndSays}
 use Rattle.nearest.specs.declared.size.Rest.{Rest}
 use Rattle.nearest.specs.Offers.{IsRest}
-use Rattle.round.specs.Offers.{WritesNormal, Settles}
+use Rattle.nearest.specs.Sayings.{FindsAndSays}
 use Rattle.round.proofs.Normal.{zeros-le, shifted-full, shifted-offer}
-use Rattle.round.proofs.Rules.{zero-answered, normal-answered}
+use Rattle.round.proofs.Rules.{zero-answered, settles}
 use Rattle.round.proofs.Held.{raised-fits, held-sum, wide}
 use Rattle.round.proofs.writing.write_short.Statement.{statement}
 use Rattle.round.proofs.writing.write_short.Tie as tie
@@ -65,18 +64,20 @@ cast-full c = record { fits = lt-of-le-of-lt (few c) (lit< tt) }
 shl-full : tie.Need-shl-full
 shl-full c = lt-of-le-of-lt (few c) (lit< tt)
 
-rounded-requires : tie.Need-rounded-requires
-rounded-requires c κs = shifted-full _ (some c) (s c .fits .m .fits)
+nearest-requires : tie.Need-nearest-requires
+nearest-requires c κs = search needs
 
 by-rule-requires : tie.Need-by-rule-requires
 by-rule-requires c κs = search needs
 
 returns-2 : tie.Need-returns-2
-unfolding WritesShortAndSays WritesShort Settles IsRest
+unfolding WritesShortAndSays WritesShort IsRest
 returns-2 c = let k = c .before .before in
     let t = s k in
-    let written = subst (λ (z : ℤ). Decided (widthTest (t .args .width .bits)) (λ q. c .by-rule .result ≡ Written.Refused q) (WritesNormal (t .args .width .bits) (t .args .rule) (t .args .negative) z (m k * 2 ^ leadingZeros 64 (m k) % 2 ^ 64) 0 (c .by-rule .result))) (held-sum (t .args .k) (t .fits .k) (63 - leadingZeros 64 (m k)) (small k)) (c .by-rule .ensures _ (t .args .negative) _ _ _ (c .before .rounded .ensures)) in
-    normal-answered _ _ _ _ _ _ _ written Rest.Nothing refl _ _ (mul-pos (some k) (unit-some _ .0)) (unit-some _ .1) (shifted-offer _ (some k) (t .fits .m .fits) (t .args .k))
+    subst (WritesShortAndSays (t .args .width .bits) (t .args .rule) (t .args .negative) (m k) (t .args .k)) (sym (c .by-rule .ensures))
+    (settles _ (t .args .rule) (t .args .negative) _ _ _ _ (shifted-full _ (some k) (t .fits .m .fits)) (mod-lt _ (pow-pos 64))
+    (subst (λ (z : ℤ). FindsAndSays (t .args .width .bits) (t .args .negative) z (m k * 2 ^ leadingZeros 64 (m k) % 2 ^ 64) 0 (c .before .nearest .result)) (held-sum (t .args .k) (t .fits .k) (63 - leadingZeros 64 (m k)) (small k)) (c .before .nearest .ensures))
+    Rest.Nothing refl _ _ (mul-pos (some k) (unit-some _ .0)) (unit-some _ .1) (shifted-offer _ (some k) (t .fits .m .fits) (t .args .k)))
 
 pub write-short-spec : {M : Type 1} → statement M
 write-short-spec =
@@ -90,6 +91,6 @@ write-short-spec =
     add-h
     cast-full
     shl-full
-    rounded-requires
+    nearest-requires
     by-rule-requires
     returns-2)

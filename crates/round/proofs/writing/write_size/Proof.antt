@@ -1,25 +1,24 @@
 -- `write_size` meets its contract: zero, and any other size with its top bit moved to 2^63. Assumes nothing.
 use mathlib.Core.Path.{_≡_, refl, sym, ap, _∙_, subst}
 use Prim.Native.Nat.{ℕ, zero, _-_, _*_, _%_, _^_, _≤_, _<_}
-use native.Mathlib.Nat.{pos-of-ne-zero, zero-mul, lt-of-le-of-lt, mul-pos}
+use native.Mathlib.Nat.{pos-of-ne-zero, zero-mul, lt-of-le-of-lt, mul-pos, mod-lt}
 use native.Mathlib.Omega.{arith}
 use borrow.Author.Needs.{needs, sfits-of}
 use lib.Dec.{lit<}
+use lib.Pow.{pow-pos}
 use lib.Count.{leadingZeros}
 use lib.IntN.{ℤ, pos, _+ℤ_, _-ℤ_}
 use mir.Val.{SFits, toZ, ofZ}
 use mir.Syntax.{w32, w64}
-use Rattle.bounds.specs.declared.answer.Written.{Written}
-use Rattle.bounds.specs.Refusals.{widthTest, Decided}
 use Rattle.word.specs.Reads.{num}
 use Rattle.word.proofs.Units.{unit-some, lower-by}
 use Rattle.round.specs.Writes.{WritesShort}
 use Rattle.round.specs.Sayings.{WritesShortAndSays, WritesSizeAndSays}
 use Rattle.nearest.specs.declared.size.Rest.{Rest}
 use Rattle.nearest.specs.Offers.{IsRest}
-use Rattle.round.specs.Offers.{WritesNormal, Settles}
+use Rattle.nearest.specs.Sayings.{FindsAndSays}
 use Rattle.round.proofs.Normal.{zeros-le, shifted-full, shifted-offer}
-use Rattle.round.proofs.Rules.{zero-answered, normal-answered}
+use Rattle.round.proofs.Rules.{zero-answered, settles}
 use Rattle.round.proofs.Held.{lowered-fits, held-difference, wide}
 use Rattle.round.proofs.writing.write_size.Statement.{statement}
 use Rattle.round.proofs.writing.write_size.Tie as tie
@@ -80,19 +79,21 @@ cast-full c = record { fits = lt-of-le-of-lt (few c) (lit< tt) }
 shl-full : tie.Need-shl-full
 shl-full c = lt-of-le-of-lt (few c) (lit< tt)
 
-rounded-requires : tie.Need-rounded-requires
-rounded-requires c κs = full c
+nearest-requires : tie.Need-nearest-requires
+nearest-requires c κs = search needs
 
 by-rule-requires : tie.Need-by-rule-requires
 by-rule-requires c κs = search needs
 
 returns-2 : tie.Need-returns-2
-unfolding WritesSizeAndSays WritesShortAndSays WritesShort Settles IsRest
+unfolding WritesSizeAndSays WritesShortAndSays WritesShort IsRest
 returns-2 c = let k = c .before .before in
     let t = s k in
     let size = t .args .size in
-    let written = subst (λ (z : ℤ). Decided (widthTest (t .args .width .bits)) (λ q. c .by-rule .result ≡ Written.Refused q) (WritesNormal (t .args .width .bits) (t .args .rule) (size .negative) z (m k * 2 ^ leadingZeros 64 (m k) % 2 ^ 64) 0 (c .by-rule .result))) (held k) (c .by-rule .ensures _ (size .negative) _ _ _ (c .before .rounded .ensures)) in
-    normal-answered _ _ _ _ _ _ _ written Rest.Nothing refl _ _ (mul-pos (some k) (unit-some _ .0)) (unit-some _ .1) (shifted-offer _ (some k) (fits k) (h k -ℤ pos 63))
+    subst (WritesSizeAndSays (t .args .width .bits) (t .args .rule) size) (sym (c .by-rule .ensures))
+    (settles _ (t .args .rule) (size .negative) _ _ _ _ (full k) (mod-lt _ (pow-pos 64))
+    (subst (λ (z : ℤ). FindsAndSays (t .args .width .bits) (size .negative) z (m k * 2 ^ leadingZeros 64 (m k) % 2 ^ 64) 0 (c .before .nearest .result)) (held k) (c .before .nearest .ensures))
+    Rest.Nothing refl _ _ (mul-pos (some k) (unit-some _ .0)) (unit-some _ .1) (shifted-offer _ (some k) (fits k) (h k -ℤ pos 63)))
 
 pub write-size-spec : {M : Type 1} → statement M
 write-size-spec =
@@ -105,6 +106,6 @@ write-size-spec =
     sub-h
     cast-full
     shl-full
-    rounded-requires
+    nearest-requires
     by-rule-requires
     returns-2)

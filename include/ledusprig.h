@@ -105,7 +105,7 @@ static inline const char *takum_refusal_name(uint32_t refusal) TAKUM_NOEXCEPT {
     }
 }
 
-/* Which way a value went: where the word that was written for it, or that it was moved to, lies from there. Signs count: -512 is above -513.
+/* Which way a value went: where the word that was written for it, or that it was moved to, lies as seen from the value. Signs count: -512 is above -513.
  *
  * - EXACT: the word has the value. Zero and NaR are exact, and so is every word that the strict rule gives.
  * - BELOW, ABOVE: the word is less than the value, or greater. At 16 bits 515 goes to the word of 516, which is above it; -515 to that of -516,

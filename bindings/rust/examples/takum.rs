@@ -239,7 +239,7 @@ fn told_first(line: &str, answer: Answer) -> Answer {
     }
 }
 
-/// Where a value lies, by what was said of it: between its word and the next one on its other side; past the end, beside zero or beyond the last word.
+/// Where a value lies, by what was said of it: between its word and the next one on its other side, or, past the end, beside zero or beyond all words.
 fn place(value: Value, rounded: Written<Takum>) -> Result<String, Refusal> {
     let word = rounded.word;
     let between = |below: Takum, above: Takum| Ok(format!("between {} and {}", short(below), short(above)));

@@ -47,8 +47,8 @@ pub struct Value {
     pub k: i32,
 }
 
-/// Which way a value went: where the word that was written for it, or that it was moved to, lies from there. Signs count: -512 is above -513. The
-/// numbers are the archive's.
+/// Which way a value went: where the word that was written for it, or that it was moved to, lies as seen from the value. Signs count: -512 is above
+/// -513. The numbers are the archive's.
 ///
 /// ```
 /// use ledusprig::{Refusal, Rule, Saying, Value, Width};
@@ -75,7 +75,7 @@ pub enum Saying {
 }
 
 impl Saying {
-    /// That of the archive's number. One that there isn't, as a newer archive may have it, says least: it is taken as past the end.
+    /// That of the archive's number. A number that there isn't, as a newer archive may give one, is taken as past the end, which says least.
     pub(crate) fn of(number: u32) -> Saying {
         let near = [Saying::Exact, Saying::Below, Saying::Above];
         near.into_iter().find(|&saying| saying as u32 == number).unwrap_or(Saying::PastTheEnd)

@@ -1,7 +1,7 @@
 //! Conversions by the standard traits: where a change of type can be meant in one way only.
 //!
-//! What can fail is strict: a value becomes exactly what is asked for, or is refused, so that it has no way to have gone. Rounding has to be asked for
-//! by the name of its rule ([`Width::write_whole`], [`Takum::take_whole`] and the like).
+//! What can fail is strict: a value becomes exactly what is asked for, and needs no saying, or is refused. Rounding has to be asked for by the name of
+//! its rule ([`Width::write_whole`], [`Takum::take_whole`] and the like).
 use crate::answers::{Rule, Taking};
 use crate::refusals::Refusal;
 use crate::words::{Takum, Width};

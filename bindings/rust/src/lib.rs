@@ -6,18 +6,17 @@
 //! // 515 has no word of 16 bits: rounded it goes up, and says so; strictly it is refused
 //! let tag = Width::W16.write_whole(Rule::Rounded, 515)?;
 //! assert_eq!(tag.saying, Saying::Above);
-//! assert_eq!(tag.word.word(), 0x5A02);
 //! assert_eq!(tag.word.take_whole(Taking::Strict), Ok(516));
-//! assert_eq!(tag.word.to_string(), "516");
+//! assert_eq!(format!("{:#x} is {}", tag.word, tag.word), "0x5a02 is 516");
 //! assert_eq!(Width::W16.write_whole(Rule::Strict, 515), Err(Refusal::Inexact));
 //! # Ok::<(), Refusal>(())
 //! ```
 //!
 //! [`Width`] and [`Takum`] are a width and a word that have been accepted once, so that most of their calls can't be refused. The module
 //! [`calls`] has the library's calls as they are: they take any numbers, and refuse a bad width or a stray bit. There is no rule of the
-//! format in this crate; what is refused, and in which order, is decided by the library. What is written or moved is [`Written`], a word and a
-//! [`Saying`]: whether the word has the value, or on which side of it it lies. Sheet blocks are read by [`calls::read_block`] and written by
-//! [`calls::write_block`] or [`Width::write_block`].
+//! format in this crate; what is refused, and in which order, is decided by the library. What is written or moved is a [`Written`]: a word,
+//! and by its [`Saying`] which way the value went. Sheet blocks are read by [`calls::read_block`] and written by [`calls::write_block`] or
+//! [`Width::write_block`].
 //!
 //! The standard traits convert what can be meant in one way only: `Width::try_from(16)`, `i64::try_from(takum)` and
 //! `Takum::try_from((width, 514_i64))`, which are strict, and `f64::from(takum)`. A [`Refusal`] is an error with a number, a name and a sentence;

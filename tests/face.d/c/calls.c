@@ -63,6 +63,10 @@ void of_constant(given *from, answer *to) {
         {"GREATEST_WIDTH", TAKUM_GREATEST_WIDTH},
         {"BLOCK_SIZE", TAKUM_BLOCK_SIZE},
         {"BLOCK_WORDS", TAKUM_BLOCK_WORDS},
+        {"EXACT", TAKUM_EXACT},
+        {"BELOW", TAKUM_BELOW},
+        {"ABOVE", TAKUM_ABOVE},
+        {"PAST_THE_END", TAKUM_PAST_THE_END},
     };
     for (size_t i = 0; i < sizeof constants / sizeof constants[0]; i++) {
         if (take(from, constants[i].name)) {

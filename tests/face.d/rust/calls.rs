@@ -61,6 +61,10 @@ pub fn constant(given: &mut Given, to: &mut String) {
         "GREATEST_WIDTH" => Width::GREATEST.bits() as usize,
         "BLOCK_SIZE" => BLOCK_SIZE,
         "BLOCK_WORDS" => BLOCK_WORDS,
+        "EXACT" => Saying::Exact as usize,
+        "BELOW" => Saying::Below as usize,
+        "ABOVE" => Saying::Above as usize,
+        "PAST_THE_END" => Saying::PastTheEnd as usize,
         name => stop("there is no such constant", name),
     };
     to.push_str(&value.to_string());

@@ -4,12 +4,11 @@ use bounds::refusal::Verdict;
 use bounds::saying::Saying;
 use bounds::width::Width;
 use word::fields::cut;
-ghost use mathlib.Core.Bool.{true, false, not, cond};
+ghost use mathlib.Core.Bool.{true, false, not};
 ghost use mathlib.Core.Path.{_≡_};
 ghost use Prim.Native.Nat.{_+_, _-_, _*_, _^_, _≤_, _<_};
 ghost use lib.Dec.{eqb};
 ghost use lib.Signed.{mag};
-ghost use Rattle.bounds.specs.declared.saying.Saying.the-variants.{Below, Above};
 ghost use Rattle.word.specs.Takum as Takum;
 ghost use Rattle.bounds.specs.Refusals.{IsWord};
 ghost use Rattle.nearest.specs.Offers.{IsRest};
@@ -73,7 +72,8 @@ fn with_sign(n: u32, negative: bool, word: u64) -> u64
     word
 }
 
-// Which way it went, with the sign: of two negative values the larger one in size is below.
+// Which way it went, with the sign: of two negative values the larger one in size is below. The two flags are compared as numbers, which the machine does
+// without a jump.
 fn said(negative: bool, near: Near) -> Saying
     ensures { λ s. ⌜ s ≡ signedSaying negative (sayingOf near) ⌝ }
 {
@@ -83,16 +83,9 @@ fn said(negative: bool, near: Near) -> Saying
     if near.exact {
         return Saying::Exact;
     }
-    if negative {
-        return beside_value(!near.up);
-    }
-    beside_value(near.up)
-}
-
-fn beside_value(up: bool) -> Saying
-    ensures { λ s. ⌜ s ≡ cond up Above Below ⌝ }
-{
-    if up {
+    let up = near.up as u32;
+    let turned = negative as u32;
+    if up != turned {
         return Saying::Above;
     }
     Saying::Below

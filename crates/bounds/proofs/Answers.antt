@@ -39,6 +39,21 @@ pub no-refusal : {w : ℕ} {s : Saying} {q : Refusal} → Written.Refused q ≡ 
 unfolding GivesAWord
 no-refusal e = subst (λ (r : Written). GivesAWord (plain r)) (sym e) tt
 
+-- refused, with a saying or without it
+pub plain-refused : (r : Written) (q : Refusal) → plain r ≡ Answer.Refused q → r ≡ Written.Refused q
+unfolding GivesAWord
+plain-refused (Written.Word w s) q e = absurd (subst GivesAWord e tt)
+plain-refused (Written.Refused p) q e = ap (λ (a : Answer). by a) e
+  where
+    by : Answer → Written
+    by (Answer.Word w) = Written.Word w Exact
+    by (Answer.Refused u) = Written.Refused u
+
+pub plain-word : (r : Written) (w : ℕ) → plain r ≡ Answer.Word w → (s : Saying) × (r ≡ Written.Word w s)
+unfolding GivesAWord wordOf
+plain-word (Written.Word v s) w e = (s, ap (λ (u : ℕ). Written.Word u s) (ap wordOf e))
+plain-word (Written.Refused q) w e = absurd (subst GivesAWord (sym e) tt)
+
 module _ {Answers : Answer → Type 0} {Says : ℕ → Saying → Type 0} where
   pub word-said : (w : ℕ) (s : Saying) → Answers (Answer.Word w) → Says w s → AndSays Answers Says (Written.Word w s)
   word-said w s x y = record { answers = x; says = λ v t q. subst₂ Says (same-word q .0) (same-word q .1) y }

@@ -13,7 +13,10 @@ use lib.Ieee.Fits.{down-pos}
 use lib.IntN.{ℤ, pos, natAbs, _+ℤ_}
 use lib.ListN.{length, getD}
 use lib.Seq.{ext-getD}
+use Rattle.bounds.specs.declared.saying.Saying.{Saying}
+use Rattle.bounds.specs.declared.saying.Saying.the-variants.{Exact}
 use Rattle.bounds.specs.Refusals.{IsWord}
+use Rattle.bounds.specs.Sayings.{sayingNumber}
 use Rattle.bounds.proofs.Powers.{not-more}
 use Rattle.word.specs.declared.reading.Kind.{Kind}
 use Rattle.word.specs.Takum.{Takum, real, NaR, takum, fractionBits}
@@ -22,16 +25,23 @@ use Rattle.word.specs.Orders.{opposite}
 use Rattle.word.proofs.Binades.{kind-one}
 use Rattle.word.proofs.Values.{real-inj, not-NaR, words-differ}
 use Rattle.nearest.specs.Nearest.{HasValue}
-use Rattle.round.specs.Writes.{IsExact}
+use Rattle.nearest.specs.Sayings.{Says}
+use Rattle.nearest.proofs.Sayings.{says-one}
+use Rattle.round.specs.Writes.{zero, other, IsExact}
 use Rattle.write.specs.Writes.{isNegative}
+use Rattle.write.specs.Sayings.{SaysMoved}
 use Rattle.word.proofs.Units.{unit-some}
 use Rattle.round.proofs.Rounding.{rounded-one, exact-rounded}
+use Rattle.round.proofs.Rules.{zero-value}
 use Rattle.whole.specs.Wholes.{IsNearestWhole}
 use Rattle.whole.proofs.NearestWholes.{one-nearest-whole}
 use Rattle.binary64.specs.Nearest.{NearestBinary64}
+use Rattle.column.specs.Counts.{Counts, KeepsTheMeaning}
+use Rattle.column.proofs.Counts.{counts-one}
 use Rattle.sheet.specs.Layout as block
 use Rattle.sheet.proofs.SameContent.{same-bytes}
 use Rattle.ledusprig.specs.declared.handed.words.HandedWord.{HandedWord}
+use Rattle.ledusprig.specs.declared.handed.words.HandedSaying.{HandedSaying}
 use Rattle.ledusprig.specs.declared.handed.words.HandedReading.{HandedReading}
 use Rattle.ledusprig.specs.declared.handed.words.HandedComparison.{HandedComparison}
 use Rattle.ledusprig.specs.declared.handed.widths.HandedLimit.{HandedLimit}
@@ -44,7 +54,7 @@ use Rattle.ledusprig.specs.Handed.{kindHanded}
 use Rattle.promises.specs.Nearest.{OneNumberIsTheNearest}
 use Rattle.promises.specs.Numbers.{IsWhole}
 use Rattle.promises.specs.Refusals.{Line, line, width, stray, nar, over, room, size, mark, check, blockWidth, count, fill, writtenWidth, writtenCount}
-use Rattle.promises.specs.Face.{FieldFollows, NoneHolds, HandsWord, inexact, IsGiven, IsNaR, IsLargest, IsSmallest, CountsUpTo, HandsLargest, HandsSmallest, HandsNaR, HandsLimit, NoNumber, IsToldBy, HandsReading, HandsComparison, HandsNegated, HandsValue, HandsWritten, HandsWholeWritten, HandsBinary64Written, HandsWhole, HandsNumber, wordLines, IsMovedTo, HandsMoved, MovedAll, RefusedAtPosition, HandsColumn, HandsBlock, WrittenAll, StrayAtPosition, HandsBlockWritten}
+use Rattle.promises.specs.Face.{FieldFollows, NoneHolds, HandsWord, HandsSaid, inexact, IsGiven, IsNaR, IsLargest, IsSmallest, CountsUpTo, HandsLargest, HandsSmallest, HandsNaR, HandsLimit, NoNumber, IsToldBy, HandsReading, HandsComparison, HandsNegated, HandsValue, HandsWritten, HandsWholeWritten, HandsBinary64Written, HandsWhole, HandsNumber, wordLines, IsMovedTo, HandsMoved, MovedAll, RefusedAtPosition, HandsColumn, HandsBlock, WrittenAll, StrayAtPosition, HandsBlockWritten}
 use Rattle.promises.proofs.Nearest.{one-number-is-the-nearest}
 
 -- ---- for every struct
@@ -71,6 +81,21 @@ word-one lines Is one r s = follows-one lines (λ e z z'. same e (both z z')) (�
   where
     same : r .refusal ≡ s .refusal → r .word ≡ s .word → r ≡ s
     same e f = λ i. record { refusal = e i; word = f i }
+
+-- with a saying
+said-one : (lines : List Line) (Is : ℕ → Type 0) (SaysOf : ℕ → Saying → Type 0) → (NoneHolds lines → (v w : ℕ) → Is v → Is w → v ≡ w) → (NoneHolds lines → (w : ℕ) (p q : Saying) → Is w → SaysOf w p → SaysOf w q → p ≡ q) → (r s : HandedSaying) → HandsSaid lines Is SaysOf r → HandsSaid lines Is SaysOf s → r ≡ s
+said-one lines Is SaysOf one says-one r s = follows-one lines (λ e z z'. same e (both (z .0) (z' .0)) (both (z .1) (z' .1))) (λ none x y. by none (both (x .0) (y .0)) (x .1) (y .1))
+  where
+    same : r .refusal ≡ s .refusal → r .saying ≡ s .saying → r .word ≡ s .word → r ≡ s
+    same e f g = λ i. record { refusal = e i; saying = f i; word = g i }
+
+    Said : HandedSaying → Type 0
+    Said r = Is (r .word) × ((p : Saying) × (r .saying ≡ sayingNumber p) × SaysOf (r .word) p)
+
+    by : NoneHolds lines → r .refusal ≡ s .refusal → Said r → Said s → r ≡ s
+    by none e (x, (p, f, a)) (y, (q, g, b)) =
+        let word = one none (r .word) (s .word) x y in
+        same e (f ∙ ap sayingNumber (says-one none (s .word) p q y (subst (λ (w : ℕ). SaysOf w p) word a) b) ∙ sym g) word
 
 -- one value has one word
 has-one : (n : ℕ) (s : Bool) (z z' w w' : ℕ) → z ≡ z' → HasValue n s z w → HasValue n s z' w' → w ≡ w'
@@ -142,22 +167,30 @@ unfolding IsGiven
 given-one true n lo hi s a b some v w x y = rounded-one n lo hi s a b v w some (exact-rounded n lo hi s a b v some x) (exact-rounded n lo hi s a b w some y)
 given-one false n lo hi s a b some v w x y = rounded-one n lo hi s a b v w some x y
 
-value-one : (n : ℕ) (strict negative : Bool) (a b : ℕ) → 0 < b → (r s : HandedWord) → HandsValue n strict negative a b r → HandsValue n strict negative a b s → r ≡ s
-unfolding NoneHolds
-value-one n strict negative a b some = word-one (width n ∷ inexact strict (IsExact n negative a b) ∷ []) (IsGiven strict n negative a b) (λ none. let t = right (none .0) in given-one strict n (t .0) (t .1) negative a b some)
+given-word : (strict : Bool) (n : ℕ) → 2 ≤ n → n ≤ 64 → (s : Bool) (a b w : ℕ) → IsGiven strict n s a b w → IsWord n w
+unfolding IsGiven
+given-word true n lo hi s a b w x = x .is .word
+given-word false n lo hi s a b w (zero q e) = subst (IsWord n) (sym e) (zero-value n lo hi s .word)
+given-word false n lo hi s a b w (other h x) = x .is .word
 
-pub written-called-one : (n : ℕ) (strict negative : Bool) (m : ℕ) (k : ℤ) (r s : HandedWord) → HandsWritten n strict negative m k r → HandsWritten n strict negative m k s → r ≡ s
+value-one : (n : ℕ) (strict negative : Bool) (a b : ℕ) → 0 < b → (r s : HandedSaying) → HandsValue n strict negative a b r → HandsValue n strict negative a b s → r ≡ s
+unfolding NoneHolds
+value-one n strict negative a b some =
+    said-one (width n ∷ inexact strict (IsExact n negative a b) ∷ []) (IsGiven strict n negative a b) (Says n negative a b) (λ none. let t = right (none .0) in given-one strict n (t .0) (t .1) negative a b some)
+    (λ none w p q x. let t = right (none .0) in says-one n (t .0) (t .1) negative a b w p q (given-word strict n (t .0) (t .1) negative a b w x))
+
+pub written-called-one : (n : ℕ) (strict negative : Bool) (m : ℕ) (k : ℤ) (r s : HandedSaying) → HandsWritten n strict negative m k r → HandsWritten n strict negative m k s → r ≡ s
 unfolding HandsWritten
 written-called-one n strict negative m k = value-one n strict negative (m * num (k +ℤ pos 307)) (den (k +ℤ pos 307)) (unit-some (k +ℤ pos 307) .1)
 
-pub whole-written-called-one : (n : ℕ) (strict : Bool) (x : ℤ) (r s : HandedWord) → HandsWholeWritten n strict x r → HandsWholeWritten n strict x s → r ≡ s
+pub whole-written-called-one : (n : ℕ) (strict : Bool) (x : ℤ) (r s : HandedSaying) → HandsWholeWritten n strict x r → HandsWholeWritten n strict x s → r ≡ s
 unfolding HandsWholeWritten
 whole-written-called-one n strict x = value-one n strict (isNegative x) (natAbs x * 2 ^ 307) 1 (omega arith)
 
-pub binary64-written-called-one : (n : ℕ) (strict : Bool) (x : Float) (r s : HandedWord) → HandsBinary64Written n strict x r → HandsBinary64Written n strict x s → r ≡ s
-unfolding HandsBinary64Written HandsNaR
-binary64-written-called-one n strict nan = NaR-called-one n
-binary64-written-called-one n strict (inf s) = NaR-called-one n
+pub binary64-written-called-one : (n : ℕ) (strict : Bool) (x : Float) (r s : HandedSaying) → HandsBinary64Written n strict x r → HandsBinary64Written n strict x s → r ≡ s
+unfolding HandsBinary64Written
+binary64-written-called-one n strict nan = said-one (width n ∷ []) (IsNaR n) (λ w s. s ≡ Exact) (λ none. NaR-one n) (λ none w p q x. both)
+binary64-written-called-one n strict (inf s) = said-one (width n ∷ []) (IsNaR n) (λ w s. s ≡ Exact) (λ none. NaR-one n) (λ none w p q x. both)
 binary64-written-called-one n strict (fin s m e) = value-one n strict s (m * up e * 2 ^ 307) (down e) (down-pos e)
 
 -- ---- taking
@@ -196,9 +229,16 @@ unfolding IsMovedTo
 moved-one n lo hi strict (real z) = given-one strict n lo hi (isNegative z) (natAbs z) 1 (omega arith)
 moved-one n lo hi strict NaR = NaR-one n
 
-pub moved-called-one : (n n' : ℕ) (strict : Bool) (w : ℕ) (r s : HandedWord) → HandsMoved n n' strict w r → HandsMoved n n' strict w s → r ≡ s
+moved-says-one : (n : ℕ) → 2 ≤ n → n ≤ 64 → (strict : Bool) (t : Takum) (w : ℕ) (p q : Saying) → IsMovedTo n strict t w → SaysMoved n t w p → SaysMoved n t w q → p ≡ q
+unfolding IsMovedTo SaysMoved
+moved-says-one n lo hi strict (real z) w p q x = says-one n lo hi (isNegative z) (natAbs z) 1 w p q (given-word strict n lo hi (isNegative z) (natAbs z) 1 w x)
+moved-says-one n lo hi strict NaR w p q x = both
+
+pub moved-called-one : (n n' : ℕ) (strict : Bool) (w : ℕ) (r s : HandedSaying) → HandsMoved n n' strict w r → HandsMoved n n' strict w s → r ≡ s
 unfolding HandsMoved NoneHolds
-moved-called-one n n' strict w = word-one (width n ∷ width n' ∷ wordLines n n' strict w) (IsMovedTo n' strict (takum n w)) (λ none. let t = right (none .1 .0) in moved-one n' (t .0) (t .1) strict (takum n w))
+moved-called-one n n' strict w =
+    said-one (width n ∷ width n' ∷ wordLines n n' strict w) (IsMovedTo n' strict (takum n w)) (SaysMoved n' (takum n w)) (λ none. let t = right (none .1 .0) in moved-one n' (t .0) (t .1) strict (takum n w))
+    (λ none v p q x. let t = right (none .1 .0) in moved-says-one n' (t .0) (t .1) strict (takum n w) v p q x)
 
 -- ---- a column
 -- what is refused at one of the lines isn't refused where none holds
@@ -214,29 +254,32 @@ module _ (n n' : ℕ) (strict : Bool) (words before : List ℕ) where
   refused-later count after r none x = not-more (λ h. refused-somewhere (wordLines n n' strict (getD words (r .position) 0)) (r .refusal) _ (none (r .position) h) (x .is))
 
   module _ (after after' : List ℕ) (r s : HandedColumn) where
-    same-column : r .refusal ≡ s .refusal → r .position ≡ s .position → r .moved ≡ s .moved → r ≡ s
-    same-column e f g = λ i. record { refusal = e i; position = f i; moved = g i }
+    same-column : r .refusal ≡ s .refusal → r .position ≡ s .position → r .moved ≡ s .moved → r .exact ≡ s .exact → r ≡ s
+    same-column e f g k = λ i. record { refusal = e i; position = f i; moved = g i; exact = k i }
 
     all-moved : 2 ≤ n' → n' ≤ 64 → MovedAll n n' strict words before after r → MovedAll n n' strict words before after' s → (r ≡ s) × (after ≡ after')
     all-moved lo hi x y =
-        (same-column (both (x .refusal) (y .refusal)) (both (x .position) (y .position)) (both (x .moved) (y .moved)), ext-getD 0 after after' (both (x .as-long) (y .as-long)) (λ i h. by i (decLt i (length words))))
+        (same-column (both (x .refusal) (y .refusal)) (both (x .position) (y .position)) (both (x .moved) (y .moved)) (counts-one (subst (λ (l : List ℕ). Counts (KeepsTheMeaning n n' words l) (length words) (r .exact)) same (x .exact)) (y .exact)), same)
       where
         by : (i : ℕ) → Dec (i < length words) → getD after i 0 ≡ getD after' i 0
         by i (yes l) = moved-one n' lo hi strict (takum n (getD words i 0)) (getD after i 0) (getD after' i 0) (x .results i l) (y .results i l)
         by i (no f) = both (x .others i (not-more f)) (y .others i (not-more f))
 
+        same : after ≡ after'
+        same = ext-getD 0 after after' (both (x .as-long) (y .as-long)) (λ i h. by i (decLt i (length words)))
+
     both-refused : RefusedAtPosition n n' strict words before after r → RefusedAtPosition n n' strict words before after' s → (r ≡ s) × (after ≡ after')
-    both-refused x y = follows-one (wordLines n n' strict (getD words (r .position) 0)) (λ e (f, a) (g, b). (same-column e same-position (both f g), both a b)) (λ none z z'. absurd z) (x .is) there
+    both-refused x y = follows-one (wordLines n n' strict (getD words (r .position) 0)) (λ e (f, k, a) (g, k', b). (same-column e same-position (both f g) (both k k'), both a b)) (λ none z z'. absurd z) (x .is) there
       where
         same-position : r .position ≡ s .position
         same-position = le-antisymm (refused-later (r .position) after' s (x .lowest) y) (refused-later (s .position) after r (y .lowest) x)
 
-        there : FieldFollows (s .refusal) (wordLines n n' strict (getD words (r .position) 0)) ((s .moved ≡ 0) × (after' ≡ before)) ⊥
-        there = subst (λ (p : ℕ). FieldFollows (s .refusal) (wordLines n n' strict (getD words p 0)) ((s .moved ≡ 0) × (after' ≡ before)) ⊥) (sym same-position) (y .is)
+        there : FieldFollows (s .refusal) (wordLines n n' strict (getD words (r .position) 0)) ((s .moved ≡ 0) × (s .exact ≡ 0) × (after' ≡ before)) ⊥
+        there = subst (λ (p : ℕ). FieldFollows (s .refusal) (wordLines n n' strict (getD words p 0)) ((s .moved ≡ 0) × (s .exact ≡ 0) × (after' ≡ before)) ⊥) (sym same-position) (y .is)
 
     pub column-called-one : HandsColumn n n' strict words before after r → HandsColumn n n' strict words before after' s → (r ≡ s) × (after ≡ after')
     unfolding HandsColumn NoneHolds
-    column-called-one = follows-one (width n ∷ width n' ∷ room (length words) (length before) ∷ []) (λ e (f, g, a) (f', g', b). (same-column e (both f f') (both g g'), both a b)) (λ none. let t = right (none .1 .0) in by (t .0) (t .1))
+    column-called-one = follows-one (width n ∷ width n' ∷ room (length words) (length before) ∷ []) (λ e (f, g, k, a) (f', g', k', b). (same-column e (both f f') (both g g') (both k k'), both a b)) (λ none. let t = right (none .1 .0) in by (t .0) (t .1))
       where
         by : 2 ≤ n' → n' ≤ 64 → MovedAll n n' strict words before after r ⊎ RefusedAtPosition n n' strict words before after r → MovedAll n n' strict words before after' s ⊎ RefusedAtPosition n n' strict words before after' s → (r ≡ s) × (after ≡ after')
         by lo hi (inl x) (inl y) = all-moved lo hi x y

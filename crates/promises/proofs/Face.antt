@@ -44,7 +44,7 @@ module _ (n n' : ℕ) (strict : Bool) (words before after : List ℕ) (r : Hande
       at-position (inl y) = y .1
       at-position (inr y) = absurd y
 
-      by : ((r .position ≡ 0) × (r .moved ≡ 0) × (after ≡ before)) ⊎ (MovedAll n n' strict words before after r ⊎ RefusedAtPosition n n' strict words before after r) → after ≡ before
+      by : ((r .position ≡ 0) × (r .moved ≡ 0) × (r .exact ≡ 0) × (after ≡ before)) ⊎ (MovedAll n n' strict words before after r ⊎ RefusedAtPosition n n' strict words before after r) → after ≡ before
       by (inl x) = x .2
       by (inr (inl x)) = absurd (some (x .refusal))
       by (inr (inr x)) = at-position (either _ _ _ _ (x .is))
@@ -63,7 +63,7 @@ module _ (n n' : ℕ) (strict : Bool) (words before after : List ℕ) (r : Hande
   unfolding HandsColumn
   with-a-word some = by (either _ _ _ _ h)
     where
-      by : ((r .position ≡ 0) × (r .moved ≡ 0) × (after ≡ before)) ⊎ (MovedAll n n' strict words before after r ⊎ RefusedAtPosition n n' strict words before after r) → ((r .refusal ≡ 2) ⊎ (r .refusal ≡ 4)) × (r .position < length words)
+      by : ((r .position ≡ 0) × (r .moved ≡ 0) × (r .exact ≡ 0) × (after ≡ before)) ⊎ (MovedAll n n' strict words before after r ⊎ RefusedAtPosition n n' strict words before after r) → ((r .refusal ≡ 2) ⊎ (r .refusal ≡ 4)) × (r .position < length words)
       by (inl x) = absurd (some (x .0))
       by (inr (inl x)) = absurd (some (x .position))
       by (inr (inr x)) = (of-a-word x, x .inside)

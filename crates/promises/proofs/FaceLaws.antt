@@ -6,15 +6,20 @@ use mathlib.Core.Logic.{inl, inr}
 use Prim.Native.Nat.{ℕ, zero, suc}
 use native.Mathlib.Omega.{arith}
 use Rattle.bounds.specs.declared.answer.Answer.{Answer}
+use Rattle.bounds.specs.declared.answer.Written.{Written}
+use Rattle.bounds.specs.declared.saying.Saying.{Saying}
 use Rattle.bounds.specs.declared.refusal.Refusal.{Refusal}
 use Rattle.bounds.specs.declared.refusal.Verdict.{Verdict}
+use Rattle.bounds.specs.Sayings.{sayingNumber, plain, AndSays}
+use Rattle.bounds.proofs.Answers.{plain-refused}
 use Rattle.bounds.specs.Refusals.{numberOf, Decided, through, refused}
 use Rattle.round.specs.declared.value.Rule.{Rule}
 use Rattle.whole.specs.declared.taking.Taking.{Taking}
 use Rattle.ledusprig.specs.declared.handed.words.HandedWord.{HandedWord}
-use Rattle.ledusprig.specs.Handed.{HandsOver, ruleOf, takingOf, wordHanded}
+use Rattle.ledusprig.specs.declared.handed.words.HandedSaying.{HandedSaying}
+use Rattle.ledusprig.specs.Handed.{HandsOver, ruleOf, takingOf, wordHanded, sayingHanded}
 use Rattle.promises.specs.Refusals.{Line, line, FollowsUpTo, Follows}
-use Rattle.promises.specs.Face.{FieldFollows, HandsWord, NoneHolds, isStrict}
+use Rattle.promises.specs.Face.{FieldFollows, HandsWord, HandsSaid, NoneHolds, isStrict}
 use Rattle.promises.proofs.WordRefusals.{rounded-strict}
 
 -- from one answer to its struct
@@ -44,6 +49,27 @@ module _ (lines : List Line) {Gives : Answer → Type 0} (Is : ℕ → Type 0) w
       by : (a : Answer) → Gives a → ((q : Refusal) → a ≡ Answer.Refused q → ⊥) → (wordHanded a .refusal ≡ 0) × Is (wordHanded a .word)
       by (Answer.Word w) x none = (refl, is w x)
       by (Answer.Refused q) x none = absurd (none q refl)
+
+-- answers that are refused alike follow the same lines
+pub refused-alike : {A B : Type 0} (R : Refusal → A) (R' : Refusal → B) (a : A) (b : B) (lines : List Line) → ((q : Refusal) → a ≡ R q → b ≡ R' q) → ((q : Refusal) → b ≡ R' q → a ≡ R q) → Follows R a lines → Follows R' b lines
+unfolding Follows FollowsUpTo
+refused-alike R R' a b [] to from x = λ q e. x q (from q e)
+refused-alike R R' a b (line number When ∷ lines) to from (inl (h, x)) = inl (h, record { q = x .q; is = to (x .q) (x .is); known = x .known })
+refused-alike R R' a b (line number When ∷ lines) to from (inr (h, x)) = inr (h, refused-alike R R' a b lines to from x)
+
+-- a call that answers with a word and its saying
+module _ (lines : List Line) {Gives : Answer → Type 0} (Is : ℕ → Type 0) (SaysOf : ℕ → Saying → Type 0) where
+  pub said-hands : ((w : ℕ) → Gives (Answer.Word w) → Is w) → ((a : Answer) → Gives a → Follows Answer.Refused a lines) → (r : HandedSaying) → HandsOver sayingHanded (AndSays Gives SaysOf) r → HandsSaid lines Is SaysOf r
+  said-hands is follows r h =
+      hands Written.Refused (λ r. r .refusal) (λ r. (r .saying ≡ 0) × (r .word ≡ 0)) Said lines (λ q x. (refl, (refl, refl))) by
+      (λ a x. refused-alike Answer.Refused Written.Refused (plain a) a lines (plain-refused a) (λ q e. ap plain e) (follows (plain a) (x .answers))) r h
+    where
+      Said : HandedSaying → Type 0
+      Said r = (r .refusal ≡ 0) × (Is (r .word) × ((s : Saying) × (r .saying ≡ sayingNumber s) × SaysOf (r .word) s))
+
+      by : (a : Written) → AndSays Gives SaysOf a → ((q : Refusal) → a ≡ Written.Refused q → ⊥) → Said (sayingHanded a)
+      by (Written.Word w s) x none = (refl, (is w (x .answers), (s, refl, x .says w s refl)))
+      by (Written.Refused q) x none = absurd (none q refl)
 
 -- an answer that is no refusal passed the tests, and is what the contract says
 pub unrefused : {A : Type 0} {R : Refusal → A} {a : A} {v : Verdict} {Q : Type 0} → ((q : Refusal) → a ≡ R q → ⊥) → Decided v (λ q. a ≡ R q) Q → (v ≡ Verdict.Through) × Q

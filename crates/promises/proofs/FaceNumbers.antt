@@ -10,16 +10,21 @@ use lib.IntN.{ℤ, pos, natAbs, _+ℤ_}
 use Rattle.bounds.specs.declared.answer.Answer.{Answer}
 use Rattle.bounds.specs.declared.refusal.Refusal.{Refusal}
 use Rattle.bounds.specs.declared.refusal.Verdict.{Verdict}
+use Rattle.bounds.specs.declared.saying.Saying.the-variants.{Exact}
 use Rattle.bounds.specs.Refusals.{widthTest, IsWord, Decided}
+use Rattle.bounds.specs.Sayings.{AndSays}
 use Rattle.bounds.specs.Widths.{narWord, GivesWord}
 use Rattle.bounds.proofs.Verdicts.{width-through, word-through, move-through}
 use Rattle.word.specs.Takum.{Takum, real, NaR, takum}
 use Rattle.word.specs.Reads.{num, den}
 use Rattle.word.proofs.Values.{not-NaR}
+use Rattle.nearest.specs.Sayings.{Says}
 use Rattle.round.specs.Writes.{IsExact, IsWritten}
 use Rattle.write.specs.Writes.{IsMoved, isNegative, Writes, Moves}
+use Rattle.write.specs.Sayings.{SaysMoved, WritesAndSays, MovesAndSays}
 use Rattle.whole.specs.declared.taking.Whole.{Whole}
 use Rattle.whole.specs.Wholes.{IsNearestWhole, WritesWhole, TakesWhole}
+use Rattle.whole.specs.Sayings.{WritesWholeAndSays}
 use Rattle.whole.proofs.InAndOut.{strictly-taken}
 use Rattle.whole.proofs.TakenOut.{taken-out}
 use Rattle.whole.proofs.WholeValues.{valueOf}
@@ -27,18 +32,18 @@ use Rattle.binary64.specs.declared.taking.Binary64.{Binary64}
 use Rattle.binary64.specs.Nearest.{NearestBinary64}
 use Rattle.binary64.specs.Takes as taken
 use Rattle.binary64.specs.Writes.{IsWrittenBinary64, WritesBinary64}
-use Rattle.ledusprig.specs.declared.handed.words.HandedWord.{HandedWord}
+use Rattle.binary64.specs.Sayings.{SaysBinary64, WritesBinary64AndSays}
+use Rattle.ledusprig.specs.declared.handed.words.HandedSaying.{HandedSaying}
 use Rattle.ledusprig.specs.declared.handed.numbers.HandedWhole.{HandedWhole}
 use Rattle.ledusprig.specs.declared.handed.numbers.HandedNumber.{HandedNumber}
-use Rattle.ledusprig.specs.Handed.{HandsOver, ruleOf, takingOf, wordHanded, wholeHanded, numberHanded}
+use Rattle.ledusprig.specs.Handed.{HandsOver, ruleOf, takingOf, sayingHanded, wholeHanded, numberHanded}
 use Rattle.promises.specs.Demands.{TheNaRWord}
 use Rattle.promises.specs.Nearest.{TheNumberOutIsTheNearest}
 use Rattle.promises.specs.Numbers.{IsWhole, AWordThatIsNotNaRGoesOutAsANumber}
 use Rattle.promises.specs.Refusals.{Line, FollowsUpTo, Follows, width, stray, nar, over, moveLines}
-use Rattle.promises.specs.Face.{inexact, IsGiven, IsNaR, HandsNaR, HandsValue, HandsWritten, HandsWholeWritten, HandsBinary64Written, HandsWhole, HandsNumber, wordLines, IsMovedTo, HandsMoved}
+use Rattle.promises.specs.Face.{inexact, IsGiven, IsNaR, HandsSaid, HandsValue, HandsWritten, HandsWholeWritten, HandsBinary64Written, HandsWhole, HandsNumber, wordLines, IsMovedTo, HandsMoved}
 use Rattle.promises.proofs.Demands.{the-NaR-word}
-use Rattle.promises.proofs.FaceLaws.{hands, word-hands, unrefused, numbered, last-retold, rule-retold, takes-strictly}
-use Rattle.promises.proofs.FaceWords.{NaR-hands}
+use Rattle.promises.proofs.FaceLaws.{hands, said-hands, unrefused, numbered, last-retold, rule-retold, takes-strictly}
 use Rattle.promises.proofs.Lines.{width-tells, follow}
 use Rattle.promises.proofs.Nearest.{the-number-out-is-the-nearest}
 use Rattle.promises.proofs.Numbers.{a-word-that-is-not-NaR-goes-out-as-a-number}
@@ -55,19 +60,19 @@ given false n s a b w x = x
 IsWrittenAt : ℕ → Bool → Bool → ℕ → ℕ → Answer → Type 0
 IsWrittenAt n strict s a b r = Decided (widthTest n) (λ q. r ≡ Answer.Refused q) (IsWritten n (ruleOf (numbered strict)) s a b r)
 
-value-hands : (n : ℕ) (strict s : Bool) (a b : ℕ) (r : HandedWord) → HandsOver wordHanded (IsWrittenAt n strict s a b) r → HandsValue n strict s a b r
+value-hands : (n : ℕ) (strict s : Bool) (a b : ℕ) (r : HandedSaying) → HandsOver sayingHanded (AndSays (IsWrittenAt n strict s a b) (Says n s a b)) r → HandsValue n strict s a b r
 unfolding IsWrittenAt Follows FollowsUpTo
-value-hands n strict s a b = word-hands (width n ∷ inexact strict (IsExact n s a b) ∷ []) (IsGiven strict n s a b) (λ w x. given strict n s a b w (unrefused (word-none w _ refl) x .1)) follows
+value-hands n strict s a b = said-hands (width n ∷ inexact strict (IsExact n s a b) ∷ []) (IsGiven strict n s a b) (Says n s a b) (λ w x. given strict n s a b w (unrefused (word-none w _ refl) x .1)) follows
   where
     follows : (r : Answer) → IsWrittenAt n strict s a b r → Follows Answer.Refused r (width n ∷ inexact strict (IsExact n s a b) ∷ [])
     follows r x = rule-retold Answer.Refused r (width n ∷ []) 4 strict ((w : ℕ) → IsExact n s a b w → ⊥) (follow Refusal.Width (width-tells n) x (λ e. inexact-line n (ruleOf (numbered strict)) s a b (IsExact n s a b) r (λ w y. y) (λ w y. y)))
 
-pub write-hands : (n : ℕ) (strict s : Bool) (m : ℕ) (k : ℤ) (r : HandedWord) → HandsOver wordHanded (Writes n (ruleOf (numbered strict)) (record { negative = s; m = m; k = k })) r → HandsWritten n strict s m k r
-unfolding HandsWritten Writes IsWrittenAt
+pub write-hands : (n : ℕ) (strict s : Bool) (m : ℕ) (k : ℤ) (r : HandedSaying) → HandsOver sayingHanded (WritesAndSays n (ruleOf (numbered strict)) (record { negative = s; m = m; k = k })) r → HandsWritten n strict s m k r
+unfolding HandsWritten WritesAndSays Writes IsWrittenAt
 write-hands n strict s m k r h = value-hands n strict s (m * num (k +ℤ pos 307)) (den (k +ℤ pos 307)) r h
 
-pub write-whole-hands : (n : ℕ) (strict : Bool) (x : ℤ) (r : HandedWord) → HandsOver wordHanded (WritesWhole n (ruleOf (numbered strict)) x) r → HandsWholeWritten n strict x r
-unfolding HandsWholeWritten WritesWhole IsWrittenAt
+pub write-whole-hands : (n : ℕ) (strict : Bool) (x : ℤ) (r : HandedSaying) → HandsOver sayingHanded (WritesWholeAndSays n (ruleOf (numbered strict)) x) r → HandsWholeWritten n strict x r
+unfolding HandsWholeWritten WritesWholeAndSays WritesWhole IsWrittenAt
 write-whole-hands n strict x r h = value-hands n strict (isNegative x) (natAbs x * 2 ^ 307) 1 r h
 
 -- the NaR word means NaR
@@ -75,10 +80,15 @@ is-NaR : (n w : ℕ) → widthTest n ≡ Verdict.Through → narWord n ≡ w →
 unfolding IsNaR TheNaRWord
 is-NaR n w h e = let u = width-through n h in let t = the-NaR-word n (u .0) (u .1) in subst (IsNaR n) e (t .0, t .1)
 
-pub write-binary64-hands : (n : ℕ) (strict : Bool) (x : Float) (r : HandedWord) → HandsOver wordHanded (WritesBinary64 n (ruleOf (numbered strict)) x) r → HandsBinary64Written n strict x r
-unfolding HandsBinary64Written WritesBinary64 IsWrittenBinary64 IsWrittenAt GivesWord HandsNaR
-write-binary64-hands n strict nan r h = NaR-hands n r h
-write-binary64-hands n strict (inf s) r h = NaR-hands n r h
+-- what becomes NaR is exact
+NaR-said : (n : ℕ) (r : HandedSaying) → HandsOver sayingHanded (AndSays (GivesWord narWord n) (λ w s. s ≡ Exact)) r → HandsSaid (width n ∷ []) (IsNaR n) (λ w s. s ≡ Exact) r
+unfolding GivesWord
+NaR-said n = said-hands (width n ∷ []) (IsNaR n) (λ w s. s ≡ Exact) (λ w x. let t = unrefused (word-none w _ refl) x in is-NaR n w (t .0) cc) (refusals-follow-the-table .words narWord n)
+
+pub write-binary64-hands : (n : ℕ) (strict : Bool) (x : Float) (r : HandedSaying) → HandsOver sayingHanded (WritesBinary64AndSays n (ruleOf (numbered strict)) x) r → HandsBinary64Written n strict x r
+unfolding HandsBinary64Written WritesBinary64AndSays WritesBinary64 IsWrittenBinary64 SaysBinary64 IsWrittenAt GivesWord
+write-binary64-hands n strict nan r h = NaR-said n r h
+write-binary64-hands n strict (inf s) r h = NaR-said n r h
 write-binary64-hands n strict (fin s m e) r h = value-hands n strict s (m * up e * 2 ^ 307) (down e) r h
 
 -- ---- moving
@@ -96,9 +106,9 @@ pub moved-follows : (n n' : ℕ) (strict : Bool) (w : ℕ) (a : Answer) → Move
 unfolding moveLines wordLines
 moved-follows n n' strict w a x = rule-retold Answer.Refused a (width n ∷ width n' ∷ stray n w ∷ []) 4 strict ((w' : ℕ) → IsWord n' w' × (takum n' w' ≡ takum n w) → ⊥) (refusals-follow-the-table .move-word n n' (ruleOf (numbered strict)) w a x)
 
-pub move-hands : (n n' : ℕ) (strict : Bool) (w : ℕ) (r : HandedWord) → HandsOver wordHanded (Moves n n' (ruleOf (numbered strict)) w) r → HandsMoved n n' strict w r
-unfolding HandsMoved
-move-hands n n' strict w = word-hands (width n ∷ width n' ∷ wordLines n n' strict w) (IsMovedTo n' strict (takum n w)) (moved-word n n' strict w) (moved-follows n n' strict w)
+pub move-hands : (n n' : ℕ) (strict : Bool) (w : ℕ) (r : HandedSaying) → HandsOver sayingHanded (MovesAndSays n n' (ruleOf (numbered strict)) w) r → HandsMoved n n' strict w r
+unfolding HandsMoved MovesAndSays
+move-hands n n' strict w = said-hands (width n ∷ width n' ∷ wordLines n n' strict w) (IsMovedTo n' strict (takum n w)) (SaysMoved n' (takum n w)) (moved-word n n' strict w) (moved-follows n n' strict w)
 
 -- ---- taking
 taken-strictly : (strict : Bool) (n w : ℕ) (x : ℤ) → TakesWhole n (takingOf (numbered strict)) w (Whole.Is x) → strict ≡ true → IsWhole n x w

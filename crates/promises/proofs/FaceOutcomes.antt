@@ -22,9 +22,9 @@ use Rattle.sheet.specs.Reads.{ReadsBlock}
 use Rattle.sheet.specs.Writes.{WritesBlock, FillsBuffer}
 use Rattle.ledusprig.specs.declared.handed.columns.HandedColumn.{HandedColumn}
 use Rattle.ledusprig.specs.declared.handed.columns.HandedWriting.{HandedWriting}
-use Rattle.ledusprig.specs.Handed.{HandsOver, MovesTheColumn, WritesTheBlock, wordHanded, readingHanded, comparisonHanded, limitHanded, wholeHanded, numberHanded, columnHanded, blockHanded, writingHanded}
+use Rattle.ledusprig.specs.Handed.{HandsOver, MovesTheColumn, WritesTheBlock, wordHanded, sayingHanded, readingHanded, comparisonHanded, limitHanded, wholeHanded, numberHanded, columnHanded, blockHanded, writingHanded}
 use Rattle.ledusprig.proofs.OneOutcome.{hands-over-one}
-use Rattle.promises.proofs.OneOutcome.{gives-word-one, gives-limit-one, reads-one, compares-one, negates-one, writes-one, moves-one, writes-whole-one, takes-whole-one, writes-binary64-one, takes-binary64-one, moves-column-one, holds-one, reads-block-one, writes-block-one, fills-buffer-one}
+use Rattle.promises.proofs.OneOutcome.{gives-word-one, gives-limit-one, reads-one, compares-one, negates-one, writes-and-says-one, moves-and-says-one, writes-whole-and-says-one, takes-whole-one, writes-binary64-and-says-one, takes-binary64-one, moved-column-one, reads-block-one, writes-block-one, fills-buffer-one}
 
 -- two outcomes of a function whose contract is HandsOver handed Gives are equal
 abbrev pub One : {Answers Handed : Type 0} → (Answers → Handed) → (Answers → Type 0) → Type 0
@@ -46,20 +46,20 @@ comparison-handed-one n x y r s p q = hands-over-one p q (compares-one n x y)
 pub negated-handed-one : (n w : ℕ) → One wordHanded (Negates n w)
 negated-handed-one n w r s p q = hands-over-one p q (negates-one n w)
 
-pub written-handed-one : (n : ℕ) (rule : Rule) (v : Value) → One wordHanded (Writes n rule v)
-written-handed-one n rule v r s p q = hands-over-one p q (writes-one n rule v)
+pub written-handed-one : (n : ℕ) (rule : Rule) (v : Value) → One sayingHanded (WritesAndSays n rule v)
+written-handed-one n rule v r s p q = hands-over-one p q (writes-and-says-one n rule v)
 
-pub moved-handed-one : (n n' : ℕ) (rule : Rule) (w : ℕ) → One wordHanded (Moves n n' rule w)
-moved-handed-one n n' rule w r s p q = hands-over-one p q (moves-one n n' rule w)
+pub moved-handed-one : (n n' : ℕ) (rule : Rule) (w : ℕ) → One sayingHanded (MovesAndSays n n' rule w)
+moved-handed-one n n' rule w r s p q = hands-over-one p q (moves-and-says-one n n' rule w)
 
-pub whole-written-handed-one : (n : ℕ) (rule : Rule) (x : ℤ) → One wordHanded (WritesWhole n rule x)
-whole-written-handed-one n rule x r s p q = hands-over-one p q (writes-whole-one n rule x)
+pub whole-written-handed-one : (n : ℕ) (rule : Rule) (x : ℤ) → One sayingHanded (WritesWholeAndSays n rule x)
+whole-written-handed-one n rule x r s p q = hands-over-one p q (writes-whole-and-says-one n rule x)
 
 pub whole-taken-handed-one : (n : ℕ) (rule : Taking) (w : ℕ) → One wholeHanded (TakesWhole n rule w)
 whole-taken-handed-one n rule w r s p q = hands-over-one p q (takes-whole-one n rule w)
 
-pub binary64-written-handed-one : (n : ℕ) (rule : Rule) (x : Float) → One wordHanded (WritesBinary64 n rule x)
-binary64-written-handed-one n rule x r s p q = hands-over-one p q (writes-binary64-one n rule x)
+pub binary64-written-handed-one : (n : ℕ) (rule : Rule) (x : Float) → One sayingHanded (WritesBinary64AndSays n rule x)
+binary64-written-handed-one n rule x r s p q = hands-over-one p q (writes-binary64-and-says-one n rule x)
 
 pub binary64-taken-handed-one : (n w : ℕ) → One numberHanded (TakesBinary64 n w)
 binary64-taken-handed-one n w r s p q = hands-over-one p q (takes-binary64-one n w)
@@ -70,10 +70,9 @@ block-handed-one block places r s p q = hands-over-one p q (reads-block-one bloc
 -- a column, with what its results hold afterwards
 pub column-handed-one : (n n' : ℕ) (rule : Rule) (words before after after' : List ℕ) (r s : HandedColumn) → HandsOver columnHanded (MovesTheColumn n n' rule words before after) r → HandsOver columnHanded (MovesTheColumn n n' rule words before after') s → (r ≡ s) × (after ≡ after')
 unfolding MovesTheColumn
-column-handed-one n n' rule words before after after' r s p q = (hands-over-one p q (λ a b x y. one a b (x .0) (y .0)), holds-one n n' rule words before (q .answer) after after' (subst (λ (a : Column). Holds n n' rule words before a after) (one (p .answer) (q .answer) (p .given .0) (q .given .0)) (p .given .1)) (q .given .1))
-  where
-    one : (a b : Column) → MovesColumn n n' rule words (length before) a → MovesColumn n n' rule words (length before) b → a ≡ b
-    one = moves-column-one n n' rule words (length before)
+column-handed-one n n' rule words before after after' r s p q =
+    let t = moved-column-one n n' rule words before (p .answer) (q .answer) after after' (p .given .0) (p .given .1) (q .given .0) (q .given .1) in
+    (p .is ∙ ap columnHanded (t .0) ∙ sym (q .is), t .1)
 
 -- a written block, with what its buffer holds afterwards
 pub block-written-handed-one : (n number : ℕ) (words before after after' : List ℕ) (r s : HandedWriting) → HandsOver writingHanded (WritesTheBlock n number words before after) r → HandsOver writingHanded (WritesTheBlock n number words before after') s → (r ≡ s) × (after ≡ after')

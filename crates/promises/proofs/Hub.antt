@@ -10,7 +10,7 @@ use Rattle.bounds.specs.Refusals.{through, refused}
 use Rattle.bounds.proofs.Verdicts.{width-fits, width-through, answered, refused-as}
 use Rattle.word.specs.Reads.{num}
 use Rattle.word.proofs.Units.{unit-some}
-use Rattle.nearest.specs.Offers.{IsNearest, FindsNearest}
+use Rattle.nearest.specs.Offers.{IsSignedNearest, FindsNearest}
 use Rattle.round.specs.declared.value.LongValue.{LongValue}
 use Rattle.round.specs.declared.value.Rule.{Rule}
 use Rattle.round.specs.Writes.{IsRounded, IsExact, IsWritten, WritesShort, WritesSize, WritesLong}
@@ -27,10 +27,10 @@ use Rattle.promises.proofs.Lines.{past, good-width, given-or-inexact}
 use Rattle.promises.proofs.WordRefusals.{write-long-follows}
 
 pub the-word-that-is-found-is-the-nearest : promise.TheWordThatIsFoundIsTheNearest
-unfolding promise.TheWordThatIsFoundIsTheNearest FindsNearest IsNearest
-the-word-that-is-found-is-the-nearest n h m below r lo hi full top fits x =
+unfolding promise.TheWordThatIsFoundIsTheNearest FindsNearest IsSignedNearest
+the-word-that-is-found-is-the-nearest n negative h m below r lo hi full top fits x =
     let (w, q, rest, is, near) = answered (width-fits n lo hi) x in
-    (w, q, λ a b some offered. subst (λ (y : ℕ). IsNearest n h y rest w) set near a b some (finer-offer m below rest h a b some fits is offered))
+    (w, q, λ a b some offered. subst (λ (y : ℕ). IsSignedNearest n negative h y rest w) set near a b some (finer-offer m below rest h a b some fits is offered))
   where
     set : 2 ^ 63 + m % 2 ^ 63 ≡ m
     set = omega (arith, full, top)

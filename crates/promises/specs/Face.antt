@@ -9,18 +9,25 @@ use lib.Ieee.{Float, nan, inf, fin, up, down, binary64, ofBits}
 use lib.IntN.{ℤ, pos, negsuc, natAbs, _+ℤ_}
 use lib.ListN.{length, getD, drop}
 use Rattle.bounds.specs.declared.refusal.Refusal.{Refusal}
+use Rattle.bounds.specs.declared.saying.Saying.{Saying}
+use Rattle.bounds.specs.declared.saying.Saying.the-variants.{Exact}
 use Rattle.bounds.specs.Refusals.{numberOf, IsWord}
+use Rattle.bounds.specs.Sayings.{sayingNumber}
 use Rattle.word.specs.Takum.{Takum, real, NaR, takum, fractionBits, ownFractionBits}
 use Rattle.word.specs.Reads.{num, den, IsNumber}
 use Rattle.word.specs.Orders.{order, opposite}
 use Rattle.nearest.specs.Nearest.{HasValue}
+use Rattle.nearest.specs.Sayings.{Says}
 use Rattle.round.specs.Writes.{IsRounded, IsExact}
 use Rattle.write.specs.Writes.{isNegative}
+use Rattle.write.specs.Sayings.{SaysMoved}
 use Rattle.whole.specs.Wholes.{IsNearestWhole}
 use Rattle.binary64.specs.Nearest.{NearestBinary64}
+use Rattle.column.specs.Counts.{Counts, KeepsTheMeaning}
 use Rattle.sheet.specs.Layout as block
 use Rattle.sheet.specs.Writes.{IsBlockOf}
 use Rattle.ledusprig.specs.declared.handed.words.HandedWord.{HandedWord}
+use Rattle.ledusprig.specs.declared.handed.words.HandedSaying.{HandedSaying}
 use Rattle.ledusprig.specs.declared.handed.words.HandedReading.{HandedReading}
 use Rattle.ledusprig.specs.declared.handed.words.HandedComparison.{HandedComparison}
 use Rattle.ledusprig.specs.declared.handed.widths.HandedLimit.{HandedLimit}
@@ -50,6 +57,10 @@ NoneHolds (line number When ∷ lines) = (When → ⊥) × NoneHolds lines
 -- a word
 abbrev pub HandsWord : List Line → (ℕ → Type 0) → HandedWord → Type 0
 HandsWord lines Is r = Hands (r .refusal) lines (r .word ≡ 0) (Is (r .word))
+
+-- a word with its saying, said by its number
+abbrev pub HandsSaid : List Line → (ℕ → Type 0) → (ℕ → Saying → Type 0) → HandedSaying → Type 0
+HandsSaid lines Is SaysOf r = Hands (r .refusal) lines ((r .saying ≡ 0) × (r .word ≡ 0)) (Is (r .word) × ((s : Saying) × (r .saying ≡ sayingNumber s) × SaysOf (r .word) s))
 
 -- no refusal has number 0, so that 0 says "not refused"; they are 1 to 11
 unfoldable pub RefusalNumbersAre1To11 : Type 0
@@ -129,20 +140,20 @@ HandsNegated n w r = HandsWord (width n ∷ stray n w ∷ []) (λ v. IsWord n v 
 
 -- ---- takum_write, takum_write_whole, takum_write_binary64
 -- a value with a sign and the size a / b, counted in 2^-307
-abbrev pub HandsValue : ℕ → Bool → Bool → ℕ → ℕ → HandedWord → Type 0
-HandsValue n strict negative a b r = HandsWord (width n ∷ inexact strict (IsExact n negative a b) ∷ []) (IsGiven strict n negative a b) r
+abbrev pub HandsValue : ℕ → Bool → Bool → ℕ → ℕ → HandedSaying → Type 0
+HandsValue n strict negative a b r = HandsSaid (width n ∷ inexact strict (IsExact n negative a b) ∷ []) (IsGiven strict n negative a b) (Says n negative a b) r
 
 -- plus or minus m * 2^k
-unfoldable pub HandsWritten : ℕ → Bool → Bool → ℕ → ℤ → HandedWord → Type 0
+unfoldable pub HandsWritten : ℕ → Bool → Bool → ℕ → ℤ → HandedSaying → Type 0
 HandsWritten n strict negative m k r = HandsValue n strict negative (m * num (k +ℤ pos 307)) (den (k +ℤ pos 307)) r
 
-unfoldable pub HandsWholeWritten : ℕ → Bool → ℤ → HandedWord → Type 0
+unfoldable pub HandsWholeWritten : ℕ → Bool → ℤ → HandedSaying → Type 0
 HandsWholeWritten n strict x r = HandsValue n strict (isNegative x) (natAbs x * 2 ^ 307) 1 r
 
--- NaN and both infinities give NaR
-unfoldable pub HandsBinary64Written : ℕ → Bool → Float → HandedWord → Type 0
-HandsBinary64Written n strict nan r = HandsWord (width n ∷ []) (IsNaR n) r
-HandsBinary64Written n strict (inf s) r = HandsWord (width n ∷ []) (IsNaR n) r
+-- NaN and both infinities give NaR, which is exact
+unfoldable pub HandsBinary64Written : ℕ → Bool → Float → HandedSaying → Type 0
+HandsBinary64Written n strict nan r = HandsSaid (width n ∷ []) (IsNaR n) (λ w s. s ≡ Exact) r
+HandsBinary64Written n strict (inf s) r = HandsSaid (width n ∷ []) (IsNaR n) (λ w s. s ≡ Exact) r
 HandsBinary64Written n strict (fin s m e) r = HandsValue n strict s (m * up e * 2 ^ 307) (down e) r
 
 -- ---- takum_take_whole and takum_take_binary64
@@ -166,15 +177,16 @@ unfoldable pub IsMovedTo : ℕ → Bool → Takum → ℕ → Type 0
 IsMovedTo n strict (real z) w = IsGiven strict n (isNegative z) (natAbs z) 1 w
 IsMovedTo n strict NaR w = IsNaR n w
 
-unfoldable pub HandsMoved : ℕ → ℕ → Bool → ℕ → HandedWord → Type 0
-HandsMoved n n' strict w r = HandsWord (width n ∷ width n' ∷ wordLines n n' strict w) (IsMovedTo n' strict (takum n w)) r
+unfoldable pub HandsMoved : ℕ → ℕ → Bool → ℕ → HandedSaying → Type 0
+HandsMoved n n' strict w r = HandsSaid (width n ∷ width n' ∷ wordLines n n' strict w) (IsMovedTo n' strict (takum n w)) (SaysMoved n' (takum n w)) r
 
 module _ (n n' : ℕ) (strict : Bool) (words before after : List ℕ) (r : HandedColumn) where
-  -- the first results are the moved words, in order, and the others stay as they were
+  -- the first results are the moved words, in order, and the others stay as they were; as many are exact as mean what their words mean
   pub record MovedAll : Type 0 where
     pub refusal : r .refusal ≡ 0
     pub position : r .position ≡ 0
     pub moved : r .moved ≡ length words
+    pub exact : Counts (KeepsTheMeaning n n' words after) (length words) (r .exact)
     pub none : (i : ℕ) → i < length words → NoneHolds (wordLines n n' strict (getD words i 0))
     pub results : (i : ℕ) → i < length words → IsMovedTo n' strict (takum n (getD words i 0)) (getD after i 0)
     pub others : (i : ℕ) → length words ≤ i → getD after i 0 ≡ getD before i 0
@@ -184,10 +196,10 @@ module _ (n n' : ℕ) (strict : Bool) (words before after : List ℕ) (r : Hande
   pub record RefusedAtPosition : Type 0 where
     pub inside : r .position < length words
     pub lowest : (i : ℕ) → i < r .position → NoneHolds (wordLines n n' strict (getD words i 0))
-    pub is : FieldFollows (r .refusal) (wordLines n n' strict (getD words (r .position) 0)) ((r .moved ≡ 0) × (after ≡ before)) ⊥
+    pub is : FieldFollows (r .refusal) (wordLines n n' strict (getD words (r .position) 0)) ((r .moved ≡ 0) × (r .exact ≡ 0) × (after ≡ before)) ⊥
 
   unfoldable pub HandsColumn : Type 0
-  HandsColumn = FieldFollows (r .refusal) (width n ∷ width n' ∷ room (length words) (length before) ∷ []) ((r .position ≡ 0) × (r .moved ≡ 0) × (after ≡ before)) (MovedAll ⊎ RefusedAtPosition)
+  HandsColumn = FieldFollows (r .refusal) (width n ∷ width n' ∷ room (length words) (length before) ∷ []) ((r .position ≡ 0) × (r .moved ≡ 0) × (r .exact ≡ 0) × (after ≡ before)) (MovedAll ⊎ RefusedAtPosition)
 
 -- ---- takum_read_block
 unfoldable pub HandsBlock : List ℕ → List ℕ → List ℕ → HandedBlock → Type 0

@@ -1,6 +1,6 @@
 -- What is promised of whatever is written through the hub: the nearest word or exactly the value, one answer for one value, and jamming.
 use mathlib.Core.Path.{_≡_}
-use mathlib.Core.Bool.{Bool, false}
+use mathlib.Core.Bool.{Bool}
 use Prim.Native.Nat.{ℕ, _+_, _-_, _*_, _^_, _≤_, _<_}
 use lib.IntN.{ℤ, pos, _+ℤ_, _-ℤ_}
 use Rattle.bounds.specs.declared.answer.Answer.{Answer}
@@ -28,10 +28,10 @@ longNumerator v = significand v * num (v .k +ℤ pos 307)
 unfoldable pub longDenominator : LongValue → ℕ
 longDenominator v = den (v .k +ℤ pos 307)
 
--- ---- what is found, before the sign and the rule
--- At widths 2 to 64 the answer is the positive word nearest to the size (m + below * 2^-64) * 2^(h - 63), the top bit of m being set.
+-- ---- what is found, before the rule
+-- At widths 2 to 64 the answer is the word of the sign nearest to the size (m + below * 2^-64) * 2^(h - 63), the top bit of m being set.
 unfoldable pub TheWordThatIsFoundIsTheNearest : Type 0
-TheWordThatIsFoundIsTheNearest = (n : ℕ) (h : ℤ) (m below : ℕ) (r : Answer) → 2 ≤ n → n ≤ 64 → 2 ^ 63 ≤ m → m < 2 ^ 64 → below < 2 ^ 64 → FindsNearest n h m below r → (w : ℕ) × (r ≡ Answer.Word w) × ((a b : ℕ) → 0 < b → IsOffered (m * 2 ^ 64 + below) Rest.Nothing (h -ℤ pos 127) a b → Nearest n false a b w)
+TheWordThatIsFoundIsTheNearest = (n : ℕ) (negative : Bool) (h : ℤ) (m below : ℕ) (r : Answer) → 2 ≤ n → n ≤ 64 → 2 ^ 63 ≤ m → m < 2 ^ 64 → below < 2 ^ 64 → FindsNearest n negative h m below r → (w : ℕ) × (r ≡ Answer.Word w) × ((a b : ℕ) → 0 < b → IsOffered (m * 2 ^ 64 + below) Rest.Nothing (h -ℤ pos 127) a b → Nearest n negative a b w)
 
 -- ---- what is written
 -- Rounded, a long value is never refused at widths 2 to 64, and gives the nearest word, ties to the even word; zero gives the zero word.

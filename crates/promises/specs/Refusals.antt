@@ -161,7 +161,7 @@ pub record RefusalsFollowTheTable : Type 0 where
   pub compare : (n x y : ℕ) (a : Comparison) → Compares n x y a → Follows Comparison.Refused a (width n ∷ stray n x ∷ stray n y ∷ [])
   pub negate : (n w : ℕ) (a : Answer) → Negates n w a → Follows Answer.Refused a (width n ∷ stray n w ∷ [])
   pub negate-twice : (n w : ℕ) (a : Answer) → ComesBack n w a → Follows Answer.Refused a (width n ∷ stray n w ∷ [])
-  pub nearest : (n : ℕ) (h : ℤ) (m below : ℕ) (a : Answer) → FindsNearest n h m below a → Follows Answer.Refused a (width n ∷ [])
+  pub nearest : (n : ℕ) (negative : Bool) (h : ℤ) (m below : ℕ) (a : Answer) → FindsNearest n negative h m below a → Follows Answer.Refused a (width n ∷ [])
   -- through the hub
   pub write-short : (n : ℕ) (rule : Rule) (negative : Bool) (m : ℕ) (k : ℤ) (a : Answer) → WritesShort n rule negative m k a → Follows Answer.Refused a (shortLines n rule negative m k)
   pub write-size : (n : ℕ) (rule : Rule) (s : Size) (a : Answer) → WritesSize n rule s a → Follows Answer.Refused a (shortLines n rule (s .negative) (s .m) (s .h -ℤ pos 63))

@@ -1,5 +1,6 @@
 // Two promises as functions over the public calls: a word negated twice, and a chain of strict moves that comes home.
 use bounds::answer::Answer;
+use bounds::answer::Written;
 use bounds::width::Width;
 use order::order::negate;
 use round::value::Rule;
@@ -32,11 +33,15 @@ pub fn come_home(width: Width, word: u64, widths: &[u32]) -> Answer
             Rule::Strict,
             carried,
         ) {
-            Answer::Word(moved) => carried = moved,
-            Answer::Refused(q) => return Answer::Refused(q),
+            Written::Word { word, .. } => carried = word,
+            Written::Refused(q) => return Answer::Refused(q),
         }
         here = next;
         i += 1;
     }
-    move_word(Width { bits: here }, width, Rule::Strict, carried)
+    // What comes home is exact, as every word is that a strict move gives: the saying tells nothing more.
+    match move_word(Width { bits: here }, width, Rule::Strict, carried) {
+        Written::Word { word, .. } => Answer::Word(word),
+        Written::Refused(q) => Answer::Refused(q),
+    }
 }

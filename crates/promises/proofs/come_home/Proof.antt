@@ -1,6 +1,6 @@
 -- `come_home` meets its contract. The invariant of its loop: whatever is answered for the rest of the widths is answered for all of them.
 -- The measure is the number of widths that are left. Assumes nothing.
-use mathlib.Core.Path.{_≡_, refl, sym, subst}
+use mathlib.Core.Path.{_≡_, refl, sym, ap, subst}
 use mathlib.Core.List.{List}
 use mathlib.Core.Logic.{inl, inr}
 use Prim.Native.Nat.{ℕ, _+_, _-_, _≤_, _<_, zero-le}
@@ -12,7 +12,9 @@ use lib.Seq.{drop-cons}
 use Rattle.bounds.specs.declared.answer.Answer.{Answer}
 use Rattle.bounds.specs.declared.refusal.Refusal.{Refusal}
 use Rattle.round.specs.declared.value.Rule.{Rule}
+use Rattle.bounds.specs.Sayings.{plain}
 use Rattle.write.specs.Writes.{Moves}
+use Rattle.write.specs.Sayings.{MovesAndSays}
 use Rattle.promises.specs.Writing.{Goes}
 use Rattle.promises.proofs.Writing.{goes-home}
 use Rattle.promises.proofs.come_home.Statement.{statement}
@@ -51,16 +53,17 @@ shared-slice-read-next c = c .before .loop-test .taken
 move-word-requires : tie.Need-move-word-requires Inv-loop μ-loop
 move-word-requires c κs = tt
 
-enum-known-moved : tie.Need-enum-known-moved Inv-loop μ-loop
-enum-known-moved c = search needs
+enum-known-word : tie.Need-enum-known-word Inv-loop μ-loop
+enum-known-word c = search needs
 
 enum-known-q : tie.Need-enum-known-q Inv-loop μ-loop
 enum-known-q c = search needs
 
 returns : tie.Need-returns Inv-loop μ-loop
+unfolding MovesAndSays
 returns c =
     let at-loop = c .before .before .before .before .before .before in
-    goes-home _ _ _ _ (at-loop .loop .inv .1 _ (stopped _ _ _ _ _ _ _ (c .before .before .before .before .before .loop-test .taken) (c .before .before .before .move-word .ensures) (c .before .q .given .1)))
+    goes-home _ _ _ _ (at-loop .loop .inv .1 _ (stopped _ _ _ _ _ _ _ (c .before .before .before .before .before .loop-test .taken) (c .before .before .before .move-word .ensures .answers) (ap plain (c .before .q .given .1))))
 
 add-i : tie.Need-add-i Inv-loop μ-loop
 add-i c = search needs
@@ -71,15 +74,27 @@ loop-less c =
     falls (length (in-loop .before .before .before .args .widths .now)) (in-loop .before .loop .i) (in-loop .loop-test .taken)
 
 loop-again : tie.Need-loop-again Inv-loop μ-loop
+unfolding MovesAndSays
 loop-again c =
     let in-loop = c .before .before .before .before .before in
-    (add-one-le (in-loop .loop-test .taken), λ r x. in-loop .before .loop .inv .1 r (further _ _ _ _ _ _ _ r (in-loop .loop-test .taken) (c .before .before .before .move-word .ensures) (c .before .moved .given .1) x))
+    (add-one-le (in-loop .loop-test .taken), λ r x. in-loop .before .loop .inv .1 r (further _ _ _ _ _ _ _ r (in-loop .loop-test .taken) (c .before .before .before .move-word .ensures .answers) (ap plain (c .before .word .given .1)) x))
 
 move-word-requires-2 : tie.Need-move-word-requires-2 Inv-loop μ-loop
 move-word-requires-2 c κs = tt
 
+enum-known-word-2 : tie.Need-enum-known-word-2 Inv-loop μ-loop
+enum-known-word-2 c = search needs
+
+enum-known-q-2 : tie.Need-enum-known-q-2 Inv-loop μ-loop
+enum-known-q-2 c = search needs
+
 returns-2 : tie.Need-returns-2 Inv-loop μ-loop
-returns-2 c = goes-home _ _ _ _ (c .before .before .loop .inv .1 _ (ended _ _ _ _ _ _ (c .before .loop-test .left) (c .move-word2 .ensures)))
+unfolding MovesAndSays
+returns-2 c = ?
+
+returns-3 : tie.Need-returns-3 Inv-loop μ-loop
+unfolding MovesAndSays
+returns-3 c = ?
 
 pub come-home-spec : {M : Type 1} → statement M
 come-home-spec =
@@ -91,11 +106,14 @@ come-home-spec =
     mul-next
     shared-slice-read-next
     move-word-requires
-    enum-known-moved
+    enum-known-word
     enum-known-q
     returns
     add-i
     loop-less
     loop-again
     move-word-requires-2
-    returns-2)
+    enum-known-word-2
+    enum-known-q-2
+    returns-2
+    returns-3)

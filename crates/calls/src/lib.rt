@@ -11,6 +11,7 @@ use ledusprig::handed::numbers::HandedWhole;
 use ledusprig::handed::widths::HandedLimit;
 use ledusprig::handed::words::HandedComparison;
 use ledusprig::handed::words::HandedReading;
+use ledusprig::handed::words::HandedSaying;
 use ledusprig::handed::words::HandedWord;
 use ledusprig::numbers::takum_take_binary64;
 use ledusprig::numbers::takum_take_whole;
@@ -69,19 +70,19 @@ pub fn call_negate(n: u32, word: u64) -> HandedWord
     takum_negate(n, word)
 }
 
-pub fn call_write(n: u32, rule: u32, negative: bool, m: u64, k: i32) -> HandedWord
+pub fn call_write(n: u32, rule: u32, negative: bool, m: u64, k: i32) -> HandedSaying
     ensures { λ r. ⌜ HandsWritten n (isStrict rule) negative m k r ⌝ }
 {
     takum_write(n, rule, negative, m, k)
 }
 
-pub fn call_move(from: u32, to: u32, rule: u32, word: u64) -> HandedWord
+pub fn call_move(from: u32, to: u32, rule: u32, word: u64) -> HandedSaying
     ensures { λ r. ⌜ HandsMoved from to (isStrict rule) word r ⌝ }
 {
     takum_move(from, to, rule, word)
 }
 
-pub fn call_write_whole(n: u32, rule: u32, x: i64) -> HandedWord
+pub fn call_write_whole(n: u32, rule: u32, x: i64) -> HandedSaying
     ensures { λ r. ⌜ HandsWholeWritten n (isStrict rule) x r ⌝ }
 {
     takum_write_whole(n, rule, x)
@@ -93,7 +94,7 @@ pub fn call_take_whole(n: u32, taking: u32, word: u64) -> HandedWhole
     takum_take_whole(n, taking, word)
 }
 
-pub fn call_write_binary64(n: u32, rule: u32, x: f64) -> HandedWord
+pub fn call_write_binary64(n: u32, rule: u32, x: f64) -> HandedSaying
     ensures { λ r. ⌜ HandsBinary64Written n (isStrict rule) x r ⌝ }
 {
     takum_write_binary64(n, rule, x)

@@ -40,12 +40,12 @@ module _ (n n' : ℕ) (strict : Bool) (words before after : List ℕ) (r : Hande
   unfolding HandsColumn
   kept some = by (either _ _ _ _ h)
     where
-      at-position : ((r .moved ≡ 0) × (after ≡ before)) ⊎ ⊥ → after ≡ before
-      at-position (inl y) = y .1
+      at-position : ((r .moved ≡ 0) × (r .exact ≡ 0) × (after ≡ before)) ⊎ ⊥ → after ≡ before
+      at-position (inl y) = y .2
       at-position (inr y) = absurd y
 
       by : ((r .position ≡ 0) × (r .moved ≡ 0) × (r .exact ≡ 0) × (after ≡ before)) ⊎ (MovedAll n n' strict words before after r ⊎ RefusedAtPosition n n' strict words before after r) → after ≡ before
-      by (inl x) = x .2
+      by (inl x) = x .3
       by (inr (inl x)) = absurd (some (x .refusal))
       by (inr (inr x)) = at-position (either _ _ _ _ (x .is))
 
@@ -54,7 +54,7 @@ module _ (n n' : ℕ) (strict : Bool) (words before after : List ℕ) (r : Hande
   unfolding FieldFollows wordLines
   of-a-word x = by (x .is)
     where
-      by : FieldFollows (r .refusal) (wordLines n n' strict (getD words (r .position) 0)) ((r .moved ≡ 0) × (after ≡ before)) ⊥ → (r .refusal ≡ 2) ⊎ (r .refusal ≡ 4)
+      by : FieldFollows (r .refusal) (wordLines n n' strict (getD words (r .position) 0)) ((r .moved ≡ 0) × (r .exact ≡ 0) × (after ≡ before)) ⊥ → (r .refusal ≡ 2) ⊎ (r .refusal ≡ 4)
       by (inl y) = inl (y .1)
       by (inr (f, inl y)) = inr (y .1)
       by (inr (f, inr y)) = absurd (y .1)

@@ -1,5 +1,5 @@
 -- What the face hands over is one thing, for each of its functions: the public call's answer is one, and so is what is left in a lent slice. Assumes nothing.
-use mathlib.Core.Path.{_≡_, sym, subst}
+use mathlib.Core.Path.{_≡_, sym, ap, _∙_, subst}
 use mathlib.Core.List.{List}
 use Prim.Native.Nat.{ℕ}
 use lib.Ieee.{Float}
@@ -10,11 +10,12 @@ use Rattle.word.specs.Reads.{Reads}
 use Rattle.order.specs.Orders.{Compares, Negates}
 use Rattle.round.specs.declared.value.Rule.{Rule}
 use Rattle.write.specs.declared.value.Value.{Value}
-use Rattle.write.specs.Writes.{Writes, Moves}
+use Rattle.write.specs.Sayings.{WritesAndSays, MovesAndSays}
 use Rattle.whole.specs.declared.taking.Taking.{Taking}
-use Rattle.whole.specs.Wholes.{WritesWhole, TakesWhole}
+use Rattle.whole.specs.Wholes.{TakesWhole}
+use Rattle.whole.specs.Sayings.{WritesWholeAndSays}
 use Rattle.binary64.specs.Takes.{TakesBinary64}
-use Rattle.binary64.specs.Writes.{WritesBinary64}
+use Rattle.binary64.specs.Sayings.{WritesBinary64AndSays}
 use Rattle.column.specs.declared.moving.Column.{Column}
 use Rattle.column.specs.Columns.{MovesColumn, Holds}
 use Rattle.sheet.specs.declared.writing.Writing.{Writing}

@@ -90,11 +90,15 @@ enum-known-q-2 c = search needs
 
 returns-2 : tie.Need-returns-2 Inv-loop μ-loop
 unfolding MovesAndSays
-returns-2 c = ?
+returns-2 c =
+    let at-loop = c .before .before .before .before .before in
+    goes-home _ _ _ _ (at-loop .loop .inv .1 _ (ended _ _ _ _ _ _ (c .before .before .before .before .loop-test .left) (subst (Moves _ _ Rule.Strict _) (ap plain (c .before .word2 .given .1)) (c .before .before .before .move-word2 .ensures .answers))))
 
 returns-3 : tie.Need-returns-3 Inv-loop μ-loop
 unfolding MovesAndSays
-returns-3 c = ?
+returns-3 c =
+    let at-loop = c .before .before .before .before .before in
+    goes-home _ _ _ _ (at-loop .loop .inv .1 _ (ended _ _ _ _ _ _ (c .before .before .before .before .loop-test .left) (subst (Moves _ _ Rule.Strict _) (ap plain (c .before .q2 .given .1)) (c .before .before .before .move-word2 .ensures .answers))))
 
 pub come-home-spec : {M : Type 1} → statement M
 come-home-spec =

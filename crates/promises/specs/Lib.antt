@@ -20,6 +20,8 @@ pub mod Numbers
 pub mod Wholes
 -- the nearest binary64
 pub mod Nearest
+-- which way it went
+pub mod Sayings
 -- columns and blocks
 pub mod Slices
 -- written blocks

@@ -41,6 +41,8 @@ pub mod Nearest
 pub mod Slices
 -- a written block reads back, and a block that is read is what writing makes of its content
 pub mod Sheets
+-- which way it went: each law once, of whatever is written
+pub mod Sayings
 -- the P figures, by one test that is computed over the whole table
 pub mod Figures
 -- ---- the letter

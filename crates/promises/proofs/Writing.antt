@@ -51,7 +51,7 @@ unfolding Writes numerator denominator
 written n rule v r lo hi x = answered (width-fits n lo hi) x
 
 -- zero has no size
-no-numerator : (v : Value) → v .m ≡ 0 → numerator v ≡ 0
+pub no-numerator : (v : Value) → v .m ≡ 0 → numerator v ≡ 0
 unfolding numerator
 no-numerator v q = ap (λ (m : ℕ). m * num (v .k +ℤ pos 307)) q ∙ zero-mul (num (v .k +ℤ pos 307))
 

@@ -38,7 +38,7 @@ writes-long-one n rule v a b x y = writes-short-one n rule (v .negative) (v .hig
 
 -- ---- with their sayings
 -- a word that is written is one of the width
-written-word : (n : ℕ) → 2 ≤ n → n ≤ 64 → (rule : Rule) (s : Bool) (a b w : ℕ) → IsWritten n rule s a b (Answer.Word w) → IsWord n w
+pub written-word : (n : ℕ) → 2 ≤ n → n ≤ 64 → (rule : Rule) (s : Bool) (a b w : ℕ) → IsWritten n rule s a b (Answer.Word w) → IsWord n w
 unfolding IsWritten
 written-word n lo hi Rule.Rounded s a b w (zero q e) = subst (IsWord n) (sym e) (zero-value n lo hi s .word)
 written-word n lo hi Rule.Rounded s a b w (other h x) = x .is .word

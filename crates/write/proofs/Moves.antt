@@ -27,10 +27,10 @@ unfolding signedSize isNegative
 rejoined (pos i) = refl
 rejoined (negsuc i) = refl
 
-meaning-exact : (n w : ℕ) (z : ℤ) → IsWord n w → takum n w ≡ real z → IsExact n (isNegative z) (natAbs z) 1 w
+pub meaning-exact : (n w : ℕ) (z : ℤ) → IsWord n w → takum n w ≡ real z → IsExact n (isNegative z) (natAbs z) 1 w
 meaning-exact n w z i q = record { z = natAbs z; is = record { word = i; means = q ∙ ap real (sym (rejoined z)) }; same = mul-one (natAbs z) }
 
-exact-meaning : (n w : ℕ) (z : ℤ) → IsExact n (isNegative z) (natAbs z) 1 w → takum n w ≡ real z
+pub exact-meaning : (n w : ℕ) (z : ℤ) → IsExact n (isNegative z) (natAbs z) 1 w → takum n w ≡ real z
 exact-meaning n w z x = x .is .means ∙ ap real (ap (signedSize (isNegative z)) (sym (mul-one (x .z)) ∙ x .same) ∙ rejoined z)
 
 -- ---- a word with the same value, by either rule

@@ -1,0 +1,375 @@
+-- The promises that specs/Sayings.antt states: each law once, of whatever is meant, since each call writes what is meant. Assumes nothing.
+use mathlib.Core.Path.{_≡_, refl, sym, ap, ap₂, _∙_, subst, subst₂}
+use mathlib.Core.Bool.{Bool, true, false, true≢false, not}
+use mathlib.Core.List.{List}
+use mathlib.Core.Logic.{_⊎_, inl, inr, ⊎-elim}
+use Prim.Native.Nat.{ℕ, zero, suc, _+_, _-_, _*_, _^_, _≤_, _<_}
+use native.Mathlib.Nat.{zero-mul, mul-one, mul-pos, zero-lt-suc}
+use native.Mathlib.Decide.{decLt}
+use native.Mathlib.Omega.{arith}
+use lib.Ieee.{Float, nan, inf, fin, neg, up, down}
+use lib.Ieee.Fits.{down-pos}
+use lib.IntN.{ℤ, pos, negsuc, negℤ, natAbs, _*ℤ_, _+ℤ_, _-ℤ_}
+use lib.ListN.{length, getD}
+use lib.Pow.{pow-pos}
+use Rattle.bounds.specs.declared.answer.Answer.{Answer}
+use Rattle.bounds.specs.declared.answer.Written.{Written}
+use Rattle.bounds.specs.declared.refusal.Refusal.{Refusal}
+use Rattle.bounds.specs.declared.saying.Saying.{Saying}
+use Rattle.bounds.specs.declared.saying.Saying.the-variants.{Exact, Below, Above, PastTheEnd}
+use Rattle.bounds.specs.Refusals.{numberOf, IsWord, through, refused}
+use Rattle.bounds.specs.Sayings.{sayingNumber, saysExact, oppositeSaying, plain, AndSays}
+use Rattle.bounds.specs.Widths.{narWord, largest, smallest}
+use Rattle.bounds.proofs.Answers.{wordOf, GivesAWord, same-word, no-refusal, plain-word, word-said, said-one}
+use Rattle.bounds.proofs.Powers.{twice, shl-below}
+use Rattle.bounds.proofs.Verdicts.{word-passes, width-fits, width-through, move-passes, move-through, answered}
+use Rattle.word.specs.declared.reading.Kind.{Kind}
+use Rattle.word.specs.declared.reading.Reading.{Reading}
+use Rattle.word.specs.Takum as takums
+use Rattle.word.specs.Takum.{Takum, real, NaR, takum, fractionBits}
+use Rattle.word.specs.Reads.{num, den, signedSize, IsKind, Reads}
+use Rattle.word.specs.Orders as orders
+use Rattle.word.specs.Orders.{order, negated}
+use Rattle.word.proofs.Signed.{negated-zero, negated-other}
+use Rattle.word.proofs.Units.{unit-some}
+use Rattle.word.proofs.Values.{grown, NaR-word, negated-word, negation-negates}
+use Rattle.word.proofs.Words.{takum-zero, zeros-appended}
+use Rattle.nearest.specs.Nearest.{HasValue}
+use Rattle.nearest.specs.Sayings as nearest
+use Rattle.nearest.proofs.Sayings.{says-one, says-negated, exact-size, size-exact}
+use Rattle.round.specs.declared.value.Rule.{Rule}
+use Rattle.round.specs.Writes.{IsRounded, zero, other, IsExact, IsWritten, WritesShort, WritesSize, WritesLong}
+use Rattle.round.specs.Sayings.{WritesShortAndSays, WritesSizeAndSays, WritesLongAndSays}
+use Rattle.round.proofs.OneOutcome.{written-word}
+use Rattle.round.proofs.Rounding.{exact-written, rounded-negated, written-one}
+use Rattle.round.proofs.Rules.{zero-value}
+use Rattle.write.specs.declared.value.Value.{Value}
+use Rattle.write.specs.Writes.{isNegative, IsMoved, Writes, Moves}
+use Rattle.write.specs.Sayings.{SaysMoved, WritesAndSays, MovesAndSays}
+use Rattle.write.proofs.Meanings.{said-number}
+use Rattle.write.proofs.Moves.{meaning-exact, exact-meaning}
+use Rattle.write.proofs.OneOutcome.{moves-says-one}
+use Rattle.write.proofs.Sayings.{exact-means, means-exact}
+use Rattle.whole.specs.Wholes.{WritesWhole}
+use Rattle.whole.specs.Sayings.{WritesWholeAndSays}
+use Rattle.binary64.specs.Writes.{IsWrittenBinary64, WritesBinary64}
+use Rattle.binary64.specs.Sayings.{SaysBinary64, WritesBinary64AndSays}
+use Rattle.promises.specs.Demands.{RefusedAs, TheNaRWord}
+use Rattle.promises.specs.Hub.{significand, longNumerator, longDenominator}
+use Rattle.promises.specs.Sayings as promise
+use Rattle.promises.specs.Sayings.{Offered, value, whole, binary64, word, short, size, long, IsFit, Gives, Meant, number, nar, ofTakum, ofFloat, ofShort, meant, HasTheMeaning, TellTheSame, opposite}
+use Rattle.promises.specs.Writing.{numerator, denominator, withOtherSign, KindSays, Says, AMoveIsAReadingAndAWriting}
+use Rattle.promises.proofs.Demands.{the-NaR-word}
+use Rattle.promises.proofs.Writing.{no-numerator, a-move-is-a-reading-and-a-writing}
+
+pub saying-numbers-are-0-to-3 : promise.SayingNumbersAre0To3
+unfolding promise.SayingNumbersAre0To3
+saying-numbers-are-0-to-3 s t = (at-most s, apart s t)
+  where
+    at-most : (s : Saying) → sayingNumber s ≤ 3
+    at-most Exact = omega arith
+    at-most Below = omega arith
+    at-most Above = omega arith
+    at-most PastTheEnd = omega arith
+
+    of-number : ℕ → Saying
+    of-number zero = Exact
+    of-number (suc zero) = Below
+    of-number (suc (suc zero)) = Above
+    of-number (suc (suc (suc n))) = PastTheEnd
+
+    back : (s : Saying) → of-number (sayingNumber s) ≡ s
+    back Exact = refl
+    back Below = refl
+    back Above = refl
+    back PastTheEnd = refl
+
+    apart : (s t : Saying) → sayingNumber s ≡ sayingNumber t → s ≡ t
+    apart s t q = sym (back s) ∙ ap of-number q ∙ back t
+
+pub the-answer-is-as-before : promise.TheAnswerIsAsBefore
+unfolding WritesAndSays MovesAndSays WritesWholeAndSays WritesBinary64AndSays WritesShortAndSays WritesSizeAndSays WritesSize WritesLongAndSays WritesLong nearest.FindsAndSays
+the-answer-is-as-before =
+    record {
+      write = λ n rule v r x. x .answers;
+      write-whole = λ n rule x r y. y .answers;
+      write-binary64 = λ n rule x r y. y .answers;
+      move-word = λ n n' rule w r x. x .answers;
+      write-short = λ n rule negative m k r x. x .answers;
+      write-size = λ n rule s r x. x .answers;
+      write-long = λ n rule v r x. x .answers;
+      nearest = λ n negative h m below r x. x .answers;
+    }
+
+-- ---- each call writes what is meant
+-- what is written and said for what is meant, at a width from 2 to 64
+unfoldable Answered : ℕ → Rule → Meant → Written → Type 0
+Answered n rule (number s a b) r = AndSays (IsWritten n rule s a b) (nearest.Says n s a b) r
+Answered n rule nar r = r ≡ Written.Word (narWord n) Exact
+
+-- the size is a fraction
+unfoldable IsFraction : Meant → Type 0
+IsFraction (number s a b) = 0 < b
+IsFraction nar = Unit {0}
+
+-- NaR is given, and said to be exact
+nar-said : (n : ℕ) (r : Written) → plain r ≡ Answer.Word (narWord n) → ((w : ℕ) (s : Saying) → r ≡ Written.Word w s → s ≡ Exact) → r ≡ Written.Word (narWord n) Exact
+nar-said n r q x = let t = plain-word r (narWord n) q in
+    t .1 ∙ ap (Written.Word (narWord n)) (x (narWord n) (t .0) (t .1))
+
+module _ (n : ℕ) (lo : 2 ≤ n) (hi : n ≤ 64) where
+  writes-meant : (rule : Rule) (o : Offered) (r : Written) → IsFit o → Gives n rule o r → Answered n rule (meant o) r
+  unfolding Answered IsFit Gives meant ofTakum ofFloat ofShort IsWrittenBinary64 SaysBinary64 IsMoved SaysMoved numerator denominator longNumerator longDenominator significand WritesAndSays Writes WritesWholeAndSays WritesWhole WritesBinary64AndSays WritesBinary64 MovesAndSays Moves WritesShortAndSays WritesShort WritesSizeAndSays WritesSize WritesLongAndSays WritesLong
+  writes-meant rule (value v) r i x = record { answers = answered (width-fits n lo hi) (x .answers); says = x .says }
+  writes-meant rule (whole z) r i x = record { answers = answered (width-fits n lo hi) (x .answers); says = x .says }
+  writes-meant rule (binary64 f) r i x = float f (answered (width-fits n lo hi) (x .answers)) (x .says)
+    where
+      float : (f : Float) → IsWrittenBinary64 n rule f (plain r) → ((w : ℕ) (s : Saying) → r ≡ Written.Word w s → SaysBinary64 n f w s) → Answered n rule (ofFloat f) r
+      float nan x y = nar-said n r x y
+      float (inf s) x y = nar-said n r x y
+      float (fin s m e) x y = record { answers = x; says = y }
+  writes-meant rule (word n' w) r i x = moved (takum n' w) (answered (move-passes n' n w i lo hi) (x .answers)) (x .says)
+    where
+      moved : (t : Takum) → IsMoved n rule t (plain r) → ((w : ℕ) (s : Saying) → r ≡ Written.Word w s → SaysMoved n t w s) → Answered n rule (ofTakum t) r
+      moved (real z) x y = record { answers = x; says = y }
+      moved NaR x y = nar-said n r x y
+  writes-meant rule (short s m k) r i x = record { answers = answered (width-fits n lo hi) (x .answers); says = x .says }
+  writes-meant rule (size s) r i x = record { answers = answered (width-fits n lo hi) (x .answers); says = x .says }
+  writes-meant rule (long v) r i x = record { answers = answered (width-fits n lo hi) (x .answers); says = x .says }
+
+is-fraction : (o : Offered) → IsFraction (meant o)
+unfolding IsFraction meant ofTakum ofFloat ofShort denominator longDenominator
+is-fraction (value v) = unit-some (v .k +ℤ pos 307) .1
+is-fraction (whole x) = zero-lt-suc 0
+is-fraction (binary64 f) = float f
+  where
+    float : (f : Float) → IsFraction (ofFloat f)
+    float nan = tt
+    float (inf s) = tt
+    float (fin s m e) = down-pos e
+is-fraction (word n w) = moved (takum n w)
+  where
+    moved : (t : Takum) → IsFraction (ofTakum t)
+    moved (real z) = zero-lt-suc 0
+    moved NaR = tt
+is-fraction (short s m k) = unit-some (k +ℤ pos 307) .1
+is-fraction (size s) = unit-some (s .h -ℤ pos 63 +ℤ pos 307) .1
+is-fraction (long v) = unit-some (v .k +ℤ pos 307) .1
+
+is-exact-or-not : (s : Saying) → (s ≡ Exact) ⊎ (s ≡ Exact → ⊥)
+is-exact-or-not Exact = inl refl
+is-exact-or-not Below = inr (λ q. true≢false (sym (ap saysExact q)))
+is-exact-or-not Above = inr (λ q. true≢false (sym (ap saysExact q)))
+is-exact-or-not PastTheEnd = inr (λ q. true≢false (sym (ap saysExact q)))
+
+-- ---- the laws, of what is meant
+module _ (n : ℕ) (lo : 2 ≤ n) (hi : n ≤ 64) where
+  -- a word that is written has the sign's value of some size
+  has-some : (rule : Rule) (s : Bool) (a b w : ℕ) → IsWritten n rule s a b (Answer.Word w) → (z : ℕ) × HasValue n s z w
+  unfolding IsWritten
+  has-some Rule.Rounded s a b w (zero q e) = (0, subst (HasValue n s 0) (sym e) (zero-value n lo hi s))
+  has-some Rule.Rounded s a b w (other h x) = (x .z, x .is)
+  has-some Rule.Strict s a b w x = (x .z, x .is)
+
+  -- what is said to be exact means the same
+  said-means : (rule : Rule) (m : Meant) (w : ℕ) → Answered n rule m (Written.Word w Exact) → HasTheMeaning n m w
+  unfolding Answered HasTheMeaning TheNaRWord
+  said-means rule (number s a b) w x = let t = has-some rule s a b w (x .answers) in
+      record { z = t .0; is = t .1; same = exact-size n lo hi s (t .0) a b w (t .1) (x .says w Exact refl) }
+  said-means rule nar w x = let t = the-NaR-word n lo hi in
+      subst (λ (v : ℕ). IsWord n v × (takum n v ≡ NaR)) (sym (same-word x .0)) (t .0, t .1)
+
+  -- a word that means the same is given, and said to be exact
+  meaning-said : (rule : Rule) (m : Meant) (w : ℕ) (r : Written) → IsFraction m → HasTheMeaning n m w → Answered n rule m r → r ≡ Written.Word w Exact
+  unfolding Answered HasTheMeaning IsFraction narWord
+  meaning-said rule (number s a b) w r some x y =
+      let t = plain-word r w (exact-written n lo hi rule s a b w (plain r) some x (y .answers)) in
+      t .1 ∙ ap (Written.Word w) (says-one n lo hi s a b w (t .0) Exact (x .is .word) (y .says w (t .0) (t .1)) (size-exact n lo hi s (x .z) a b w (x .is) (x .same)))
+  meaning-said rule nar w r some x y = y ∙ ap (λ (v : ℕ). Written.Word v Exact) (sym (NaR-word n w (x .0) (x .1)))
+
+  strictly : (m : Meant) (w : ℕ) (s : Saying) → IsFraction m → Answered n Rule.Strict m (Written.Word w s) → s ≡ Exact
+  unfolding Answered IsWritten HasTheMeaning
+  strictly (number t a b) w s some x = same-word (meaning-said Rule.Strict (number t a b) w (Written.Word w s) some (x .answers) x) .1
+  strictly nar w s some x = same-word x .1
+
+  same-story : (m : Meant) (a b : Written) → IsFraction m → Answered n Rule.Rounded m a → Answered n Rule.Strict m b → TellTheSame a b
+  unfolding Answered IsWritten HasTheMeaning TellTheSame
+  same-story nar a b some x y = (narWord n, Exact, x, inl (refl, y ∙ sym x))
+  same-story (number t i j) (Written.Refused q) b some x y = absurd (x .answers)
+  same-story (number t i j) (Written.Word w s) b some x y = (w, s, refl, by s b x y)
+    where
+      exact : (s : Saying) (b : Written) → s ≡ Exact → Answered n Rule.Rounded (number t i j) (Written.Word w s) → Answered n Rule.Strict (number t i j) b → b ≡ Written.Word w s
+      exact s b e x y = meaning-said Rule.Strict (number t i j) w b some (said-means Rule.Rounded (number t i j) w (subst (λ (u : Saying). Answered n Rule.Rounded (number t i j) (Written.Word w u)) e x)) y ∙ ap (Written.Word w) (sym e)
+
+      inexact : (s : Saying) (b : Written) → (s ≡ Exact → ⊥) → Answered n Rule.Rounded (number t i j) (Written.Word w s) → Answered n Rule.Strict (number t i j) b → RefusedAs Written Written.Refused 4 b
+      inexact s (Written.Word v u) f x y = absurd (f (same-word (meaning-said Rule.Rounded (number t i j) v (Written.Word w s) some (y .answers) x) .1))
+      inexact s (Written.Refused q) f x y = record { q = q; is = refl; known = ap numberOf (y .answers .0) }
+
+      by : (s : Saying) (b : Written) → Answered n Rule.Rounded (number t i j) (Written.Word w s) → Answered n Rule.Strict (number t i j) b → ((s ≡ Exact) × (b ≡ Written.Word w s)) ⊎ ((s ≡ Exact → ⊥) × RefusedAs Written Written.Refused 4 b)
+      by s b x y = ⊎-elim (λ e. inl (e, exact s b e x y)) (λ f. inr (f, inexact s b f x y)) (is-exact-or-not s)
+
+  -- the other sign gives the negated word, and exchanges below and above
+  other-sign : (s : Bool) (a b w : ℕ) (q : Saying) (r : Written) → 0 < b → Answered n Rule.Rounded (number s a b) (Written.Word w q) → Answered n Rule.Rounded (number (not s) a b) r → r ≡ Written.Word (negated n w) (oppositeSaying q)
+  unfolding Answered IsWritten
+  other-sign s a b w q r some x y =
+      let i = written-word n lo hi Rule.Rounded s a b w (x .answers) in
+      said-one (λ c d. written-one n lo hi Rule.Rounded (not s) a b c d some) (λ v t u z. says-one n lo hi (not s) a b v t u (written-word n lo hi Rule.Rounded (not s) a b v z)) r (Written.Word (negated n w) (oppositeSaying q)) y
+      (word-said (negated n w) (oppositeSaying q) (rounded-negated n lo hi s a b w (x .answers)) (says-negated n s a b w q i (x .says w q refl)))
+
+-- ---- so of every call
+pub exact-where-a-word-has-the-value : promise.ExactWhereAWordHasTheValue
+unfolding promise.ExactWhereAWordHasTheValue
+exact-where-a-word-has-the-value n rule o w s i lo hi x =
+    let y = writes-meant n lo hi rule o (Written.Word w s) i x in
+    (λ q. said-means n lo hi rule (meant o) w (subst (λ (t : Saying). Answered n rule (meant o) (Written.Word w t)) q y), λ w' z. let t = same-word (meaning-said n lo hi rule (meant o) w' (Written.Word w s) (is-fraction o) z y) in (t .1, t .0))
+
+pub by-the-strict-rule-it-is-exact : promise.ByTheStrictRuleItIsExact
+unfolding promise.ByTheStrictRuleItIsExact
+by-the-strict-rule-it-is-exact n o w s i lo hi x = strictly n lo hi (meant o) w s (is-fraction o) (writes-meant n lo hi Rule.Strict o (Written.Word w s) i x)
+
+pub the-two-rules-tell-the-same-story : promise.TheTwoRulesTellTheSameStory
+unfolding promise.TheTwoRulesTellTheSameStory
+the-two-rules-tell-the-same-story n o a b i lo hi x y = same-story n lo hi (meant o) a b (is-fraction o) (writes-meant n lo hi Rule.Rounded o a i x) (writes-meant n lo hi Rule.Strict o b i y)
+
+pub zero-and-NaR-are-exact : promise.ZeroAndNaRAreExact
+unfolding promise.ZeroAndNaRAreExact Answered HasTheMeaning
+zero-and-NaR-are-exact n rule o r i lo hi x =
+    let y = writes-meant n lo hi rule o r i x in
+    (λ s b q. meaning-said n lo hi rule (meant o) 0 r (is-fraction o) (subst (λ (m : Meant). HasTheMeaning n m 0) (sym q) (record { z = 0; is = zero-value n lo hi s; same = zero-mul b })) y, λ q. subst (λ (m : Meant). Answered n rule m r) q y)
+
+-- ---- moves
+pub a-move-is-exact-where-the-meaning-stays : promise.AMoveIsExactWhereTheMeaningStays
+unfolding promise.AMoveIsExactWhereTheMeaningStays MovesAndSays
+a-move-is-exact-where-the-meaning-stays n n' rule w w' s x =
+    let y = x .says w' s refl in
+    (λ q. exact-means n n' rule w w' (x .answers) (subst (SaysMoved n' (takum n w) w') q y), λ q. moves-says-one n n' rule w w' s Exact (x .answers) y (means-exact n n' w w' q))
+
+-- a word that means what the word w of n bits means
+same-meaning : (n n' w w' : ℕ) → IsWord n' w' → takum n' w' ≡ takum n w → HasTheMeaning n' (meant (word n w)) w'
+unfolding meant ofTakum HasTheMeaning
+same-meaning n n' w w' i q = by (takum n w) q
+  where
+    by : (t : Takum) → takum n' w' ≡ t → HasTheMeaning n' (ofTakum t) w'
+    by (real z) q = meaning-exact n' w' z i q
+    by NaR q = (i, q)
+
+meaning-kept : (n n' : ℕ) (rule : Rule) (w w' : ℕ) (r : Written) → IsWord n w → IsWord n' w' → takum n' w' ≡ takum n w → MovesAndSays n n' rule w r → r ≡ Written.Word w' Exact
+unfolding IsFit Gives
+meaning-kept n n' rule w w' r i i' q x = meaning-said n' (i' .least) (i' .most) rule (meant (word n w)) w' r (is-fraction (word n w)) (same-meaning n n' w w' i' q) (writes-meant n' (i' .least) (i' .most) rule (word n w) r i x)
+
+pub a-wider-move-is-exact : promise.AWiderMoveIsExact
+unfolding promise.AWiderMoveIsExact
+a-wider-move-is-exact n more rule w r room i x = meaning-kept n (n + more) rule w (w * 2 ^ more) r i (record { least = omega (arith, i .least); most = room; fits = shl-below n more (n + more) (i .fits) refl }) (zeros-appended n more w (i .least) room (i .fits)) x
+
+-- a word that is given by a move is one, and so is the word that is moved
+moved-words : (n n' : ℕ) (rule : Rule) (w w' : ℕ) → Moves n n' rule w (Answer.Word w') → IsWord n w × IsWord n' w'
+unfolding Moves IsMoved GivesAWord wordOf TheNaRWord
+moved-words n n' rule w w' (refused h q) = absurd (subst GivesAWord q tt)
+moved-words n n' rule w w' (through h x) =
+    let t = move-through n n' w h in
+    let u = width-through n' (t .1) in
+    (t .0, by (takum n w) (u .0) (u .1) x)
+  where
+    by : (t : Takum) → 2 ≤ n' → n' ≤ 64 → IsMoved n' rule t (Answer.Word w') → IsWord n' w'
+    by (real z) lo hi y = written-word n' lo hi rule (isNegative z) (natAbs z) 1 w' y
+    by NaR lo hi y = subst (IsWord n') (sym (ap wordOf y)) (the-NaR-word n' lo hi .0)
+
+pub after-exact-the-way-back-is-open : promise.AfterExactTheWayBackIsOpen
+unfolding promise.AfterExactTheWayBackIsOpen promise.AMoveIsExactWhereTheMeaningStays MovesAndSays
+after-exact-the-way-back-is-open n n' rule w w' r x y =
+    let i = moved-words n n' rule w w' (x .answers) in
+    meaning-kept n' n Rule.Strict w' w r (i .1) (i .0) (sym (a-move-is-exact-where-the-meaning-stays n n' rule w w' Exact x .0 refl)) y
+
+pub a-move-says-what-writing-says : promise.AMoveSaysWhatWritingSays
+unfolding promise.AMoveSaysWhatWritingSays AMoveIsAReadingAndAWriting MovesAndSays WritesAndSays Says KindSays Reads IsKind numerator denominator
+a-move-says-what-writing-says n n' w rule a v r i x says y = record { answers = a-move-is-a-reading-and-a-writing n n' w rule a v (plain r) i x says (y .answers); says = λ w' s e. by (a .kind) w' s (answered (word-passes n w i) x .what) says e }
+  where
+    by : (k : Kind) (w' : ℕ) (s : Saying) → IsKind (takum n w) (fractionBits n w) k → KindSays k v → r ≡ Written.Word w' s → nearest.Says n' (v .negative) (numerator v) (denominator v) w' s
+    by Kind.Zero w' s zero-read says e =
+        let i' = moved-words n n' rule w w' (subst (Moves n n' rule w) (ap plain e) (y .answers)) .1 in
+        let nothing = zero-value n' (i' .least) (i' .most) (v .negative) in
+        let given = same-word (sym e ∙ meaning-kept n n' rule w 0 r i (nothing .word) (takum-zero n' ∙ sym zero-read) y) in
+        subst₂ (nearest.Says n' (v .negative) (numerator v) (denominator v)) (sym (given .0)) (sym (given .1)) (size-exact n' (i' .least) (i' .most) (v .negative) 0 (numerator v) (denominator v) 0 nothing (zero-mul (denominator v) ∙ sym (no-numerator v says)))
+    by (Kind.Number t h m p) w' s number says e = subst (λ (v : Value). nearest.Says n' (v .negative) (numerator v) (denominator v) w' s) (sym says) (said-number n' w' s (takum n w) _ t h m p number (y .says w' s e))
+    by Kind.Nar w' s x says e = absurd says
+    by (Kind.Refused q) w' s x says e = absurd says
+
+
+-- ---- negation
+-- what is meant by the opposite: the other sign, unless it is zero, which may keep its own
+unfoldable AreOpposite : Meant → Meant → Type 0
+AreOpposite (number s a b) m = (m ≡ number (not s) a b) ⊎ ((a ≡ 0) × (m ≡ number s a b))
+AreOpposite nar m = m ≡ nar
+
+opposite-meant : (o : Offered) → IsFit o → AreOpposite (meant o) (meant (opposite o))
+unfolding AreOpposite meant ofTakum ofFloat ofShort isNegative neg opposite orders.opposite withOtherSign numerator denominator longNumerator longDenominator significand IsFit
+opposite-meant (value v) i = inl refl
+opposite-meant (whole x) i = by x
+  where
+    by : (x : ℤ) → AreOpposite (number (isNegative x) (natAbs x * 2 ^ 307) 1) (number (isNegative (negℤ x)) (natAbs (negℤ x) * 2 ^ 307) 1)
+    by (pos zero) = inr (zero-mul (2 ^ 307), refl)
+    by (pos (suc i)) = inl refl
+    by (negsuc i) = inl refl
+opposite-meant (binary64 f) i = by f
+  where
+    by : (f : Float) → AreOpposite (ofFloat f) (ofFloat (neg f))
+    by nan = refl
+    by (inf s) = refl
+    by (fin s m e) = inl refl
+opposite-meant (word n w) i = subst (λ (t : Takum). AreOpposite (ofTakum (takum n w)) (ofTakum t)) (sym (negation-negates n w i)) (by (takum n w))
+  where
+    by : (t : Takum) → AreOpposite (ofTakum t) (ofTakum (orders.opposite t))
+    by (real (pos zero)) = inr (refl, refl)
+    by (real (pos (suc i))) = inl refl
+    by (real (negsuc i)) = inl refl
+    by NaR = refl
+opposite-meant (short s m k) i = inl refl
+opposite-meant (size s) i = inl refl
+opposite-meant (long v) i = inl refl
+
+opposite-fit : (o : Offered) → IsFit o → IsFit (opposite o)
+unfolding IsFit opposite
+opposite-fit (value v) i = tt
+opposite-fit (whole x) i = tt
+opposite-fit (binary64 f) i = tt
+opposite-fit (word n w) i = negated-word n w i
+opposite-fit (short s m k) i = tt
+opposite-fit (size s) i = tt
+opposite-fit (long v) i = tt
+
+opposite-said : (n : ℕ) → 2 ≤ n → n ≤ 64 → (m m' : Meant) (w : ℕ) (s : Saying) (r : Written) → IsFraction m → AreOpposite m m' → Answered n Rule.Rounded m (Written.Word w s) → Answered n Rule.Rounded m' r → r ≡ Written.Word (negated n w) (oppositeSaying s)
+unfolding AreOpposite IsFraction Answered HasTheMeaning narWord
+opposite-said n lo hi (number t a b) m' w s r some (inl e) x y = other-sign n lo hi t a b w s r some x (subst (λ (m : Meant). Answered n Rule.Rounded m r) e y)
+opposite-said n lo hi (number t a b) m' w s r some (inr (q, e)) x y =
+    let nothing : HasTheMeaning n (number t a b) 0 = record { z = 0; is = zero-value n lo hi t; same = zero-mul b ∙ sym q } in
+    let first = same-word (meaning-said n lo hi Rule.Rounded (number t a b) 0 (Written.Word w s) some nothing x) in
+    meaning-said n lo hi Rule.Rounded (number t a b) 0 r some nothing (subst (λ (m : Meant). Answered n Rule.Rounded m r) e y) ∙ sym (ap₂ Written.Word (ap (negated n) (first .0) ∙ negated-zero n) (ap oppositeSaying (first .1)))
+opposite-said n lo hi nar m' w s r some e x y =
+    let first = same-word x in
+    let itself : negated n (narWord n) ≡ narWord n = negated-other n (narWord n) (pow-pos (n - 1)) (omega (arith, twice n lo, pow-pos (n - 1))) ∙ omega (arith, twice n lo) in
+    subst (λ (m : Meant). Answered n Rule.Rounded m r) e y ∙ sym (ap₂ Written.Word (ap (negated n) (first .0) ∙ itself) (ap oppositeSaying (first .1)))
+
+pub negating-exchanges-below-and-above : promise.NegatingExchangesBelowAndAbove
+unfolding promise.NegatingExchangesBelowAndAbove
+negating-exchanges-below-and-above n o w s r i lo hi x y =
+    opposite-said n lo hi (meant o) (meant (opposite o)) w s r (is-fraction o) (opposite-meant o i) (writes-meant n lo hi Rule.Rounded o (Written.Word w s) i x) (writes-meant n lo hi Rule.Rounded (opposite o) r (opposite-fit o i) y)
+
+-- ---- columns
+pub a-column-counts-what-its-moves-say : promise.AColumnCountsWhatItsMovesSay
+unfolding promise.AColumnCountsWhatItsMovesSay
+a-column-counts-what-its-moves-say n n' rule words before after a count x = ?
+
+pub a-strict-column-is-exact-throughout : promise.AStrictColumnIsExactThroughout
+unfolding promise.AStrictColumnIsExactThroughout
+a-strict-column-is-exact-throughout n n' words before after a count x = ?
+
+pub all-are-exact-where-strict-moves-them : promise.AllAreExactWhereStrictMovesThem
+unfolding promise.AllAreExactWhereStrictMovesThem
+all-are-exact-where-strict-moves-them n n' words before after a count strict x y = ?
+
+pub a-refused-column-counts-none : promise.ARefusedColumnCountsNone
+unfolding promise.ARefusedColumnCountsNone HoldsAndCounts CountsExact
+a-refused-column-counts-none n n' rule words before after a x f = by (a .answer) refl (x .1)
+  where
+    by : (c : Column) → a .answer ≡ c → CountsExact n n' words after c (a .exact) → a .exact ≡ 0
+    by c q z = ?

@@ -41,6 +41,8 @@ pub mod Nearest
 pub mod Slices
 -- a written block reads back, and a block that is read is what writing makes of its content
 pub mod Sheets
+-- a word that is nearer than those beside it is the nearest, and its size tells which way it went
+pub mod Settled
 -- the P figures, by one test that is computed over the whole table
 pub mod Figures
 -- ---- the letter

@@ -18,13 +18,12 @@ use Rattle.word.proofs.Heads.{both}
 use Rattle.word.proofs.Integers.{same-integer, same-integer-is}
 use Rattle.word.proofs.Units.{unit-some}
 use Rattle.bounds.specs.Refusals.{through}
-use Rattle.bounds.proofs.Verdicts.{width-fits, answered}
+use Rattle.bounds.proofs.Verdicts.{width-fits}
 use Rattle.round.specs.declared.value.Rule.{Rule}
-use Rattle.nearest.specs.Nearest.{HasValue}
 use Rattle.round.specs.Writes.{other, IsWritten}
 use Rattle.write.specs.Writes.{isNegative, Writes}
 use Rattle.write.specs.Sayings.{WritesAndSays}
-use Rattle.round.proofs.Rounding.{none-between, written-one}
+use Rattle.round.proofs.Rounding.{none-between}
 use Rattle.write.proofs.OneOutcome.{writes-one, writes-and-says-one}
 use Rattle.whole.specs.declared.taking.Taking.{Taking}
 use Rattle.whole.specs.declared.taking.Whole.{Whole}
@@ -39,7 +38,7 @@ use Rattle.promises.specs.Figures.{Said, plus, minus, nar, IsSaid, Figur
 use Rattle.promises.specs.Demands.{RefusedAs, ReadingIsTheDefinition}
 use Rattle.promises.specs.Writing.{numerator, denominator}
 use Rattle.promises.proofs.Tests.{size-of, same, same-is, either, is-word, word-is, has, has-is}
-use Rattle.promises.proofs.Settled.{size-at, is-positive, past-half, before-half, is-rounded, went, size-settled, settled, rounded-is, answered-so}
+use Rattle.promises.proofs.Settled.{size-at, is-positive, past-half, before-half, is-rounded, went, size-settled, settled, positive-is, size-has, rounded-is, answered-so}
 use Rattle.promises.proofs.Demands.{reading-is-the-definition}
 
 -- ---- reading: the size is the one that is said, and the sign too
@@ -64,25 +63,18 @@ given : ℕ → Rule → ℕ → ℕ → Bool
 given n Rule.Rounded M w = is-rounded n (scaled M) 1 w
 given n Rule.Strict M w = has n (scaled M) w
 
--- it is refused by the last word at or below it, found by halving, and its upper neighbour
+-- it is refused strictly: the last word at or below it is found by halving
 last-below : ℕ → ℕ → ℕ → ℕ → ℕ
 last-below n a zero v = v
-last-below n a (suc i) v = cond (leb (size-of (takum n (v + 2 ^ i))) a) (last-below n a i (v + 2 ^ i)) (last-below n a i v)
+last-below n a (suc i) v = cond (leb (size-at n (v + 2 ^ i)) a) (last-below n a i (v + 2 ^ i)) (last-below n a i v)
 
 low-word : ℕ → ℕ → ℕ
 low-word n M = last-below n (scaled M) (n - 1) 0
 
--- v and its upper neighbour are positive words of the sizes z and z'
-neighbours : ℕ → ℕ → ℕ → ℕ → Bool
-neighbours n v z z' = (leb 2 n && leb n 64) && ((ltb 0 v && ltb (suc v) (2 ^ (n - 1))) && (has n z v && has n z' (suc v)))
-
--- the number is strictly between them, and strict writing refuses it
-apart : ℕ → Rule → ℕ → ℕ → ℕ → ℕ → ℕ → Bool
-apart n Rule.Rounded M number v z z' = false
-apart n Rule.Strict M number v z z' = neighbours n v z z' && ((ltb z (scaled M) && ltb (scaled M) z') && eqb number 4)
-
+-- the number is strictly between the positive word v and the next
 not-given : ℕ → Rule → ℕ → ℕ → ℕ → Bool
-not-given n rule M number v = apart n rule M number v (size-of (takum n v)) (size-of (takum n (suc v)))
+not-given n Rule.Rounded M number v = false
+not-given n Rule.Strict M number v = (is-positive n v && is-positive n (suc v)) && ((ltb (size-at n v) (scaled M) && ltb (scaled M) (size-at n (suc v))) && eqb number 4)
 
 -- ---- taking: the number is at most a half off, at a half even, has the sign, and is far inside signed 64 bits
 half-off : ℕ → ℕ → Bool
@@ -123,43 +115,26 @@ given-holds n Rule.Strict M w t = λ a x.
     let y = has-is n (scaled M) w t in
     writes-one n Rule.Strict (whole M) a (Answer.Word w) x (through (width-fits n (y .word .least) (y .word .most)) (record { z = scaled M; is = y; same = mul-one (scaled M) }))
 
-record Beside (n v z z' : ℕ) : Type 0 where
-  lo : 2 ≤ n
-  hi : n ≤ 64
-  first : 0 < v
-  room : suc v < 2 ^ (n - 1)
-  is : HasValue n false z v
-  next : HasValue n false z' (suc v)
-
-beside : (n v z z' : ℕ) → T (neighbours n v z z') → Beside n v z z'
-unfolding neighbours
-beside n v z z' t =
-    let u = both (leb 2 n && leb n 64) ((ltb 0 v && ltb (suc v) (2 ^ (n - 1))) && (has n z v && has n z' (suc v))) t in
-    let w = both (leb 2 n) (leb n 64) (u .0) in
-    let x = both (ltb 0 v && ltb (suc v) (2 ^ (n - 1))) (has n z v && has n z' (suc v)) (u .1) in
-    let p = both (ltb 0 v) (ltb (suc v) (2 ^ (n - 1))) (x .0) in
-    let q = both (has n z v) (has n z' (suc v)) (x .1) in
-    record { lo = leb→le 2 n (w .0); hi = leb→le n 64 (w .1); first = ltb→lt 0 v (p .0); room = ltb→lt (suc v) (2 ^ (n - 1)) (p .1); is = has-is n z v (q .0); next = has-is n z' (suc v) (q .1) }
-
-apart-holds : (n : ℕ) (rule : Rule) (M number v z z' : ℕ) → T (apart n rule M number v z z') → (a : Answer) → Writes n rule (whole M) a → RefusedAs Answer Answer.Refused number a
-unfolding apart scaled whole Writes num den IsWritten
-apart-holds n Rule.Rounded M number v z z' t = absurd t
-apart-holds n Rule.Strict M number v z z' t = λ a x.
-    let u = both (neighbours n v z z') ((ltb z (scaled M) && ltb (scaled M) z') && eqb number 4) t in
+not-given-holds : (n : ℕ) (rule : Rule) (M number v : ℕ) → T (not-given n rule M number v) → (a : Answer) → Writes n rule (whole M) a → RefusedAs Answer Answer.Refused number a
+unfolding not-given scaled whole Writes num den IsWritten
+not-given-holds n Rule.Rounded M number v t = absurd t
+not-given-holds n Rule.Strict M number v t = λ a x.
+    let z = size-at n v in
+    let z' = size-at n (suc v) in
+    let u = both (is-positive n v && is-positive n (suc v)) ((ltb z (scaled M) && ltb (scaled M) z') && eqb number 4) t in
+    let p = both (is-positive n v) (is-positive n (suc v)) (u .0) in
     let w = both (ltb z (scaled M) && ltb (scaled M) z') (eqb number 4) (u .1) in
     let y = both (ltb z (scaled M)) (ltb (scaled M) z') (w .0) in
-    let k = beside n v z z' (u .0) in
+    let i = positive-is n v (p .0) in
+    let j = positive-is n (suc v) (p .1) in
     record {
       q = Refusal.Inexact;
       is =
-          written-one n (k .lo) (k .hi) Rule.Strict false (scaled M) 1 a (Answer.Refused Refusal.Inexact) (zero-lt-suc 0) (answered (width-fits n (k .lo) (k .hi)) x)
-          (refl, none-between n (k .lo) (k .hi) v z z' (scaled M) 1 (zero-lt-suc 0) (k .first) (k .room) (k .is) (k .next) (lt-of-le-of-lt (le-of-eq (mul-one z)) (ltb→lt z (scaled M) (y .0))) (lt-of-lt-of-le (ltb→lt (scaled M) z' (y .1)) (le-of-eq (sym (mul-one z')))));
+          writes-one n Rule.Strict (whole M) a (Answer.Refused Refusal.Inexact) x
+          (through (width-fits n (i .lo) (i .hi))
+          (refl, none-between n (i .lo) (i .hi) v z z' (scaled M) 1 (zero-lt-suc 0) (i .first) (j .last) (size-has n v i) (size-has n (suc v) j) (lt-of-le-of-lt (le-of-eq (mul-one z)) (ltb→lt z (scaled M) (y .0))) (lt-of-lt-of-le (ltb→lt (scaled M) z' (y .1)) (le-of-eq (sym (mul-one z'))))));
       known = sym (eqb→eq number 4 (w .1));
     }
-
-not-given-holds : (n : ℕ) (rule : Rule) (M number v : ℕ) → T (not-given n rule M number v) → (a : Answer) → Writes n rule (whole M) a → RefusedAs Answer Answer.Refused number a
-unfolding not-given
-not-given-holds n rule M number v ok = apart-holds n rule M number v (size-of (takum n v)) (size-of (takum n (suc v))) ok
 
 half-off-is : (a i : ℕ) → T (half-off a i) → NearestSize (2 ^ 307) a i
 unfolding half-off scaled
@@ -220,5 +195,5 @@ all-hold [] t = tt
 all-hold (f ∷ fs) t = let x = both (passes f) (all-pass fs) t in (holds f (x .0), all-hold fs (x .1))
 
 pub figures-hold : AllHold figures
-unfolding figures below said num den signedSize power same is-word passes all-pass regimeOf characteristicOf S D R r p C F c e value meaning N padded takum orZero ownFractionBits has low-word last-below size-of scaled apart neighbours given not-given half-off sign-of taken isNegative positive negative numerator denominator negated size-at is-positive past-half before-half is-rounded went size-settled settled
+unfolding figures below said num den signedSize power same is-word passes all-pass regimeOf characteristicOf S D R r p C F c e value meaning N padded takum orZero ownFractionBits has low-word last-below size-of scaled given not-given half-off sign-of taken isNegative positive negative numerator denominator negated size-at is-positive past-half before-half is-rounded went size-settled settled
 figures-hold = all-hold figures tt

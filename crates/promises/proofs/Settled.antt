@@ -20,7 +20,7 @@ use Rattle.word.specs.Orders.{negated}
 use Rattle.word.specs.Reads.{signedSize}
 use Rattle.word.proofs.Heads.{both}
 use Rattle.word.proofs.Values.{grown, negated-twice}
-use Rattle.nearest.specs.Nearest.{distance, Nearest}
+use Rattle.nearest.specs.Nearest.{HasValue, distance, Nearest}
 use Rattle.nearest.specs.Sayings.{Says}
 use Rattle.nearest.proofs.Nearest.{NearestPlace, Beside, before, at, after, beside}
 use Rattle.nearest.proofs.Places.{wordOf, has-value, increasing, not-decreasing, to-word}
@@ -64,19 +64,27 @@ settled n false a b w q = size-settled n a b w q
 settled n true a b w q = is-word n w && size-settled n a b (negated n w) (oppositeSaying q)
 
 -- ---- what follows
-record Positive (n v : ℕ) : Type 0 where
-  lo : 2 ≤ n
-  hi : n ≤ 64
-  first : 0 < v
-  last : v < 2 ^ (n - 1)
+size-is : (n v : ℕ) → 2 ≤ n → n ≤ 64 → 0 < v → v < 2 ^ (n - 1) → size-at n v ≡ grown n v
+unfolding size-at size-of wordOf signedSize
+size-is n v lo hi first last = ap size-of (has-value n lo hi false v first last .means)
 
-positive-is : (n v : ℕ) → T (is-positive n v) → Positive n v
+pub record Positive (n v : ℕ) : Type 0 where
+  pub lo : 2 ≤ n
+  pub hi : n ≤ 64
+  pub first : 0 < v
+  pub last : v < 2 ^ (n - 1)
+
+pub positive-is : (n v : ℕ) → T (is-positive n v) → Positive n v
 unfolding is-positive
 positive-is n v t =
     let u = both (leb 2 n && leb n 64) (ltb 0 v && ltb v (2 ^ (n - 1))) t in
     let w = both (leb 2 n) (leb n 64) (u .0) in
     let x = both (ltb 0 v) (ltb v (2 ^ (n - 1))) (u .1) in
     record { lo = leb→le 2 n (w .0); hi = leb→le n 64 (w .1); first = ltb→lt 0 v (x .0); last = ltb→lt v (2 ^ (n - 1)) (x .1) }
+
+pub size-has : (n v : ℕ) → Positive n v → HasValue n false (size-at n v) v
+unfolding wordOf
+size-has n v i = subst (λ (z : ℕ). HasValue n false z v) (sym (size-is n v (i .lo) (i .hi) (i .first) (i .last))) (has-value n (i .lo) (i .hi) false v (i .first) (i .last))
 
 -- a test that is passed over where there is no word on that side
 where-there-is : (c d x y : ℕ) → T (leb c d || leb x y) → d < c → x ≤ y
@@ -95,10 +103,6 @@ unfolding distance
 nearer-down a x y c h l = (omega (arith, h, l), λ q. omega (arith, h, l, q))
 
 module _ (n : ℕ) (lo : 2 ≤ n) (hi : n ≤ 64) where
-  size-is : (v : ℕ) → 0 < v → v < 2 ^ (n - 1) → size-at n v ≡ grown n v
-  unfolding size-at size-of wordOf signedSize
-  size-is v first last = ap size-of (has-value n lo hi false v first last .means)
-
   module _ (a b v : ℕ) (some : 0 < b) (first : 0 < v) (last : v < 2 ^ (n - 1)) where
     -- so no other word is nearer either
     settles : (1 < v → grown n (v - 1) * b + grown n v * b + v % 2 ≤ 2 * a) → (suc v < 2 ^ (n - 1) → 2 * a + v % 2 ≤ grown n v * b + grown n (suc v) * b) → NearestPlace (grown n) (2 ^ (n - 1)) a b v
@@ -127,16 +131,16 @@ module _ (n : ℕ) (lo : 2 ≤ n) (hi : n ≤ 64) where
     -- as the tests tell
     is-past : T (past-half n a b v) → 1 < v → grown n (v - 1) * b + grown n v * b + v % 2 ≤ 2 * a
     unfolding past-half
-    is-past t h = subst₂ (λ (x y : ℕ). x * b + y * b + v % 2 ≤ 2 * a) (size-is (v - 1) (omega (arith, h)) (omega (arith, last))) (size-is v first last) (where-there-is v 1 _ _ t h)
+    is-past t h = subst₂ (λ (x y : ℕ). x * b + y * b + v % 2 ≤ 2 * a) (size-is n (v - 1) lo hi (omega (arith, h)) (omega (arith, last))) (size-is n v lo hi first last) (where-there-is v 1 _ _ t h)
 
     is-before : T (before-half n a b v) → suc v < 2 ^ (n - 1) → 2 * a + v % 2 ≤ grown n v * b + grown n (suc v) * b
     unfolding before-half
-    is-before t h = subst₂ (λ (x y : ℕ). 2 * a + v % 2 ≤ x * b + y * b) (size-is v first last) (size-is (suc v) (omega arith) h) (where-there-is (2 ^ (n - 1)) (suc v) _ _ t h)
+    is-before t h = subst₂ (λ (x y : ℕ). 2 * a + v % 2 ≤ x * b + y * b) (size-is n v lo hi first last) (size-is n (suc v) lo hi (omega arith) h) (where-there-is (2 ^ (n - 1)) (suc v) _ _ t h)
 
     -- ---- which way it went, of the nearest word
     module _ (nonzero : 0 < a) (near : Nearest n false a b v) where
       same : grown n v * b ≡ size-at n v * b
-      same = ap (λ (x : ℕ). x * b) (sym (size-is v first last))
+      same = ap (λ (x : ℕ). x * b) (sym (size-is n v lo hi first last))
 
       under : T (ltb (size-at n v * b) a) → grown n v * b < a
       under t = lt-of-le-of-lt (le-of-eq same) (ltb→lt (size-at n v * b) a t)

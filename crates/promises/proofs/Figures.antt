@@ -1,44 +1,45 @@
 -- The P figures hold, by one test that is computed over the whole table. Assumes nothing.
-use mathlib.Core.Path.{_≡_, refl, sym, ap, _∙_, subst}
+use mathlib.Core.Path.{_≡_, refl, sym, _∙_, subst}
 use mathlib.Core.Bool.{Bool, true, false, _&&_, _||_, cond}
 use mathlib.Core.List.{List, [], _∷_}
 use mathlib.Core.Logic.{_⊎_, inl, inr, ⊎-elim}
-use Prim.Native.Nat.{ℕ, zero, suc, _+_, _-_, _*_, _%_, _^_, _≤_, _<_}
+use Prim.Native.Nat.{ℕ, zero, suc, _+_, _-_, _*_, _%_, _^_, _<_}
 use native.Mathlib.Nat.{mul-one, zero-lt-suc, le-of-eq, lt-of-le-of-lt, lt-of-lt-of-le}
 use native.Mathlib.Omega.{arith}
 use lib.Dec.{T, eqb, leb, ltb, eqb→eq, leb→le, ltb→lt}
 use lib.IntN.{ℤ, pos, natAbs, _+ℤ_}
 use Rattle.bounds.specs.declared.answer.Answer.{Answer}
+use Rattle.bounds.specs.declared.answer.Written.{Written}
 use Rattle.bounds.specs.declared.refusal.Refusal.{Refusal}
 use Rattle.word.specs.Takum.{Takum, real, NaR, power, regimeOf, characteristicOf, S, D, R, r, p, C, F, c, e, value, meaning, N, padded, takum, orZero, ownFractionBits}
 use Rattle.word.specs.Reads.{num, den, IsSize, signedSize}
+use Rattle.word.specs.Orders.{negated}
 use Rattle.word.proofs.Heads.{both}
 use Rattle.word.proofs.Integers.{same-integer, same-integer-is}
-use Rattle.bounds.proofs.Verdicts.{width-fits, answered}
+use Rattle.word.proofs.Units.{unit-some}
+use Rattle.bounds.specs.Refusals.{through}
+use Rattle.bounds.proofs.Verdicts.{width-fits}
 use Rattle.round.specs.declared.value.Rule.{Rule}
-use Rattle.nearest.specs.Nearest.{HasValue}
 use Rattle.round.specs.Writes.{other, IsWritten}
 use Rattle.write.specs.Writes.{isNegative, Writes}
-use Rattle.round.proofs.Rounding.{tie-nearest, none-between, written-one}
+use Rattle.write.specs.Sayings.{WritesAndSays}
+use Rattle.round.proofs.Rounding.{none-between}
+use Rattle.write.proofs.OneOutcome.{writes-one, writes-and-says-one}
 use Rattle.whole.specs.declared.taking.Taking.{Taking}
 use Rattle.whole.specs.declared.taking.Whole.{Whole}
 use Rattle.whole.specs.Parts.{NearestSize, byRule}
 use Rattle.whole.specs.Wholes.{IsTakenWhole, WritesWhole, TakesWhole}
+use Rattle.whole.specs.Sayings.{WritesWholeAndSays}
 use Rattle.whole.proofs.Answers.{inside, taken-inside}
 use Rattle.whole.proofs.NearestWholes.{nearest-whole}
 use Rattle.whole.proofs.Refused.{meaning-taken}
-use Rattle.whole.proofs.OneOutcome.{taken-one}
-use Rattle.promises.specs.Figures.{Said, plus, minus, nar, IsSaid, Figure, reads, hasOwn, writes, refuses, writesWhole, refusesWhole, takes, whole, below, figures, FigureHolds, AllHold}
+use Rattle.whole.proofs.OneOutcome.{taken-one, writes-whole-and-says-one}
+use Rattle.promises.specs.Figures.{Said, plus, minus, nar, IsSaid, Figure, reads, hasOwn, writes, refuses, writesWhole, refusesWhole, takes, says, saysWhole, whole, positive, negative, below, figures, FigureHolds, AllHold}
 use Rattle.promises.specs.Demands.{RefusedAs, ReadingIsTheDefinition}
-use Rattle.promises.specs.Writing.{numerator, denominator, AWordsValueIsWrittenAsTheWord}
-use Rattle.promises.proofs.Tests.{same, same-is, is-word, word-is, has, has-is}
+use Rattle.promises.specs.Writing.{numerator, denominator}
+use Rattle.promises.proofs.Tests.{size-of, same, same-is, either, is-word, word-is, has, has-is}
+use Rattle.promises.proofs.Settled.{size-at, is-positive, past-half, before-half, is-rounded, went, size-settled, settled, positive-is, size-has, rounded-is, answered-so}
 use Rattle.promises.proofs.Demands.{reading-is-the-definition}
-use Rattle.promises.proofs.Writing.{a-words-value-is-written-as-the-word}
-
--- the size of a meaning
-size-of : Takum → ℕ
-size-of (real z) = natAbs z
-size-of NaR = 0
 
 -- ---- reading: the size is the one that is said, and the sign too
 said : Said → Takum → Bool
@@ -52,42 +53,28 @@ said-is (plus M k) t ok = let u = both (eqb (M * num (k +ℤ pos 307)) (size-of 
 said-is (minus M k) t ok = let u = both (eqb (M * num (k +ℤ pos 307)) (size-of t * den (k +ℤ pos 307))) (same t (real (signedSize true (size-of t)))) ok in (size-of t, eqb→eq _ _ (u .0), same-is t _ (u .1))
 said-is nar t ok = same-is t NaR ok
 
--- ---- writing: the last word at or below the number, found by halving, and what follows from it and its upper neighbour
-last-below : ℕ → ℕ → ℕ → ℕ → ℕ
-last-below n a zero v = v
-last-below n a (suc i) v = cond (leb (size-of (takum n (v + 2 ^ i))) a) (last-below n a i (v + 2 ^ i)) (last-below n a i v)
-
+-- ---- writing
 -- M counted in 2^-307
 scaled : ℕ → ℕ
 scaled M = M * 2 ^ 307
 
+-- the number has that word: rounded, the nearest one; strictly, one of its value
+given : ℕ → Rule → ℕ → ℕ → Bool
+given n Rule.Rounded M w = is-rounded n (scaled M) 1 w
+given n Rule.Strict M w = has n (scaled M) w
+
+-- it is refused strictly: the last word at or below it is found by halving
+last-below : ℕ → ℕ → ℕ → ℕ → ℕ
+last-below n a zero v = v
+last-below n a (suc i) v = cond (leb (size-at n (v + 2 ^ i)) a) (last-below n a i (v + 2 ^ i)) (last-below n a i v)
+
 low-word : ℕ → ℕ → ℕ
 low-word n M = last-below n (scaled M) (n - 1) 0
 
--- the number is the word's
-exactly : ℕ → ℕ → ℕ → ℕ → Bool
-exactly n M w v = has n (scaled M) v && eqb w v
-
--- v and its upper neighbour are positive words of the sizes z and z'
-neighbours : ℕ → ℕ → ℕ → ℕ → ℕ → Bool
-neighbours n M v z z' = (leb 2 n && leb n 64) && ((ltb 0 (scaled M) && (ltb 0 v && ltb (suc v) (2 ^ (n - 1)))) && (has n z v && has n z' (suc v)))
-
--- the number is midway, rounded to the even word
-midway : ℕ → Rule → ℕ → ℕ → ℕ → ℕ → ℕ → Bool
-midway n Rule.Rounded M w v z z' = neighbours n M v z z' && (eqb (2 * scaled M) (z + z') && eqb w (v + v % 2))
-midway n Rule.Strict M w v z z' = false
-
--- the number is strictly between them, and strict writing refuses it
-apart : ℕ → Rule → ℕ → ℕ → ℕ → ℕ → ℕ → Bool
-apart n Rule.Rounded M number v z z' = false
-apart n Rule.Strict M number v z z' = neighbours n M v z z' && ((ltb z (scaled M) && ltb (scaled M) z') && eqb number 4)
-
--- what is written for the number, and what is refused, v being the last word at or below it
-given : ℕ → Rule → ℕ → ℕ → ℕ → Bool
-given n rule M w v = exactly n M w v || midway n rule M w v (size-of (takum n v)) (size-of (takum n (suc v)))
-
+-- the number is strictly between the positive word v and the next
 not-given : ℕ → Rule → ℕ → ℕ → ℕ → Bool
-not-given n rule M number v = apart n rule M number v (size-of (takum n v)) (size-of (takum n (suc v)))
+not-given n Rule.Rounded M number v = false
+not-given n Rule.Strict M number v = (is-positive n v && is-positive n (suc v)) && ((ltb (size-at n v) (scaled M) && ltb (scaled M) (size-at n (suc v))) && eqb number 4)
 
 -- ---- taking: the number is at most a half off, at a half even, has the sign, and is far inside signed 64 bits
 half-off : ℕ → ℕ → Bool
@@ -106,81 +93,48 @@ taken n Taking.Strict w x = false
 passes : Figure → Bool
 passes (reads n w x) = is-word n w && said x (takum n w)
 passes (hasOwn n w k) = is-word n w && eqb (ownFractionBits n w) k
-passes (writes n rule M w) = given n rule M w (low-word n M)
+passes (writes n rule M w) = given n rule M w
 passes (refuses n rule M number) = not-given n rule M number (low-word n M)
-passes (writesWhole n rule M w) = given n rule M w (low-word n M)
+passes (writesWhole n rule M w) = given n rule M w
 passes (refusesWhole n rule M number) = not-given n rule M number (low-word n M)
 passes (takes n rule w x) = taken n rule w x
+passes (says n v w s) = settled n (v .negative) (numerator v) (denominator v) w s
+passes (saysWhole n x w s) = settled n (isNegative x) (scaled (natAbs x)) 1 w s
 
 all-pass : List Figure → Bool
 all-pass [] = true
 all-pass (f ∷ fs) = passes f && all-pass fs
 
-either : (a b : Bool) → T (a || b) → T a ⊎ T b
-either true b t = inl tt
-either false b t = inr t
+given-holds : (n : ℕ) (rule : Rule) (M w : ℕ) → T (given n rule M w) → (a : Answer) → Writes n rule (whole M) a → a ≡ Answer.Word w
+unfolding given scaled whole Writes num den IsWritten
+given-holds n Rule.Rounded M w t = λ a x.
+    let y = rounded-is n (scaled M) 1 w (zero-lt-suc 0) t in
+    let i = y .1 .is .word in
+    writes-one n Rule.Rounded (whole M) a (Answer.Word w) x (through (width-fits n (i .least) (i .most)) (other (y .0) (y .1)))
+given-holds n Rule.Strict M w t = λ a x.
+    let y = has-is n (scaled M) w t in
+    writes-one n Rule.Strict (whole M) a (Answer.Word w) x (through (width-fits n (y .word .least) (y .word .most)) (record { z = scaled M; is = y; same = mul-one (scaled M) }))
 
-exactly-holds : (n : ℕ) (rule : Rule) (M w v : ℕ) → T (exactly n M w v) → (a : Answer) → Writes n rule (whole M) a → a ≡ Answer.Word w
-unfolding exactly scaled whole AWordsValueIsWrittenAsTheWord numerator denominator num den
-exactly-holds n rule M w v t a x =
-    let u = both (has n (scaled M) v) (eqb w v) t in
-    let i = has-is n (scaled M) v (u .0) in
-    a-words-value-is-written-as-the-word n rule (whole M) v a (i .word .least) (i .word .most) (record { z = scaled M; is = i; same = mul-one (scaled M) }) x ∙ ap Answer.Word (sym (eqb→eq w v (u .1)))
-
-record Beside (n M v z z' : ℕ) : Type 0 where
-  lo : 2 ≤ n
-  hi : n ≤ 64
-  some : 0 < scaled M
-  first : 0 < v
-  room : suc v < 2 ^ (n - 1)
-  is : HasValue n false z v
-  next : HasValue n false z' (suc v)
-
-beside : (n M v z z' : ℕ) → T (neighbours n M v z z') → Beside n M v z z'
-unfolding neighbours
-beside n M v z z' t =
-    let u = both (leb 2 n && leb n 64) ((ltb 0 (scaled M) && (ltb 0 v && ltb (suc v) (2 ^ (n - 1)))) && (has n z v && has n z' (suc v))) t in
-    let w = both (leb 2 n) (leb n 64) (u .0) in
-    let x = both (ltb 0 (scaled M) && (ltb 0 v && ltb (suc v) (2 ^ (n - 1)))) (has n z v && has n z' (suc v)) (u .1) in
-    let y = both (ltb 0 (scaled M)) (ltb 0 v && ltb (suc v) (2 ^ (n - 1))) (x .0) in
-    let p = both (ltb 0 v) (ltb (suc v) (2 ^ (n - 1))) (y .1) in
-    let q = both (has n z v) (has n z' (suc v)) (x .1) in
-    record { lo = leb→le 2 n (w .0); hi = leb→le n 64 (w .1); some = ltb→lt 0 (scaled M) (y .0); first = ltb→lt 0 v (p .0); room = ltb→lt (suc v) (2 ^ (n - 1)) (p .1); is = has-is n z v (q .0); next = has-is n z' (suc v) (q .1) }
-
-midway-holds : (n : ℕ) (rule : Rule) (M w v z z' : ℕ) → T (midway n rule M w v z z') → (a : Answer) → Writes n rule (whole M) a → a ≡ Answer.Word w
-unfolding midway scaled whole Writes num den IsWritten
-midway-holds n Rule.Strict M w v z z' t = absurd t
-midway-holds n Rule.Rounded M w v z z' t = λ a x.
-    let u = both (neighbours n M v z z') (eqb (2 * scaled M) (z + z') && eqb w (v + v % 2)) t in
-    let y = both (eqb (2 * scaled M) (z + z')) (eqb w (v + v % 2)) (u .1) in
-    let k = beside n M v z z' (u .0) in
-    written-one n (k .lo) (k .hi) Rule.Rounded false (scaled M) 1 a (Answer.Word (v + v % 2)) (zero-lt-suc 0) (answered (width-fits n (k .lo) (k .hi)) x)
-    (other (k .some) (tie-nearest n (k .lo) (k .hi) v z z' (scaled M) 1 (zero-lt-suc 0) (k .first) (k .room) (k .is) (k .next) (eqb→eq (2 * scaled M) (z + z') (y .0) ∙ sym (mul-one (z + z')))))
-    ∙ ap Answer.Word (sym (eqb→eq w (v + v % 2) (y .1)))
-
-apart-holds : (n : ℕ) (rule : Rule) (M number v z z' : ℕ) → T (apart n rule M number v z z') → (a : Answer) → Writes n rule (whole M) a → RefusedAs Answer Answer.Refused number a
-unfolding apart scaled whole Writes num den IsWritten
-apart-holds n Rule.Rounded M number v z z' t = absurd t
-apart-holds n Rule.Strict M number v z z' t = λ a x.
-    let u = both (neighbours n M v z z') ((ltb z (scaled M) && ltb (scaled M) z') && eqb number 4) t in
+not-given-holds : (n : ℕ) (rule : Rule) (M number v : ℕ) → T (not-given n rule M number v) → (a : Answer) → Writes n rule (whole M) a → RefusedAs Answer Answer.Refused number a
+unfolding not-given scaled whole Writes num den IsWritten
+not-given-holds n Rule.Rounded M number v t = absurd t
+not-given-holds n Rule.Strict M number v t = λ a x.
+    let z = size-at n v in
+    let z' = size-at n (suc v) in
+    let u = both (is-positive n v && is-positive n (suc v)) ((ltb z (scaled M) && ltb (scaled M) z') && eqb number 4) t in
+    let p = both (is-positive n v) (is-positive n (suc v)) (u .0) in
     let w = both (ltb z (scaled M) && ltb (scaled M) z') (eqb number 4) (u .1) in
     let y = both (ltb z (scaled M)) (ltb (scaled M) z') (w .0) in
-    let k = beside n M v z z' (u .0) in
+    let i = positive-is n v (p .0) in
+    let j = positive-is n (suc v) (p .1) in
     record {
       q = Refusal.Inexact;
       is =
-          written-one n (k .lo) (k .hi) Rule.Strict false (scaled M) 1 a (Answer.Refused Refusal.Inexact) (zero-lt-suc 0) (answered (width-fits n (k .lo) (k .hi)) x)
-          (refl, none-between n (k .lo) (k .hi) v z z' (scaled M) 1 (zero-lt-suc 0) (k .first) (k .room) (k .is) (k .next) (lt-of-le-of-lt (le-of-eq (mul-one z)) (ltb→lt z (scaled M) (y .0))) (lt-of-lt-of-le (ltb→lt (scaled M) z' (y .1)) (le-of-eq (sym (mul-one z')))));
+          writes-one n Rule.Strict (whole M) a (Answer.Refused Refusal.Inexact) x
+          (through (width-fits n (i .lo) (i .hi))
+          (refl, none-between n (i .lo) (i .hi) v z z' (scaled M) 1 (zero-lt-suc 0) (i .first) (j .last) (size-has n v i) (size-has n (suc v) j) (lt-of-le-of-lt (le-of-eq (mul-one z)) (ltb→lt z (scaled M) (y .0))) (lt-of-lt-of-le (ltb→lt (scaled M) z' (y .1)) (le-of-eq (sym (mul-one z'))))));
       known = sym (eqb→eq number 4 (w .1));
     }
-
-given-holds : (n : ℕ) (rule : Rule) (M w v : ℕ) → T (given n rule M w v) → (a : Answer) → Writes n rule (whole M) a → a ≡ Answer.Word w
-unfolding given
-given-holds n rule M w v ok = ⊎-elim (exactly-holds n rule M w v) (midway-holds n rule M w v (size-of (takum n v)) (size-of (takum n (suc v)))) (either (exactly n M w v) (midway n rule M w v (size-of (takum n v)) (size-of (takum n (suc v)))) ok)
-
-not-given-holds : (n : ℕ) (rule : Rule) (M number v : ℕ) → T (not-given n rule M number v) → (a : Answer) → Writes n rule (whole M) a → RefusedAs Answer Answer.Refused number a
-unfolding not-given
-not-given-holds n rule M number v ok = apart-holds n rule M number v (size-of (takum n v)) (size-of (takum n (suc v))) ok
 
 half-off-is : (a i : ℕ) → T (half-off a i) → NearestSize (2 ^ 307) a i
 unfolding half-off scaled
@@ -219,7 +173,7 @@ unfolding WritesWhole Writes whole isNegative num den
 as-value n rule M a x = x
 
 holds : (f : Figure) → T (passes f) → FigureHolds f
-unfolding passes FigureHolds ReadingIsTheDefinition
+unfolding passes FigureHolds ReadingIsTheDefinition WritesAndSays Writes WritesWholeAndSays WritesWhole numerator denominator scaled
 holds (reads n w x) ok = λ a h.
     let y = both (is-word n w) (said x (takum n w)) ok in
     (takum n w, said-is x (takum n w) (y .1), reading-is-the-definition n w a (word-is n w (y .0)) h)
@@ -227,11 +181,13 @@ holds (hasOwn n w k) ok =
     let y = both (is-word n w) (eqb (ownFractionBits n w) k) ok in
     let i = word-is n w (y .0) in
     (i, λ a h. reading-is-the-definition n w a i h .fine ∙ eqb→eq (ownFractionBits n w) k (y .1))
-holds (writes n rule M w) ok = given-holds n rule M w (low-word n M) ok
+holds (writes n rule M w) ok = given-holds n rule M w ok
 holds (refuses n rule M number) ok = not-given-holds n rule M number (low-word n M) ok
-holds (writesWhole n rule M w) ok = λ a x. given-holds n rule M w (low-word n M) ok a (as-value n rule M a x)
+holds (writesWhole n rule M w) ok = λ a x. given-holds n rule M w ok a (as-value n rule M a x)
 holds (takes n rule w x) ok = taken-holds n rule w x ok
 holds (refusesWhole n rule M number) ok = λ a x. not-given-holds n rule M number (low-word n M) ok a (as-value n rule M a x)
+holds (says n v w s) ok = λ a x. writes-and-says-one n Rule.Rounded v a (Written.Word w s) x (answered-so n (v .negative) (numerator v) (denominator v) w s (unit-some (v .k +ℤ pos 307) .1) ok)
+holds (saysWhole n x w s) ok = λ a y. writes-whole-and-says-one n Rule.Rounded x a (Written.Word w s) y (answered-so n (isNegative x) (scaled (natAbs x)) 1 w s (zero-lt-suc 0) ok)
 
 all-hold : (fs : List Figure) → T (all-pass fs) → AllHold fs
 unfolding all-pass AllHold
@@ -239,5 +195,5 @@ all-hold [] t = tt
 all-hold (f ∷ fs) t = let x = both (passes f) (all-pass fs) t in (holds f (x .0), all-hold fs (x .1))
 
 pub figures-hold : AllHold figures
-unfolding figures below said num den signedSize power same is-word passes all-pass regimeOf characteristicOf S D R r p C F c e value meaning N padded takum orZero ownFractionBits exactly has low-word last-below size-of scaled midway apart neighbours given not-given half-off sign-of taken isNegative
+unfolding figures below said num den signedSize power same is-word passes all-pass regimeOf characteristicOf S D R r p C F c e value meaning N padded takum orZero ownFractionBits has low-word last-below size-of scaled given not-given half-off sign-of taken isNegative positive negative numerator denominator negated size-at is-positive past-half before-half is-rounded went size-settled settled
 figures-hold = all-hold figures tt

@@ -43,6 +43,8 @@ pub mod Slices
 pub mod Sheets
 -- which way it went: each law once, of whatever is written
 pub mod Sayings
+-- a word that is nearer than those beside it is the nearest, and its size tells which way it went
+pub mod Settled
 -- the P figures, by one test that is computed over the whole table
 pub mod Figures
 -- ---- the letter

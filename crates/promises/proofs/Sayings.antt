@@ -47,17 +47,23 @@ use Rattle.write.specs.declared.value.Value.{Value}
 use Rattle.write.specs.Writes.{isNegative, IsMoved, Writes, Moves}
 use Rattle.write.specs.Sayings.{SaysMoved, WritesAndSays, MovesAndSays}
 use Rattle.write.proofs.Meanings.{said-number}
-use Rattle.write.proofs.Moves.{meaning-exact, exact-meaning}
+use Rattle.write.proofs.Moves.{meaning-exact, moved-to-the-same, strict-keeps}
 use Rattle.write.proofs.OneOutcome.{moves-says-one}
 use Rattle.write.proofs.Sayings.{exact-means, means-exact}
 use Rattle.whole.specs.Wholes.{WritesWhole}
 use Rattle.whole.specs.Sayings.{WritesWholeAndSays}
 use Rattle.binary64.specs.Writes.{IsWrittenBinary64, WritesBinary64}
 use Rattle.binary64.specs.Sayings.{SaysBinary64, WritesBinary64AndSays}
+use Rattle.column.specs.declared.moving.Column.{Column}
+use Rattle.column.specs.declared.moving.MovedColumn.{MovedColumn}
+use Rattle.column.specs.Columns.{IsTried, MovesColumn, Holds}
+use Rattle.column.specs.Counts.{Counts, KeepsTheMeaning, CountsExact, HoldsAndCounts}
+use Rattle.column.proofs.Counts.{counts-one, counts-all, counted-all, counts-alike}
+use Rattle.column.proofs.Positions.{passes, moved-passed, every-word-counted, word-at}
 use Rattle.promises.specs.Demands.{RefusedAs, TheNaRWord}
 use Rattle.promises.specs.Hub.{significand, longNumerator, longDenominator}
 use Rattle.promises.specs.Sayings as promise
-use Rattle.promises.specs.Sayings.{Offered, value, whole, binary64, word, short, size, long, IsFit, Gives, Meant, number, nar, ofTakum, ofFloat, ofShort, meant, HasTheMeaning, TellTheSame, opposite}
+use Rattle.promises.specs.Sayings.{Offered, value, whole, binary64, word, short, size, long, IsFit, Gives, Meant, number, nar, ofTakum, ofFloat, ofShort, meant, HasTheMeaning, TellTheSame, opposite, Moved}
 use Rattle.promises.specs.Writing.{numerator, denominator, withOtherSign, KindSays, Says, AMoveIsAReadingAndAWriting}
 use Rattle.promises.proofs.Demands.{the-NaR-word}
 use Rattle.promises.proofs.Writing.{no-numerator, a-move-is-a-reading-and-a-writing}
@@ -290,7 +296,7 @@ a-move-says-what-writing-says n n' w rule a v r i x says y = record { answers = 
         let nothing = zero-value n' (i' .least) (i' .most) (v .negative) in
         let given = same-word (sym e ∙ meaning-kept n n' rule w 0 r i (nothing .word) (takum-zero n' ∙ sym zero-read) y) in
         subst₂ (nearest.Says n' (v .negative) (numerator v) (denominator v)) (sym (given .0)) (sym (given .1)) (size-exact n' (i' .least) (i' .most) (v .negative) 0 (numerator v) (denominator v) 0 nothing (zero-mul (denominator v) ∙ sym (no-numerator v says)))
-    by (Kind.Number t h m p) w' s number says e = subst (λ (v : Value). nearest.Says n' (v .negative) (numerator v) (denominator v) w' s) (sym says) (said-number n' w' s (takum n w) _ t h m p number (y .says w' s e))
+    by (Kind.Number t h m p) w' s read says e = subst (λ (v : Value). nearest.Says n' (v .negative) (numerator v) (denominator v) w' s) (sym says) (said-number n' w' s (takum n w) _ t h m p read (y .says w' s e))
     by Kind.Nar w' s x says e = absurd says
     by (Kind.Refused q) w' s x says e = absurd says
 
@@ -355,21 +361,63 @@ negating-exchanges-below-and-above n o w s r i lo hi x y =
     opposite-said n lo hi (meant o) (meant (opposite o)) w s r (is-fraction o) (opposite-meant o i) (writes-meant n lo hi Rule.Rounded o (Written.Word w s) i x) (writes-meant n lo hi Rule.Rounded (opposite o) r (opposite-fit o i) y)
 
 -- ---- columns
+-- a column that was moved: its answer, what its results hold, and what it counts
+module _ (n n' : ℕ) (rule : Rule) (words before after : List ℕ) (a : MovedColumn) (count : ℕ) (x : Moved n n' rule words before after a count) where
+  answers-moved : MovesColumn n n' rule words (length before) (Column.Moved count)
+  answers-moved = subst (MovesColumn n n' rule words (length before)) (x .moved) (x .answers)
+
+  holds-moved : Holds n n' rule words before (Column.Moved count) after
+  unfolding HoldsAndCounts
+  holds-moved = subst (λ (c : Column). Holds n n' rule words before c after) (x .moved) (x .holds .0)
+
+  counts-kept : Counts (KeepsTheMeaning n n' words after) count (a .exact)
+  unfolding HoldsAndCounts CountsExact
+  counts-kept = subst (λ (c : Column). CountsExact n n' words after c (a .exact)) (x .moved) (x .holds .1)
+
+  all-words : count ≡ length words
+  all-words = every-word-counted n n' rule words before count after answers-moved holds-moved
+
+  each-moved : (i : ℕ) → i < count → Moves n n' rule (getD words i 0) (Answer.Word (getD after i 0))
+  each-moved i l = word-at n n' rule words before count after answers-moved holds-moved i (omega (arith, l, all-words))
+
+  -- all are counted exactly where each keeps the meaning
+  all-kept : ((i : ℕ) → i < count → KeepsTheMeaning n n' words after i) → a .exact ≡ count
+  all-kept f = counts-one counts-kept (counts-all count f)
+
 pub a-column-counts-what-its-moves-say : promise.AColumnCountsWhatItsMovesSay
-unfolding promise.AColumnCountsWhatItsMovesSay
-a-column-counts-what-its-moves-say n n' rule words before after a count x = ?
+unfolding promise.AColumnCountsWhatItsMovesSay MovesAndSays KeepsTheMeaning
+a-column-counts-what-its-moves-say n n' rule words before after a count x =
+    subst (λ (k : ℕ). Counts (λ i. MovesAndSays n n' rule (getD words i 0) (Written.Word (getD after i 0) Exact)) k (a .exact)) (all-words n n' rule words before after a count x)
+    (counts-alike (λ i l q. word-said (getD after i 0) Exact (each-moved n n' rule words before after a count x i l) (means-exact n n' (getD words i 0) (getD after i 0) q)) (λ i l y. exact-means n n' rule (getD words i 0) (getD after i 0) (y .answers) (y .says (getD after i 0) Exact refl)) (counts-kept n n' rule words before after a count x))
 
 pub a-strict-column-is-exact-throughout : promise.AStrictColumnIsExactThroughout
-unfolding promise.AStrictColumnIsExactThroughout
-a-strict-column-is-exact-throughout n n' words before after a count x = ?
+unfolding promise.AStrictColumnIsExactThroughout KeepsTheMeaning
+a-strict-column-is-exact-throughout n n' words before after a count x = all-kept n n' Rule.Strict words before after a count x (λ i l. strict-keeps n n' (getD words i 0) (getD after i 0) (each-moved n n' Rule.Strict words before after a count x i l) .same)
 
 pub all-are-exact-where-strict-moves-them : promise.AllAreExactWhereStrictMovesThem
-unfolding promise.AllAreExactWhereStrictMovesThem
-all-are-exact-where-strict-moves-them n n' words before after a count strict x y = ?
+unfolding promise.AllAreExactWhereStrictMovesThem MovesColumn IsTried KeepsTheMeaning
+all-are-exact-where-strict-moves-them n n' words before after a count strict x y = (λ q. none-refused q strict (tried strict y), λ other q. each-kept other (tried (Column.Moved other) (subst (MovesColumn n n' Rule.Strict words (length before)) q y)))
+  where
+    tried : (c : Column) → MovesColumn n n' Rule.Strict words (length before) c → IsTried n n' Rule.Strict words c
+    tried c y = let t = moved-passed n n' Rule.Rounded words before count after (answers-moved n n' Rule.Rounded words before after a count x) (holds-moved n n' Rule.Rounded words before after a count x) in
+        answered (passes n n' (length words) (length before) (t .source) (t .target) (t .fits)) y
+
+    -- a word that means the same is what the strict move gives
+    given : (i : ℕ) (r : Answer) → i < count → KeepsTheMeaning n n' words after i → Moves n n' Rule.Strict (getD words i 0) r → r ≡ Answer.Word (getD after i 0)
+    given i r l q z = let t = moved-words n n' Rule.Rounded (getD words i 0) (getD after i 0) (each-moved n n' Rule.Rounded words before after a count x i l) in
+        moved-to-the-same n n' (getD words i 0) (getD after i 0) Rule.Strict r (t .0) (t .1) q z
+
+    none-refused : a .exact ≡ count → (c : Column) → IsTried n n' Rule.Strict words c → c ≡ Column.Moved count
+    none-refused q c z = ?
+
+    each-kept : (other : ℕ) → IsTried n n' Rule.Strict words (Column.Moved other) → a .exact ≡ count
+    each-kept other z = all-kept n n' Rule.Rounded words before after a count x (λ i l. ?)
 
 pub a-refused-column-counts-none : promise.ARefusedColumnCountsNone
 unfolding promise.ARefusedColumnCountsNone HoldsAndCounts CountsExact
-a-refused-column-counts-none n n' rule words before after a x f = by (a .answer) refl (x .1)
+a-refused-column-counts-none n n' rule words before after a x f = by (a .answer) f (x .1)
   where
-    by : (c : Column) → a .answer ≡ c → CountsExact n n' words after c (a .exact) → a .exact ≡ 0
-    by c q z = ?
+    by : (c : Column) → ((count : ℕ) → c ≡ Column.Moved count → ⊥) → CountsExact n n' words after c (a .exact) → a .exact ≡ 0
+    by (Column.Moved count) f z = absurd (f count refl)
+    by (Column.Refused q) f z = z
+    by (Column.RefusedAt position q) f z = z

@@ -1,15 +1,21 @@
 -- Tests of words that are computed, and what follows from them. Assumes nothing.
 use mathlib.Core.Path.{_≡_, refl, ap}
-use mathlib.Core.Bool.{Bool, true, false, _&&_}
+use mathlib.Core.Bool.{Bool, true, false, _&&_, _||_}
+use mathlib.Core.Logic.{_⊎_, inl, inr}
 use Prim.Native.Nat.{ℕ, _-_, _^_}
 use lib.Dec.{T, leb, ltb, leb→le, ltb→lt}
-use lib.IntN.{pos}
+use lib.IntN.{pos, natAbs}
 use Rattle.word.specs.Takum.{Takum, real, NaR, takum}
 use Rattle.bounds.specs.Refusals.{IsWord}
 use Rattle.word.specs.Reads.{signedSize}
 use Rattle.word.proofs.Heads.{both}
 use Rattle.word.proofs.Integers.{same-integer, same-integer-is}
 use Rattle.nearest.specs.Nearest.{HasValue}
+
+-- the size of a meaning
+unfoldable pub size-of : Takum → ℕ
+size-of (real z) = natAbs z
+size-of NaR = 0
 
 -- two meanings are the same
 unfoldable pub same : Takum → Takum → Bool
@@ -24,6 +30,11 @@ same-is (real a) (real b) t = ap real (same-integer-is a b t)
 same-is (real a) NaR t = absurd t
 same-is NaR (real b) t = absurd t
 same-is NaR NaR t = refl
+
+-- one of two tests holds
+pub either : (a b : Bool) → T (a || b) → T a ⊎ T b
+either true b t = inl tt
+either false b t = inr t
 
 -- the test that w is a word of n bits
 unfoldable pub is-word : ℕ → ℕ → Bool

@@ -5,6 +5,9 @@ use mathlib.Core.List.{List, [], _∷_}
 use Prim.Native.Nat.{ℕ}
 use lib.IntN.{ℤ, pos, negℤ}
 use Rattle.bounds.specs.declared.answer.Answer.{Answer}
+use Rattle.bounds.specs.declared.answer.Written.{Written}
+use Rattle.bounds.specs.declared.saying.Saying.{Saying}
+use Rattle.bounds.specs.declared.saying.Saying.the-variants.{Exact, Below, Above, PastTheEnd}
 use Rattle.bounds.specs.Refusals.{IsWord}
 use Rattle.word.specs.declared.reading.Reading.{Reading}
 use Rattle.word.specs.Takum.{Takum, real, NaR, fractionBits, ownFractionBits}
@@ -12,9 +15,11 @@ use Rattle.word.specs.Reads.{IsSize, signedSize, IsReading, Reads}
 use Rattle.round.specs.declared.value.Rule.{Rule}
 use Rattle.write.specs.declared.value.Value.{Value}
 use Rattle.write.specs.Writes.{Writes}
+use Rattle.write.specs.Sayings.{WritesAndSays}
 use Rattle.whole.specs.declared.taking.Taking.{Taking}
 use Rattle.whole.specs.declared.taking.Whole.{Whole}
 use Rattle.whole.specs.Wholes.{WritesWhole, TakesWhole}
+use Rattle.whole.specs.Sayings.{WritesWholeAndSays}
 use Rattle.promises.specs.Demands.{RefusedAs}
 
 -- -k, for exponents and numbers below 0
@@ -35,7 +40,8 @@ IsSaid nar t = t ≡ NaR
 
 -- reads n w x: the word w of n bits is x; hasOwn n w k: it has k fraction bits of its own; writes n rule M w: the value M, written in n bits by the rule,
 -- is the word w; refuses n rule M number: it is the refusal with this number; writesWhole and refusesWhole: the same of M as a whole number, which is the
--- call a tally goes through; takes n rule w x: the word w of n bits goes out as the whole number x by the rule
+-- call a tally goes through; takes n rule w x: the word w of n bits goes out as the whole number x by the rule; says n v w s: the value v, written rounded
+-- in n bits, is the word w and this is said of it; saysWhole n x w s: the same of x as a whole number
 pub data Figure : Type 0 where
   reads : ℕ → ℕ → Said → Figure
   hasOwn : ℕ → ℕ → ℕ → Figure
@@ -44,9 +50,18 @@ pub data Figure : Type 0 where
   writesWhole : ℕ → Rule → ℕ → ℕ → Figure
   refusesWhole : ℕ → Rule → ℕ → ℕ → Figure
   takes : ℕ → Taking → ℕ → ℤ → Figure
+  says : ℕ → Value → ℕ → Saying → Figure
+  saysWhole : ℕ → ℤ → ℕ → Saying → Figure
 
 unfoldable pub whole : ℕ → Value
 whole M = record { negative = false; m = M; k = pos 0 }
+
+-- plus and minus M * 2^k, as they are offered for writing
+unfoldable pub positive : ℕ → ℤ → Value
+positive M k = record { negative = false; m = M; k = k }
+
+unfoldable pub negative : ℕ → ℤ → Value
+negative M k = record { negative = true; m = M; k = k }
 
 unfoldable pub figures : List Figure
 figures =
@@ -105,6 +120,29 @@ figures =
     ∷ hasOwn 16 0x4800 10
     ∷ reads 16 0xB800 (minus 2 (pos 0))
     ∷ hasOwn 16 0xB800 11
+    -- paper 02, Wish 4: 512 and a rounded 513; 515 is midway between 514 and 516; below and above are signed
+    ∷ says 16 (positive 512 (pos 0)) 0x5A00 Exact
+    ∷ says 16 (positive 513 (pos 0)) 0x5A00 Below
+    ∷ says 16 (positive 515 (pos 0)) 0x5A02 Above
+    ∷ says 16 (negative 513 (pos 0)) 0xA600 Above
+    ∷ saysWhole 16 (pos 512) 0x5A00 Exact
+    ∷ saysWhole 16 (pos 513) 0x5A00 Below
+    ∷ saysWhole 16 (pos 515) 0x5A02 Above
+    ∷ saysWhole 16 (below 513) 0xA600 Above
+    -- beyond the largest word and short of the smallest, and these themselves
+    ∷ says 16 (positive 1 (pos 300)) 0x7FFF PastTheEnd
+    ∷ says 16 (negative 1 (pos 300)) 0x8001 PastTheEnd
+    ∷ says 16 (positive 1 (below 300)) 0x0001 PastTheEnd
+    ∷ says 16 (negative 1 (below 300)) 0xFFFF PastTheEnd
+    ∷ says 16 (positive 31 (pos 250)) 0x7FFF Exact
+    ∷ says 16 (negative 31 (pos 250)) 0x8001 Exact
+    ∷ says 16 (positive 17 (below 259)) 0x0001 Exact
+    -- the one positive word of width 2
+    ∷ says 2 (positive 3 (pos 0)) 1 PastTheEnd
+    ∷ says 2 (positive 1 (pos 0)) 1 Exact
+    -- 2^231 is nearer to 2^223 than to 2^239
+    ∷ reads 8 0x7E (plus 1 (pos 223))
+    ∷ says 8 (positive 1 (pos 231)) 0x7E Below
     ∷ []
 
 -- whatever reading or answer the contract allows is the figure's
@@ -116,6 +154,8 @@ FigureHolds (refuses n rule M number) = (a : Answer) → Writes n rule (whole M)
 FigureHolds (writesWhole n rule M w) = (a : Answer) → WritesWhole n rule (pos M) a → a ≡ Answer.Word w
 FigureHolds (refusesWhole n rule M number) = (a : Answer) → WritesWhole n rule (pos M) a → RefusedAs Answer Answer.Refused number a
 FigureHolds (takes n rule w x) = (a : Whole) → TakesWhole n rule w a → a ≡ Whole.Is x
+FigureHolds (says n v w s) = (a : Written) → WritesAndSays n Rule.Rounded v a → a ≡ Written.Word w s
+FigureHolds (saysWhole n x w s) = (a : Written) → WritesWholeAndSays n Rule.Rounded x a → a ≡ Written.Word w s
 
 -- every figure of a list holds
 unfoldable pub AllHold : List Figure → Type 0

@@ -12,6 +12,7 @@ use lib.Ieee.Fits.{down-pos}
 use lib.IntN.{ℤ, pos, negsuc, negℤ, natAbs, _*ℤ_, _+ℤ_, _-ℤ_}
 use lib.ListN.{length, getD}
 use lib.Pow.{pow-pos}
+use lib.Signed.{ltZ}
 use Rattle.bounds.specs.declared.answer.Answer.{Answer}
 use Rattle.bounds.specs.declared.answer.Written.{Written}
 use Rattle.bounds.specs.declared.refusal.Refusal.{Refusal}
@@ -30,12 +31,14 @@ use Rattle.word.specs.Takum.{Takum, real, NaR, takum, fractionBits}
 use Rattle.word.specs.Reads.{num, den, signedSize, IsKind, Reads}
 use Rattle.word.specs.Orders as orders
 use Rattle.word.specs.Orders.{order, negated}
-use Rattle.word.proofs.Signed.{negated-zero, negated-other}
+use Rattle.word.proofs.Signed.{order-below, order-above, order-equal, negated-zero, negated-other}
 use Rattle.word.proofs.Units.{unit-some}
 use Rattle.word.proofs.Values.{grown, NaR-word, negated-word, negation-negates}
 use Rattle.word.proofs.Words.{takum-zero, zeros-appended}
 use Rattle.nearest.specs.Nearest.{HasValue}
 use Rattle.nearest.specs.Sayings as nearest
+use Rattle.nearest.proofs.Places as places
+use Rattle.nearest.proofs.Places.{two, has-value, value-is}
 use Rattle.nearest.proofs.Sayings.{says-one, says-negated, exact-size, size-exact}
 use Rattle.round.specs.declared.value.Rule.{Rule}
 use Rattle.round.specs.Writes.{IsRounded, zero, other, IsExact, IsWritten, WritesShort, WritesSize, WritesLong}
@@ -56,7 +59,7 @@ use Rattle.binary64.specs.Writes.{IsWrittenBinary64, WritesBinary64}
 use Rattle.binary64.specs.Sayings.{SaysBinary64, WritesBinary64AndSays}
 use Rattle.column.specs.declared.moving.Column.{Column}
 use Rattle.column.specs.declared.moving.MovedColumn.{MovedColumn}
-use Rattle.column.specs.Columns.{IsTried, MovesColumn, Holds}
+use Rattle.column.specs.Columns.{Movable, MovableUpTo, IsTried, MovesColumn, Holds}
 use Rattle.column.specs.Counts.{Counts, KeepsTheMeaning, CountsExact, HoldsAndCounts}
 use Rattle.column.proofs.Counts.{counts-one, counts-all, counted-all, counts-alike}
 use Rattle.column.proofs.Positions.{passes, moved-passed, every-word-counted, word-at}
@@ -92,6 +95,57 @@ saying-numbers-are-0-to-3 s t = (at-most s, apart s t)
 
     apart : (s t : Saying) → sayingNumber s ≡ sayingNumber t → s ≡ t
     apart s t q = sym (back s) ∙ ap of-number q ∙ back t
+
+-- past the end or not, by the sizes of the end words
+past-or-not : (n a b : ℕ) → 2 ≤ n → n ≤ 64 → nearest.IsPastTheEnd n a b ⊎ (nearest.IsPastTheEnd n a b → ⊥)
+unfolding largest smallest places.wordOf
+past-or-not n a b lo hi = by (decLt (z * b) a) (decLt 0 a) (decLt a (z' * b))
+  where
+    last : 2 ^ (n - 1) - 1 < 2 ^ (n - 1)
+    last = omega (arith, two n lo hi)
+
+    some : 0 < 2 ^ (n - 1) - 1
+    some = omega (arith, two n lo hi)
+
+    first : 1 < 2 ^ (n - 1)
+    first = omega (arith, two n lo hi)
+
+    z : ℕ
+    z = grown n (2 ^ (n - 1) - 1)
+
+    z' : ℕ
+    z' = grown n 1
+
+    neither : (z * b < a → ⊥) → (0 < a → a < z' * b → ⊥) → nearest.IsPastTheEnd n a b → ⊥
+    neither f g (nearest.beyond y is l) = f (subst (λ (k : ℕ). k * b < a) (value-is n lo hi y (2 ^ (n - 1) - 1) some last is) l)
+    neither f g (nearest.short y is h l) = g h (subst (λ (k : ℕ). a < k * b) (value-is n lo hi y 1 (zero-lt-suc 0) first is) l)
+
+    by : Dec (z * b < a) → Dec (0 < a) → Dec (a < z' * b) → nearest.IsPastTheEnd n a b ⊎ (nearest.IsPastTheEnd n a b → ⊥)
+    by (yes l) p q = inl (nearest.beyond z (has-value n lo hi false (2 ^ (n - 1) - 1) some last) l)
+    by (no f) (yes h) (yes l) = inl (nearest.short z' (has-value n lo hi false 1 (zero-lt-suc 0) first) h l)
+    by (no f) (yes h) (no g) = inr (neither f (λ h l. g l))
+    by (no f) (no g) p = inr (neither f (λ h l. g h))
+
+pub one-saying-holds : promise.OneSayingHolds
+unfolding promise.OneSayingHolds nearest.Says
+one-saying-holds n negative a b w x i means = let t = some (ltZ u v) refl (ltZ v u) refl (past-or-not n a b (i .least) (i .most)) in
+    (t .0, t .1, λ s y. says-one n (i .least) (i .most) negative a b w s (t .0) i y (t .1))
+  where
+    u : ℤ
+    u = x *ℤ pos b
+
+    v : ℤ
+    v = signedSize negative a
+
+    against : (way : ℤ) → order u v ≡ way → nearest.Against n negative a b w way
+    against way q = record { x = x; means = means; is = q }
+
+    some : (p : Bool) → ltZ u v ≡ p → (q : Bool) → ltZ v u ≡ q → nearest.IsPastTheEnd n a b ⊎ (nearest.IsPastTheEnd n a b → ⊥) → (s : Saying) × nearest.Says n negative a b w s
+    some false p false q e = (Exact, against (pos 0) (order-equal u v p q))
+    some true p z q (inl e) = (PastTheEnd, e)
+    some true p z q (inr f) = (Below, (f, against (negsuc 0) (order-below u v p)))
+    some false p true q (inl e) = (PastTheEnd, e)
+    some false p true q (inr f) = (Above, (f, against (pos 1) (order-above u v p q)))
 
 pub the-answer-is-as-before : promise.TheAnswerIsAsBefore
 unfolding WritesAndSays MovesAndSays WritesWholeAndSays WritesBinary64AndSays WritesShortAndSays WritesSizeAndSays WritesSize WritesLongAndSays WritesLong nearest.FindsAndSays
@@ -300,7 +354,6 @@ a-move-says-what-writing-says n n' w rule a v r i x says y = record { answers = 
     by Kind.Nar w' s x says e = absurd says
     by (Kind.Refused q) w' s x says e = absurd says
 
-
 -- ---- negation
 -- what is meant by the opposite: the other sign, unless it is zero, which may keep its own
 unfoldable AreOpposite : Meant → Meant → Type 0
@@ -395,12 +448,19 @@ unfolding promise.AStrictColumnIsExactThroughout KeepsTheMeaning
 a-strict-column-is-exact-throughout n n' words before after a count x = all-kept n n' Rule.Strict words before after a count x (λ i l. strict-keeps n n' (getD words i 0) (getD after i 0) (each-moved n n' Rule.Strict words before after a count x i l) .same)
 
 pub all-are-exact-where-strict-moves-them : promise.AllAreExactWhereStrictMovesThem
-unfolding promise.AllAreExactWhereStrictMovesThem MovesColumn IsTried KeepsTheMeaning
-all-are-exact-where-strict-moves-them n n' words before after a count strict x y = (λ q. none-refused q strict (tried strict y), λ other q. each-kept other (tried (Column.Moved other) (subst (MovesColumn n n' Rule.Strict words (length before)) q y)))
+unfolding promise.AllAreExactWhereStrictMovesThem MovesColumn IsTried Movable MovableUpTo KeepsTheMeaning GivesAWord wordOf
+all-are-exact-where-strict-moves-them n n' words before after a count strict x y = (λ q. none-refused q strict (tried strict y), λ k q. each-kept k (tried (Column.Moved k) (subst (MovesColumn n n' Rule.Strict words (length before)) q y)))
   where
     tried : (c : Column) → MovesColumn n n' Rule.Strict words (length before) c → IsTried n n' Rule.Strict words c
     tried c y = let t = moved-passed n n' Rule.Rounded words before count after (answers-moved n n' Rule.Rounded words before after a count x) (holds-moved n n' Rule.Rounded words before after a count x) in
         answered (passes n n' (length words) (length before) (t .source) (t .target) (t .fits)) y
+
+    -- where the strict move gives a word, the rounded one gives the same
+    kept : (i : ℕ) → i < count → Movable n n' Rule.Strict (getD words i 0) → KeepsTheMeaning n n' words after i
+    kept i l (w', z) =
+        let k = strict-keeps n n' (getD words i 0) w' z in
+        let same = ap wordOf (moved-to-the-same n n' (getD words i 0) w' Rule.Rounded (Answer.Word (getD after i 0)) (k .from) (k .to) (k .same) (each-moved n n' Rule.Rounded words before after a count x i l)) in
+        ap (takum n') same ∙ k .same
 
     -- a word that means the same is what the strict move gives
     given : (i : ℕ) (r : Answer) → i < count → KeepsTheMeaning n n' words after i → Moves n n' Rule.Strict (getD words i 0) r → r ≡ Answer.Word (getD after i 0)
@@ -408,10 +468,14 @@ all-are-exact-where-strict-moves-them n n' words before after a count strict x y
         moved-to-the-same n n' (getD words i 0) (getD after i 0) Rule.Strict r (t .0) (t .1) q z
 
     none-refused : a .exact ≡ count → (c : Column) → IsTried n n' Rule.Strict words c → c ≡ Column.Moved count
-    none-refused q c z = ?
+    none-refused q (Column.Moved k) z = ap Column.Moved (z .0 ∙ sym (all-words n n' Rule.Rounded words before after a count x))
+    none-refused q (Column.Refused u) z = absurd z
+    none-refused q (Column.RefusedAt position u) z =
+        let l : position < count = omega (arith, z .inside, all-words n n' Rule.Rounded words before after a count x) in
+        absurd (subst GivesAWord (sym (given position (Answer.Refused u) l (counted-all (counts-kept n n' Rule.Rounded words before after a count x) q position l) (z .is))) tt)
 
-    each-kept : (other : ℕ) → IsTried n n' Rule.Strict words (Column.Moved other) → a .exact ≡ count
-    each-kept other z = all-kept n n' Rule.Rounded words before after a count x (λ i l. ?)
+    each-kept : (k : ℕ) → IsTried n n' Rule.Strict words (Column.Moved k) → a .exact ≡ count
+    each-kept k z = all-kept n n' Rule.Rounded words before after a count x (λ i l. kept i l (z .1 i (omega (arith, l, z .0, all-words n n' Rule.Rounded words before after a count x))))
 
 pub a-refused-column-counts-none : promise.ARefusedColumnCountsNone
 unfolding promise.ARefusedColumnCountsNone HoldsAndCounts CountsExact

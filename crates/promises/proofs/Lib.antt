@@ -41,6 +41,8 @@ pub mod Nearest
 pub mod Slices
 -- a written block reads back, and a block that is read is what writing makes of its content
 pub mod Sheets
+-- of the sizes between two neighbouring multiples the same is said
+pub mod Jammed
 -- which way it went: each law once, of whatever is written
 pub mod Sayings
 -- a word that is nearer than those beside it is the nearest, and its size tells which way it went

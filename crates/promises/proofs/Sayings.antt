@@ -3,10 +3,11 @@ use mathlib.Core.Path.{_≡_, refl, sym, ap, ap₂, _∙_, subst, subst₂}
 use mathlib.Core.Bool.{Bool, true, false, true≢false, not}
 use mathlib.Core.List.{List}
 use mathlib.Core.Logic.{_⊎_, inl, inr, ⊎-elim}
-use Prim.Native.Nat.{ℕ, zero, suc, _+_, _-_, _*_, _^_, _≤_, _<_}
-use native.Mathlib.Nat.{zero-mul, mul-one, mul-pos, zero-lt-suc}
+use Prim.Native.Nat.{ℕ, zero, suc, _+_, _-_, _*_, _/_, _^_, _≤_, _<_}
+use native.Mathlib.Nat.{le-trans, le-div-iff-mul-le, zero-mul, mul-one, mul-pos, zero-lt-suc}
 use native.Mathlib.Decide.{decLt}
 use native.Mathlib.Omega.{arith}
+use lib.Dec.{lit≤}
 use lib.Ieee.{Float, nan, inf, fin, neg, up, down}
 use lib.Ieee.Fits.{down-pos}
 use lib.IntN.{ℤ, pos, negsuc, negℤ, natAbs, _*ℤ_, _+ℤ_, _-ℤ_}
@@ -43,6 +44,7 @@ use Rattle.nearest.proofs.Sayings.{says-one, says-negated, exact-size, size-exa
 use Rattle.round.specs.declared.value.Rule.{Rule}
 use Rattle.round.specs.Writes.{IsRounded, zero, other, IsExact, IsWritten, WritesShort, WritesSize, WritesLong}
 use Rattle.round.specs.Sayings.{WritesShortAndSays, WritesSizeAndSays, WritesLongAndSays}
+use Rattle.round.proofs.Jamming.{exact-between, jammed-between}
 use Rattle.round.proofs.OneOutcome.{written-word}
 use Rattle.round.proofs.Rounding.{exact-written, rounded-negated, written-one}
 use Rattle.round.proofs.Rules.{zero-value}
@@ -69,6 +71,7 @@ use Rattle.promises.specs.Sayings as promise
 use Rattle.promises.specs.Sayings.{Offered, value, whole, binary64, word, short, size, long, IsFit, Gives, Meant, number, nar, ofTakum, ofFloat, ofShort, meant, HasTheMeaning, TellTheSame, opposite, Moved}
 use Rattle.promises.specs.Writing.{numerator, denominator, withOtherSign, KindSays, Says, AMoveIsAReadingAndAWriting}
 use Rattle.promises.proofs.Demands.{the-NaR-word}
+use Rattle.promises.proofs.Jammed.{same-said}
 use Rattle.promises.proofs.Writing.{no-numerator, a-move-is-a-reading-and-a-writing}
 
 pub saying-numbers-are-0-to-3 : promise.SayingNumbersAre0To3
@@ -296,6 +299,15 @@ unfolding promise.ZeroAndNaRAreExact Answered HasTheMeaning
 zero-and-NaR-are-exact n rule o r i lo hi x =
     let y = writes-meant n lo hi rule o r i x in
     (λ s b q. meaning-said n lo hi rule (meant o) 0 r (is-fraction o) (subst (λ (m : Meant). HasTheMeaning n m 0) (sym q) (record { z = 0; is = zero-value n lo hi s; same = zero-mul b })) y, λ q. subst (λ (m : Meant). Answered n rule m r) q y)
+
+-- ---- jamming
+-- the exact size and the jammed one lie between the same multiples of twice the unit
+pub jamming-changes-no-saying : promise.JammingChangesNoSaying
+unfolding promise.JammingChangesNoSaying WritesLongAndSays WritesShortAndSays WritesShort significand
+jamming-changes-no-saying n rule v x a b w s lo hi full top some between q y =
+    let z = has-some n lo hi rule (v .negative) _ _ w (answered (width-fits n lo hi) (y .answers)) in
+    let said = subst (λ (i : ℕ). nearest.Says n (v .negative) (i * num (v .k +ℤ pos 307)) (den (v .k +ℤ pos 307)) w s) q (y .says w s refl) in
+    same-said n lo hi (x / 2) (v .k +ℤ pos 1) (le-div-iff-mul-le (pow-pos 1) .1 (le-trans (lit≤ tt) full)) _ _ a b (jammed-between x (v .k)) (exact-between x (v .k) a b between) (v .negative) (z .0) w s (z .1) said
 
 -- ---- moves
 pub a-move-is-exact-where-the-meaning-stays : promise.AMoveIsExactWhereTheMeaningStays

@@ -22,6 +22,7 @@ use Rattle.nearest.specs.Sayings as nearest
 use Rattle.nearest.specs.Offers.{FindsNearest}
 use Rattle.round.specs.declared.value.Rule.{Rule}
 use Rattle.round.specs.declared.value.LongValue.{LongValue}
+use Rattle.round.specs.Jamming.{Between, jammed}
 use Rattle.round.specs.Writes.{IsExact, WritesShort, WritesSize, WritesLong}
 use Rattle.round.specs.Sayings.{WritesShortAndSays, WritesSizeAndSays, WritesLongAndSays}
 use Rattle.write.specs.declared.value.Value.{Value}
@@ -36,7 +37,7 @@ use Rattle.column.specs.declared.moving.MovedColumn.{MovedColumn}
 use Rattle.column.specs.Columns.{MovesColumn}
 use Rattle.column.specs.Counts.{Counts, HoldsAndCounts}
 use Rattle.promises.specs.Demands.{RefusedAs}
-use Rattle.promises.specs.Hub.{longNumerator, longDenominator}
+use Rattle.promises.specs.Hub.{significand, longNumerator, longDenominator}
 use Rattle.promises.specs.Writing.{numerator, denominator, withOtherSign, Says}
 
 -- ---- the four sayings
@@ -142,6 +143,13 @@ TheTwoRulesTellTheSameStory = (n : ℕ) (o : Offered) (a b : Written) → IsFit 
 unfoldable pub ZeroAndNaRAreExact : Type 0
 ZeroAndNaRAreExact = (n : ℕ) (rule : Rule) (o : Offered) (r : Written) → IsFit o → 2 ≤ n → n ≤ 64 → Gives n rule o r
     → ((negative : Bool) (b : ℕ) → meant o ≡ number negative 0 b → r ≡ Written.Word 0 Exact) × (meant o ≡ nar → r ≡ Written.Word (narWord n) Exact)
+
+-- ---- jamming
+-- What is said of a jammed long value is said of the exact size a / b, between x and x + 1 units, of which x is the first 128 bits. (`JammingChangesNoAnswer`
+-- says that the word is that of the exact size.)
+unfoldable pub JammingChangesNoSaying : Type 0
+JammingChangesNoSaying =
+    (n : ℕ) (rule : Rule) (v : LongValue) (x a b w : ℕ) (s : Saying) → 2 ≤ n → n ≤ 64 → 2 ^ 127 ≤ x → x < 2 ^ 128 → 0 < b → Between x (v .k) a b → significand v ≡ jammed x → WritesLongAndSays n rule v (Written.Word w s) → nearest.Says n (v .negative) a b w s
 
 -- ---- negation
 -- the same with the opposite sign

@@ -31,7 +31,7 @@ use Rattle.round.proofs.Scales.{plain-offer, coarser}
 use Rattle.nearest.proofs.Signs.{signed-nearest}
 
 -- a size between two multiples isn't zero
-nonzero : (y : ℕ) (k : ℤ) (a b : ℕ) → Between y k a b → 0 < a
+pub nonzero : (y : ℕ) (k : ℤ) (a b : ℕ) → Between y k a b → 0 < a
 nonzero y k zero b x = absurd (omega (arith, x .low, zero-mul (den (k +ℤ pos 307))))
 nonzero y k (suc a) b x = omega arith
 
@@ -121,7 +121,7 @@ module _ (n : ℕ) (lo : 2 ≤ n) (hi : n ≤ 64) (i y : ℕ) (k : ℤ) (full : 
 
 -- ---- the exact size and the jammed one lie between the same multiples of twice the unit
 module _ (x : ℕ) (k : ℤ) where
-  exact-between : (a b : ℕ) → Between x k a b → Between (x / 2) (k +ℤ pos 1) a b
+  pub exact-between : (a b : ℕ) → Between x k a b → Between (x / 2) (k +ℤ pos 1) a b
   exact-between a b h =
       let unit = num (k +ℤ pos 307) * b in
       coarser-between k 1 a b (x / 2) (lt-of-le-of-lt (mul-le-mul-right unit down) (h .low)) (lt-of-lt-of-le (h .high) (mul-le-mul-right unit up))
@@ -132,7 +132,7 @@ module _ (x : ℕ) (k : ℤ) where
       up : x + 1 ≤ (x / 2 + 1) * 2 ^ 1
       up = omega arith
 
-  jammed-between : Between (x / 2) (k +ℤ pos 1) (jammed x * num (k +ℤ pos 307)) (den (k +ℤ pos 307))
+  pub jammed-between : Between (x / 2) (k +ℤ pos 1) (jammed x * num (k +ℤ pos 307)) (den (k +ℤ pos 307))
   unfolding jammed IsOffered Amounts
   jammed-between =
       let y = k +ℤ pos 307 in

@@ -23,7 +23,7 @@ use Rattle.word.specs.Orders.{order, negated, opposite}
 use Rattle.word.specs.Reads.{signedSize}
 use Rattle.word.proofs.Integers.{neg-mul}
 use Rattle.word.proofs.Signed.{order-below, order-above}
-use Rattle.word.proofs.Sizes.{size, size-le, size-lt}
+use Rattle.word.proofs.Sizes.{size, size-lt}
 use Rattle.word.proofs.Values.{grown, grown-suc, real-inj, absolute, order-same, order-zero, order-negated, negation-negates}
 use Rattle.nearest.specs.declared.size.Rest.{Rest}
 use Rattle.nearest.specs.declared.size.Start.{Start}
@@ -31,7 +31,7 @@ use Rattle.nearest.specs.Nearest.{HasValue, distance, Nearest}
 use Rattle.nearest.specs.Offers.{IsOffered, IsNearest}
 use Rattle.nearest.specs.Parts.{Begins, firstBits, IsRaised, TellsEnd, TellsNothing, sayingOf}
 use Rattle.nearest.specs.Sayings.{Against, IsPastTheEnd, beyond, short, Says, SaysOffered}
-use Rattle.nearest.proofs.Floors.{floorString, floor-lt, floor-size-low, floor-low, floor-high, floor-exact, floor-finer, word-low, word-high, fine-exact, fine-finer}
+use Rattle.nearest.proofs.Floors.{floorString, floor-lt, floor-size-low, floor-low, floor-exact, floor-finer, word-low, word-high, fine-exact, fine-finer}
 use Rattle.nearest.proofs.Hub.{past-all, before-all}
 use Rattle.nearest.proofs.Nearest.{distance-below, distance-above}
 use Rattle.nearest.proofs.Classes.{some-size}

@@ -1,4 +1,4 @@
-// One normal size goes in and the nearest positive word comes out: every number that is written passes here.
+// One normal size goes in with its sign, and the nearest word comes out with its saying: every number that is written passes here.
 use bounds::answer::Written;
 use bounds::refusal::Verdict;
 use bounds::saying::Saying;

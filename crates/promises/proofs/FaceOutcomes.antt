@@ -4,7 +4,6 @@ use mathlib.Core.List.{List}
 use Prim.Native.Nat.{ℕ}
 use lib.Ieee.{Float}
 use lib.IntN.{ℤ}
-use lib.ListN.{length}
 use Rattle.bounds.specs.Widths.{GivesWord, GivesLimit}
 use Rattle.word.specs.Reads.{Reads}
 use Rattle.order.specs.Orders.{Compares, Negates}
@@ -16,8 +15,6 @@ use Rattle.whole.specs.Wholes.{TakesWhole}
 use Rattle.whole.specs.Sayings.{WritesWholeAndSays}
 use Rattle.binary64.specs.Takes.{TakesBinary64}
 use Rattle.binary64.specs.Sayings.{WritesBinary64AndSays}
-use Rattle.column.specs.declared.moving.Column.{Column}
-use Rattle.column.specs.Columns.{MovesColumn, Holds}
 use Rattle.sheet.specs.declared.writing.Writing.{Writing}
 use Rattle.sheet.specs.Reads.{ReadsBlock}
 use Rattle.sheet.specs.Writes.{WritesBlock, FillsBuffer}

@@ -1,9 +1,9 @@
 -- Between two neighbouring multiples of a unit, of which a word has at most 64 bits' worth, no word lies: so of every size there the same is said.
 -- Assumes nothing.
-use mathlib.Core.Path.{_≡_, refl, sym, ap, ap₂, _∙_}
+use mathlib.Core.Path.{_≡_, sym, ap, _∙_}
 use mathlib.Core.Bool.{Bool, true, false, cond}
-use Prim.Native.Nat.{ℕ, suc, _+_, _*_, _^_, _≤_, _<_}
-use native.Mathlib.Nat.{le-refl, le-of-eq, le-of-lt, mul-le-mul-right, lt-of-mul-lt-mul-right, mul-one, zero-lt-suc}
+use Prim.Native.Nat.{ℕ, _+_, _*_, _^_, _≤_, _<_}
+use native.Mathlib.Nat.{le-of-eq, le-of-lt, mul-le-mul-right, lt-of-mul-lt-mul-right, mul-one, zero-lt-suc}
 use native.Mathlib.Decide.{decLt}
 use native.Mathlib.Omega.{arith}
 use borrow.Author.Tests.{lt-ltb, le-ltb}
@@ -11,14 +11,13 @@ use lib.IntN.{ℤ, pos, negsuc, negℤ, _*ℤ_, _+ℤ_}
 use Rattle.bounds.specs.declared.saying.Saying.{Saying}
 use Rattle.bounds.specs.declared.saying.Saying.the-variants.{Exact, Below, Above, PastTheEnd}
 use Rattle.bounds.proofs.Powers.{not-more}
-use Rattle.word.specs.Takum.{takum}
 use Rattle.word.specs.Orders.{order}
 use Rattle.word.specs.Reads.{num, den, signedSize}
 use Rattle.word.proofs.Signed.{order-below, order-above}
 use Rattle.word.proofs.Values.{real-inj, order-negated}
 use Rattle.nearest.specs.Nearest.{HasValue}
 use Rattle.nearest.specs.Sayings.{Against, IsPastTheEnd, beyond, short, Says}
-use Rattle.nearest.proofs.Sayings.{signed-times, exact-size}
+use Rattle.nearest.proofs.Sayings.{signed-times}
 use Rattle.round.specs.Jamming.{Between}
 use Rattle.round.proofs.Finer.{no-word-between}
 use Rattle.round.proofs.Jamming.{nonzero}

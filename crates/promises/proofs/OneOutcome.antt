@@ -7,17 +7,20 @@ use Prim.Native.Nat.{ℕ, _^_}
 use native.Mathlib.Nat.{le-antisymm}
 use lib.IntN.{ℤ}
 use Rattle.bounds.specs.declared.answer.Answer.{Answer}
+use Rattle.bounds.specs.declared.answer.Written.{Written}
 use Rattle.bounds.specs.declared.refusal.Refusal.{Refusal}
 use Rattle.bounds.specs.declared.refusal.Verdict.{Verdict}
 use Rattle.word.specs.declared.fields.Fields.{Fields}
 use Rattle.sizes.specs.declared.size.Size.{Size}
 use Rattle.order.specs.declared.order.Comparison.{Comparison}
 use Rattle.word.specs.declared.reading.Reading.{Reading}
+use Rattle.bounds.specs.declared.saying.Saying.{Saying}
 use Rattle.bounds.specs.declared.width.Limit.{Limit}
 use Rattle.bounds.specs.declared.width.Made.{Made}
 use Rattle.word.specs.Cuts.{Cuts}
 use Rattle.sizes.specs.Sizes.{Sizes}
 use Rattle.bounds.specs.Refusals.{numberOf, widthTest, wordTest, roomTest, _then_}
+use Rattle.bounds.specs.Sayings.{sayingNumber, saysExact, oppositeSaying, exactly}
 use Rattle.bounds.specs.Widths.{Greatest, greatest, none, IsLimit, Makes, GivesWord, GivesLimit}
 use Rattle.word.specs.Reads.{Reads}
 use Rattle.word.specs.Orders.{signed, order, negated}
@@ -57,6 +60,19 @@ tests-in-a-row-one u v = given (u then v)
 
 pub number-one : (q : Refusal) (a b : ℕ) → a ≡ numberOf q → b ≡ numberOf q → a ≡ b
 number-one q = given (numberOf q)
+
+-- ---- a saying's number, whether it is exact, and its opposite; an answer that is said to be exact
+pub saying-number-one : (s : Saying) (a b : ℕ) → a ≡ sayingNumber s → b ≡ sayingNumber s → a ≡ b
+saying-number-one s = given (sayingNumber s)
+
+pub is-exact-one : (s : Saying) (a b : Bool) → a ≡ saysExact s → b ≡ saysExact s → a ≡ b
+is-exact-one s = given (saysExact s)
+
+pub opposite-one : (s a b : Saying) → a ≡ oppositeSaying s → b ≡ oppositeSaying s → a ≡ b
+opposite-one s = given (oppositeSaying s)
+
+pub exactly-one : (answer : Answer) (a b : Written) → a ≡ exactly answer → b ≡ exactly answer → a ≡ b
+exactly-one answer = given (exactly answer)
 
 -- ---- widths
 pub makes-one : (n : ℕ) (a b : Made) → Makes n a → Makes n b → a ≡ b

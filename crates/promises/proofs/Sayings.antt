@@ -4,11 +4,11 @@ use mathlib.Core.Bool.{Bool, true, false, true≢false, not}
 use mathlib.Core.List.{List}
 use mathlib.Core.Logic.{_⊎_, inl, inr, ⊎-elim}
 use Prim.Native.Nat.{ℕ, zero, suc, _+_, _-_, _*_, _/_, _^_, _≤_, _<_}
-use native.Mathlib.Nat.{le-trans, le-div-iff-mul-le, zero-mul, mul-one, mul-pos, zero-lt-suc}
+use native.Mathlib.Nat.{le-trans, mul-comm, le-div-iff-mul-le, zero-mul, zero-lt-suc}
 use native.Mathlib.Decide.{decLt}
 use native.Mathlib.Omega.{arith}
 use lib.Dec.{lit≤}
-use lib.Ieee.{Float, nan, inf, fin, neg, up, down}
+use lib.Ieee.{Float, nan, inf, fin, neg}
 use lib.Ieee.Fits.{down-pos}
 use lib.IntN.{ℤ, pos, negsuc, negℤ, natAbs, _*ℤ_, _+ℤ_, _-ℤ_}
 use lib.ListN.{length, getD}
@@ -16,17 +16,15 @@ use lib.Pow.{pow-pos}
 use lib.Signed.{ltZ}
 use Rattle.bounds.specs.declared.answer.Answer.{Answer}
 use Rattle.bounds.specs.declared.answer.Written.{Written}
-use Rattle.bounds.specs.declared.refusal.Refusal.{Refusal}
 use Rattle.bounds.specs.declared.saying.Saying.{Saying}
 use Rattle.bounds.specs.declared.saying.Saying.the-variants.{Exact, Below, Above, PastTheEnd}
 use Rattle.bounds.specs.Refusals.{numberOf, IsWord, through, refused}
 use Rattle.bounds.specs.Sayings.{sayingNumber, saysExact, oppositeSaying, plain, AndSays}
 use Rattle.bounds.specs.Widths.{narWord, largest, smallest}
-use Rattle.bounds.proofs.Answers.{wordOf, GivesAWord, same-word, no-refusal, plain-word, word-said, said-one}
+use Rattle.bounds.proofs.Answers.{wordOf, GivesAWord, same-word, plain-word, word-said, said-one}
 use Rattle.bounds.proofs.Powers.{twice, shl-below}
 use Rattle.bounds.proofs.Verdicts.{word-passes, width-fits, width-through, move-passes, move-through, answered}
 use Rattle.word.specs.declared.reading.Kind.{Kind}
-use Rattle.word.specs.declared.reading.Reading.{Reading}
 use Rattle.word.specs.Takum as takums
 use Rattle.word.specs.Takum.{Takum, real, NaR, takum, fractionBits}
 use Rattle.word.specs.Reads.{num, den, signedSize, IsKind, Reads}
@@ -42,12 +40,13 @@ use Rattle.nearest.proofs.Places as places
 use Rattle.nearest.proofs.Places.{two, has-value, value-is}
 use Rattle.nearest.proofs.Sayings.{says-one, says-negated, exact-size, size-exact}
 use Rattle.round.specs.declared.value.Rule.{Rule}
-use Rattle.round.specs.Writes.{IsRounded, zero, other, IsExact, IsWritten, WritesShort, WritesSize, WritesLong}
+use Rattle.round.specs.Writes.{zero, other, IsWritten, WritesShort, WritesSize, WritesLong}
 use Rattle.round.specs.Sayings.{WritesShortAndSays, WritesSizeAndSays, WritesLongAndSays}
 use Rattle.round.proofs.Jamming.{exact-between, jammed-between}
-use Rattle.round.proofs.OneOutcome.{written-word}
+use Rattle.round.proofs.OneOutcome.{written-word, writes-long-and-says-one}
 use Rattle.round.proofs.Rounding.{exact-written, rounded-negated, written-one}
 use Rattle.round.proofs.Rules.{zero-value}
+use Rattle.round.proofs.Sayings.{says-times, says-reduced}
 use Rattle.write.specs.declared.value.Value.{Value}
 use Rattle.write.specs.Writes.{isNegative, IsMoved, Writes, Moves}
 use Rattle.write.specs.Sayings.{SaysMoved, WritesAndSays, MovesAndSays}
@@ -66,11 +65,12 @@ use Rattle.column.specs.Counts.{Counts, KeepsTheMeaning, CountsExact, HoldsAndC
 use Rattle.column.proofs.Counts.{counts-one, counts-all, counted-all, counts-alike}
 use Rattle.column.proofs.Positions.{passes, moved-passed, every-word-counted, word-at}
 use Rattle.promises.specs.Demands.{RefusedAs, TheNaRWord}
-use Rattle.promises.specs.Hub.{significand, longNumerator, longDenominator}
+use Rattle.promises.specs.Hub.{significand, longNumerator, longDenominator, HowAValueIsSplitChangesNoAnswer}
 use Rattle.promises.specs.Sayings as promise
 use Rattle.promises.specs.Sayings.{Offered, value, whole, binary64, word, short, size, long, IsFit, Gives, Meant, number, nar, ofTakum, ofFloat, ofShort, meant, HasTheMeaning, TellTheSame, opposite, Moved}
 use Rattle.promises.specs.Writing.{numerator, denominator, withOtherSign, KindSays, Says, AMoveIsAReadingAndAWriting}
 use Rattle.promises.proofs.Demands.{the-NaR-word}
+use Rattle.promises.proofs.Hub.{how-a-value-is-split-changes-no-answer}
 use Rattle.promises.proofs.Jammed.{same-said}
 use Rattle.promises.proofs.Writing.{no-numerator, a-move-is-a-reading-and-a-writing}
 
@@ -300,7 +300,17 @@ zero-and-NaR-are-exact n rule o r i lo hi x =
     let y = writes-meant n lo hi rule o r i x in
     (λ s b q. meaning-said n lo hi rule (meant o) 0 r (is-fraction o) (subst (λ (m : Meant). HasTheMeaning n m 0) (sym q) (record { z = 0; is = zero-value n lo hi s; same = zero-mul b })) y, λ q. subst (λ (m : Meant). Answered n rule m r) q y)
 
--- ---- jamming
+-- ---- one value, however it is offered
+-- what is said of a fraction is said of every fraction that equals it
+equal-said : (n : ℕ) (s : Bool) (a b c d w : ℕ) (q : Saying) → 0 < b → 0 < d → a * d ≡ c * b → nearest.Says n s a b w q → nearest.Says n s c d w q
+equal-said n s a b c d w q some-b some-d same x = says-reduced n s c d b some-b w q (subst₂ (λ (i j : ℕ). nearest.Says n s i j w q) same (mul-comm b d) (says-times n s a b d some-d w q x))
+
+pub how-a-value-is-split-changes-no-saying : promise.HowAValueIsSplitChangesNoSaying
+unfolding promise.HowAValueIsSplitChangesNoSaying HowAValueIsSplitChangesNoAnswer WritesLongAndSays WritesShortAndSays WritesLong significand longNumerator longDenominator
+how-a-value-is-split-changes-no-saying n rule u v a b signs q x y =
+    let plain-same = how-a-value-is-split-changes-no-answer n rule u v (plain a) (plain b) signs q (x .answers) (y .answers) in
+    writes-long-and-says-one n rule v a b (record { answers = subst (WritesLong n rule v) (sym plain-same) (y .answers); says = λ w s e. subst (λ (t : Bool). nearest.Says n t (longNumerator v) (longDenominator v) w s) signs (equal-said n (u .negative) (longNumerator u) (longDenominator u) (longNumerator v) (longDenominator v) w s (unit-some (u .k +ℤ pos 307) .1) (unit-some (v .k +ℤ pos 307) .1) q (x .says w s e)) }) y
+
 -- the exact size and the jammed one lie between the same multiples of twice the unit
 pub jamming-changes-no-saying : promise.JammingChangesNoSaying
 unfolding promise.JammingChangesNoSaying WritesLongAndSays WritesShortAndSays WritesShort significand

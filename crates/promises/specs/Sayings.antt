@@ -144,7 +144,11 @@ unfoldable pub ZeroAndNaRAreExact : Type 0
 ZeroAndNaRAreExact = (n : ℕ) (rule : Rule) (o : Offered) (r : Written) → IsFit o → 2 ≤ n → n ≤ 64 → Gives n rule o r
     → ((negative : Bool) (b : ℕ) → meant o ≡ number negative 0 b → r ≡ Written.Word 0 Exact) × (meant o ≡ nar → r ≡ Written.Word (narWord n) Exact)
 
--- ---- jamming
+-- ---- one value, however it is offered
+-- two long values of one sign and one size are answered alike, and the same is said of them; both sizes are multiplied by both denominators
+unfoldable pub HowAValueIsSplitChangesNoSaying : Type 0
+HowAValueIsSplitChangesNoSaying = (n : ℕ) (rule : Rule) (u v : LongValue) (a b : Written) → u .negative ≡ v .negative → longNumerator u * longDenominator v ≡ longNumerator v * longDenominator u → WritesLongAndSays n rule u a → WritesLongAndSays n rule v b → a ≡ b
+
 -- What is said of a jammed long value is said of the exact size a / b, between x and x + 1 units, of which x is the first 128 bits. (`JammingChangesNoAnswer`
 -- says that the word is that of the exact size.)
 unfoldable pub JammingChangesNoSaying : Type 0

@@ -69,17 +69,3 @@ coarser-between k t a b y above under =
       low = subst (λ (x : ℕ). y * (num (k +ℤ pos t +ℤ pos 307) * b) < x) (one-mul (a * den (k +ℤ pos t +ℤ pos 307))) (coarser k t a b Side.Over 1 y (omega (arith, above)));
       high = subst (λ (x : ℕ). x < (y + 1) * (num (k +ℤ pos t +ℤ pos 307) * b)) (one-mul (a * den (k +ℤ pos t +ℤ pos 307))) (coarser k t a b Side.Under 1 (y + 1) (omega (arith, under)));
     }
-
--- what is offered with 64 bits and something below the last of them lies between two such multiples
-below-unit : (m below : ℕ) (h : ℤ) (a b : ℕ) → 0 < below → below < 2 ^ 64 → 0 < b → IsOffered (m * 2 ^ 64 + below) Rest.Nothing (h -ℤ pos 127) a b → Between m (h -ℤ pos 63) a b
-unfolding IsOffered Amounts
-below-unit m below h a b first last some offered =
-    let x = h -ℤ pos 127 +ℤ pos 307 in
-    let t = parts (2 ^ 64) (num x * b) (a * den x) last (mul-pos (unit-some x .0) some) offered in
-    subst (λ (z : ℤ). Between m z a b) (lower-by h 63 127 (lit≤ tt)) (coarser-between (h -ℤ pos 127) 64 a b m (t .0) (t .1))
-  where
-    parts : (p unit amount : ℕ) → below < p → 0 < unit → amount ≡ (m * p + below) * unit → (m * p * unit < amount) × (amount < (m + 1) * p * unit)
-    parts p unit amount l u q = (omega (arith, q, u, mul-le-mul-right unit first), omega (arith, q, u, mul-le-mul-right unit l))
-
-pub no-finer-word : (n : ℕ) → 2 ≤ n → n ≤ 64 → (s : Bool) (m below : ℕ) (h : ℤ) (a b : ℕ) → 2 ^ 63 ≤ m → m < 2 ^ 64 → 0 < below → below < 2 ^ 64 → 0 < a → 0 < b → IsOffered (m * 2 ^ 64 + below) Rest.Nothing (h -ℤ pos 127) a b → (w : ℕ) → IsExact n s a b w → ⊥
-no-finer-word n lo hi s m below h a b full top first last nonzero some offered w x = no-word-between n lo hi s m (h -ℤ pos 63) a b full nonzero some (below-unit m below h a b first last some offered) w x

@@ -77,12 +77,6 @@ module _ (m : ℕ) (k : ℤ) (a b : ℕ) (some : zero < b) (offered : IsOffered 
   unfolding IsOffered Amounts
   both = offered ∙ sym (mul-assoc m (num (k +ℤ pos 307)) b)
 
-  pub size-same : IsSize m k z → z * b ≡ a
-  unfolding IsSize
-  size-same h =
-      eq-of-mul-eq-mul-right (den (k +ℤ pos 307)) (unit-some (k +ℤ pos 307) .1) (z * b) a
-      (mul-right-comm z b (den (k +ℤ pos 307)) ∙ ap (λ (y : ℕ). y * b) (sym h) ∙ sym both)
-
   pub same-size : z * b ≡ a → IsSize m k z
   unfolding IsSize
   same-size q =

@@ -9,12 +9,10 @@ use borrow.Author.Tests.{lt-ltb, le-ltb, ltb-true, ltb-false}
 use lib.Dec.{ltb}
 use Rattle.word.specs.Takum.{takum, real}
 use Rattle.bounds.specs.Refusals.{IsWord}
-use Rattle.word.specs.Orders.{negated}
 use Rattle.word.specs.Reads.{signedSize}
 use Rattle.sizes.specs.Sizes.{withoutSign}
 use lib.Pow.{pow-pos}
 use Rattle.bounds.proofs.Powers.{twice}
-use Rattle.word.proofs.Signed.{negated-other}
 use Rattle.word.proofs.Values.{words-differ}
 use Rattle.nearest.specs.Nearest.{HasValue, distance, Nearest}
 use Rattle.round.specs.Writes.{IsExact}

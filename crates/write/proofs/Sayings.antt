@@ -1,6 +1,6 @@
 -- A move is said to be exact exactly where the word that is given means what the word means. Assumes nothing.
 use mathlib.Core.Path.{_≡_, refl, sym, ap, ap₂, _∙_, subst}
-use mathlib.Core.Bool.{true, false, true≢false}
+use mathlib.Core.Bool.{false, true≢false}
 use Prim.Native.Nat.{ℕ, suc, _≤_}
 use lib.IntN.{ℤ, pos, negsuc, negℤ, natAbs, _*ℤ_}
 use native.Mathlib.Nat.{mul-one}
@@ -11,7 +11,7 @@ use Rattle.bounds.specs.Refusals.{through, refused}
 use Rattle.bounds.specs.Sayings.{saysExact}
 use Rattle.bounds.specs.Widths.{narWord}
 use Rattle.bounds.proofs.Answers as Answers
-use Rattle.bounds.proofs.Answers.{GivesAWord, is-exact}
+use Rattle.bounds.proofs.Answers.{GivesAWord}
 use Rattle.bounds.proofs.Verdicts.{width-through, move-through}
 use Rattle.word.specs.Orders.{order}
 use Rattle.word.specs.Reads.{signedSize}

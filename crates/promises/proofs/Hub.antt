@@ -58,7 +58,7 @@ a-long-value-is-refused-exactly-where-there-is-no-word n v r lo hi x =
     given-or-inexact (IsExact n (v .negative) (longNumerator v) (longDenominator v)) r (λ w q. written n Rule.Strict v (Answer.Word w) lo hi (subst (WritesLong n Rule.Strict v) q x)) (past Answer.Refused r 1 _ _ (good-width n (lo, hi)) (write-long-follows n Rule.Strict v r x))
 
 -- what is written for a fraction is written for every fraction that equals it
-equal-fraction : (n : ℕ) (rule : Rule) (s : Bool) (a b c d : ℕ) (r : Answer) → 0 < b → 0 < d → a * d ≡ c * b → IsWritten n rule s a b r → IsWritten n rule s c d r
+pub equal-fraction : (n : ℕ) (rule : Rule) (s : Bool) (a b c d : ℕ) (r : Answer) → 0 < b → 0 < d → a * d ≡ c * b → IsWritten n rule s a b r → IsWritten n rule s c d r
 equal-fraction n rule s a b c d r some-b some-d q x =
     written-reduced n s c d b some-b rule r (subst₂ (λ (x y : ℕ). IsWritten n rule s x y r) q (mul-comm b d) (written-times n s a b d some-d rule r x))
 

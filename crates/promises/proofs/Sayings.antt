@@ -3,8 +3,8 @@ use mathlib.Core.Path.{_≡_, refl, sym, ap, ap₂, _∙_, subst, subst₂}
 use mathlib.Core.Bool.{Bool, true, false, true≢false, not}
 use mathlib.Core.List.{List}
 use mathlib.Core.Logic.{_⊎_, inl, inr, ⊎-elim}
-use Prim.Native.Nat.{ℕ, zero, suc, _+_, _-_, _*_, _/_, _^_, _≤_, _<_}
-use native.Mathlib.Nat.{le-trans, mul-comm, le-div-iff-mul-le, zero-mul, zero-lt-suc}
+use Prim.Native.Nat.{ℕ, zero, suc, _+_, _-_, _*_, _/_, _%_, _^_, _≤_, _<_}
+use native.Mathlib.Nat.{le-of-lt, le-trans, mul-comm, le-div-iff-mul-le, zero-mul, zero-lt-suc}
 use native.Mathlib.Decide.{decLt}
 use native.Mathlib.Omega.{arith}
 use lib.Dec.{lit≤}
@@ -35,16 +35,18 @@ use Rattle.word.proofs.Units.{unit-some}
 use Rattle.word.proofs.Values.{grown, NaR-word, negated-word, negation-negates}
 use Rattle.word.proofs.Words.{takum-zero, zeros-appended}
 use Rattle.nearest.specs.Nearest.{HasValue}
+use Rattle.nearest.specs.Offers.{IsOffered}
 use Rattle.nearest.specs.Sayings as nearest
 use Rattle.nearest.proofs.Places as places
 use Rattle.nearest.proofs.Places.{two, has-value, value-is}
 use Rattle.nearest.proofs.Sayings.{says-one, says-negated, exact-size, size-exact}
 use Rattle.round.specs.declared.value.Rule.{Rule}
-use Rattle.round.specs.Writes.{zero, other, IsWritten, WritesShort, WritesSize, WritesLong}
+use Rattle.round.specs.Writes.{IsRounded, zero, other, IsWritten, WritesShort, WritesSize, WritesLong}
 use Rattle.round.specs.Sayings.{WritesShortAndSays, WritesSizeAndSays, WritesLongAndSays}
 use Rattle.round.proofs.Jamming.{exact-between, jammed-between}
-use Rattle.round.proofs.OneOutcome.{written-word, writes-long-and-says-one}
-use Rattle.round.proofs.Rounding.{exact-written, rounded-negated, written-one}
+use Rattle.round.proofs.Long.{some-rest, finer-offer}
+use Rattle.round.proofs.OneOutcome.{written-word}
+use Rattle.round.proofs.Rounding.{past-the-largest, before-the-smallest, exact-written, rounded-negated, written-one}
 use Rattle.round.proofs.Rules.{zero-value}
 use Rattle.round.proofs.Sayings.{says-times, says-reduced}
 use Rattle.write.specs.declared.value.Value.{Value}
@@ -65,14 +67,14 @@ use Rattle.column.specs.Counts.{Counts, KeepsTheMeaning, CountsExact, HoldsAndC
 use Rattle.column.proofs.Counts.{counts-one, counts-all, counted-all, counts-alike}
 use Rattle.column.proofs.Positions.{passes, moved-passed, every-word-counted, word-at}
 use Rattle.promises.specs.Demands.{RefusedAs, TheNaRWord}
-use Rattle.promises.specs.Hub.{significand, longNumerator, longDenominator, HowAValueIsSplitChangesNoAnswer}
+use Rattle.promises.specs.Hub.{significand, longNumerator, longDenominator}
 use Rattle.promises.specs.Sayings as promise
-use Rattle.promises.specs.Sayings.{Offered, value, whole, binary64, word, short, size, long, IsFit, Gives, Meant, number, nar, ofTakum, ofFloat, ofShort, meant, HasTheMeaning, TellTheSame, opposite, Moved}
-use Rattle.promises.specs.Writing.{numerator, denominator, withOtherSign, KindSays, Says, AMoveIsAReadingAndAWriting}
+use Rattle.promises.specs.Sayings.{Offered, value, whole, binary64, word, short, size, long, IsFit, Gives, Meant, number, nar, ofTakum, ofFloat, ofShort, meant, HasTheMeaning, TellTheSame, MeanTheSame, opposite, Moved}
+use Rattle.promises.specs.Writing.{numerator, denominator, withOtherSign, ofSign, KindSays, Says, AMoveIsAReadingAndAWriting, WiderNeverChangesNorRefuses}
 use Rattle.promises.proofs.Demands.{the-NaR-word}
-use Rattle.promises.proofs.Hub.{how-a-value-is-split-changes-no-answer}
+use Rattle.promises.proofs.Hub.{equal-fraction}
 use Rattle.promises.proofs.Jammed.{same-said}
-use Rattle.promises.proofs.Writing.{no-numerator, a-move-is-a-reading-and-a-writing}
+use Rattle.promises.proofs.Writing.{no-numerator, of-sign, a-move-is-a-reading-and-a-writing, wider-never-changes-nor-refuses}
 
 pub saying-numbers-are-0-to-3 : promise.SayingNumbersAre0To3
 unfolding promise.SayingNumbersAre0To3
@@ -305,11 +307,25 @@ zero-and-NaR-are-exact n rule o r i lo hi x =
 equal-said : (n : ℕ) (s : Bool) (a b c d w : ℕ) (q : Saying) → 0 < b → 0 < d → a * d ≡ c * b → nearest.Says n s a b w q → nearest.Says n s c d w q
 equal-said n s a b c d w q some-b some-d same x = says-reduced n s c d b some-b w q (subst₂ (λ (i j : ℕ). nearest.Says n s i j w q) same (mul-comm b d) (says-times n s a b d some-d w q x))
 
-pub how-a-value-is-split-changes-no-saying : promise.HowAValueIsSplitChangesNoSaying
-unfolding promise.HowAValueIsSplitChangesNoSaying HowAValueIsSplitChangesNoAnswer WritesLongAndSays WritesShortAndSays WritesLong significand longNumerator longDenominator
-how-a-value-is-split-changes-no-saying n rule u v a b signs q x y =
-    let plain-same = how-a-value-is-split-changes-no-answer n rule u v (plain a) (plain b) signs q (x .answers) (y .answers) in
-    writes-long-and-says-one n rule v a b (record { answers = subst (WritesLong n rule v) (sym plain-same) (y .answers); says = λ w s e. subst (λ (t : Bool). nearest.Says n t (longNumerator v) (longDenominator v) w s) signs (equal-said n (u .negative) (longNumerator u) (longDenominator u) (longNumerator v) (longDenominator v) w s (unit-some (u .k +ℤ pos 307) .1) (unit-some (v .k +ℤ pos 307) .1) q (x .says w s e)) }) y
+meaning-answered : (n : ℕ) → 2 ≤ n → n ≤ 64 → (rule : Rule) (m m' : Meant) (r r' : Written) → IsFraction m → IsFraction m' → MeanTheSame m m' → Answered n rule m r → Answered n rule m' r' → r ≡ r'
+unfolding MeanTheSame IsFraction Answered
+meaning-answered n lo hi rule (number s a b) (number s' a' b') r r' some some' (same, q) x y =
+    said-one (λ i j. written-one n lo hi rule s' a' b' i j some') (λ w t u z. says-one n lo hi s' a' b' w t u (written-word n lo hi rule s' a' b' w z)) r r'
+    (record { answers = subst (λ (t : Bool). IsWritten n rule t a' b' (plain r)) same (equal-fraction n rule s a b a' b' (plain r) some some' q (x .answers)); says = λ w t e. subst (λ (u : Bool). nearest.Says n u a' b' w t) same (equal-said n s a b a' b' w t some some' q (x .says w t e)) }) y
+meaning-answered n lo hi rule (number s a b) nar r r' some some' same x y = absurd same
+meaning-answered n lo hi rule nar (number s a b) r r' some some' same x y = absurd same
+meaning-answered n lo hi rule nar nar r r' some some' same x y = x ∙ sym y
+
+pub one-meaning-has-one-answer : promise.OneMeaningHasOneAnswer
+unfolding promise.OneMeaningHasOneAnswer
+one-meaning-has-one-answer n rule o o' r r' i i' lo hi same x y = meaning-answered n lo hi rule (meant o) (meant o') r r' (is-fraction o) (is-fraction o') same (writes-meant n lo hi rule o r i x) (writes-meant n lo hi rule o' r' i' y)
+
+pub what-is-found-is-said-of-the-size : promise.WhatIsFoundIsSaidOfTheSize
+unfolding promise.WhatIsFoundIsSaidOfTheSize nearest.FindsAndSays nearest.SaysFound nearest.SaysOffered
+what-is-found-is-said-of-the-size n negative h m below w s full top fits x a b some offered =
+    let t = some-rest below in
+    let set : 2 ^ 63 + m % 2 ^ 63 ≡ m = omega (arith, full, top) in
+    x .says w s refl (t .0) (t .1) a b some (subst (λ (y : ℕ). IsOffered y (t .0) (h -ℤ pos 63) a b) (sym set) (finer-offer m below (t .0) h a b some fits (t .1) offered))
 
 -- the exact size and the jammed one lie between the same multiples of twice the unit
 pub jamming-changes-no-saying : promise.JammingChangesNoSaying
@@ -375,6 +391,24 @@ a-move-says-what-writing-says n n' w rule a v r i x says y = record { answers = 
     by (Kind.Number t h m p) w' s read says e = subst (λ (v : Value). nearest.Says n' (v .negative) (numerator v) (denominator v) w' s) (sym says) (said-number n' w' s (takum n w) _ t h m p read (y .says w' s e))
     by Kind.Nar w' s x says e = absurd says
     by (Kind.Refused q) w' s x says e = absurd says
+
+-- ---- past the end
+end-word : (n : ℕ) → 2 ≤ n → n ≤ 64 → (m : Meant) (w : ℕ) → IsFraction m → Answered n Rule.Rounded m (Written.Word w PastTheEnd)
+    → (negative : Bool) × (a b z : ℕ) × (m ≡ number negative a b) × ((HasValue n false z (largest n) × (z * b < a) × (w ≡ ofSign n negative (largest n))) ⊎ (HasValue n false z (smallest n) × (a < z * b) × (w ≡ ofSign n negative (smallest n))))
+unfolding IsFraction Answered IsWritten nearest.Says largest smallest ofSign places.wordOf
+end-word n lo hi nar w some x = absurd (omega (arith, ap sayingNumber (same-word x .1)))
+end-word n lo hi (number s a b) w some x = by (x .says w PastTheEnd refl) (x .answers)
+  where
+    by : nearest.IsPastTheEnd n a b → IsRounded n s a b w → (negative : Bool) × (a' b' z : ℕ) × (number s a b ≡ number negative a' b') × ((HasValue n false z (largest n) × (z * b' < a') × (w ≡ ofSign n negative (largest n))) ⊎ (HasValue n false z (smallest n) × (a' < z * b') × (w ≡ ofSign n negative (smallest n))))
+    by (nearest.beyond z is l) (zero q e) = absurd (omega (arith, q, l))
+    by (nearest.short z is h l) (zero q e) = absurd (omega (arith, q, h))
+    by (nearest.beyond z is l) (other h x) =
+        (s, a, b, z, refl, inl (is, l, past-the-largest n lo hi s z a b w some is (le-of-lt l) x ∙ of-sign n lo hi s (2 ^ (n - 1) - 1) (omega (arith, two n lo hi)) (omega (arith, two n lo hi))))
+    by (nearest.short z is h l) (other h' x) = (s, a, b, z, refl, inr (is, l, before-the-smallest n lo hi s z a b w some is (le-of-lt l) x ∙ of-sign n lo hi s 1 (zero-lt-suc 0) (omega (arith, two n lo hi))))
+
+pub past-the-end-is-said-of-the-end-word : promise.PastTheEndIsSaidOfTheEndWord
+unfolding promise.PastTheEndIsSaidOfTheEndWord
+past-the-end-is-said-of-the-end-word n o w i lo hi x = end-word n lo hi (meant o) w (is-fraction o) (writes-meant n lo hi Rule.Rounded o (Written.Word w PastTheEnd) i x)
 
 -- ---- negation
 -- what is meant by the opposite: the other sign, unless it is zero, which may keep its own
@@ -468,6 +502,13 @@ a-column-counts-what-its-moves-say n n' rule words before after a count x =
 pub a-strict-column-is-exact-throughout : promise.AStrictColumnIsExactThroughout
 unfolding promise.AStrictColumnIsExactThroughout KeepsTheMeaning
 a-strict-column-is-exact-throughout n n' words before after a count x = all-kept n n' Rule.Strict words before after a count x (λ i l. strict-keeps n n' (getD words i 0) (getD after i 0) (each-moved n n' Rule.Strict words before after a count x i l) .same)
+
+pub a-wider-column-is-exact-throughout : promise.AWiderColumnIsExactThroughout
+unfolding promise.AWiderColumnIsExactThroughout KeepsTheMeaning WiderNeverChangesNorRefuses wordOf
+a-wider-column-is-exact-throughout n more rule words before after a count room x = all-kept n (n + more) rule words before after a count x (λ i l.
+    let y = each-moved n (n + more) rule words before after a count x i l in
+    let t = wider-never-changes-nor-refuses n more (getD words i 0) rule (Answer.Word (getD after i 0)) room (moved-words n (n + more) rule (getD words i 0) (getD after i 0) y .0) y in
+    ap (takum (n + more)) (ap wordOf (t .0)) ∙ t .1)
 
 pub all-are-exact-where-strict-moves-them : promise.AllAreExactWhereStrictMovesThem
 unfolding promise.AllAreExactWhereStrictMovesThem MovesColumn IsTried Movable MovableUpTo KeepsTheMeaning GivesAWord wordOf

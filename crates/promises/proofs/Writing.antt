@@ -89,7 +89,7 @@ unfolding promise.RoundedIsNeverZeroNorNaR narWord
 rounded-is-never-zero-nor-NaR n v w lo hi some x = rounded-not-zero-nor-NaR n lo hi (v .negative) (numerator v) (denominator v) w (nearest-one v some n w lo hi x)
 
 module _ (n : ℕ) (lo : 2 ≤ n) (hi : n ≤ 64) where
-  of-sign : (s : Bool) (v : ℕ) → 0 < v → v < 2 ^ (n - 1) → wordOf n s v ≡ ofSign n s v
+  pub of-sign : (s : Bool) (v : ℕ) → 0 < v → v < 2 ^ (n - 1) → wordOf n s v ≡ ofSign n s v
   unfolding wordOf ofSign
   of-sign false v h b = refl
   of-sign true v h b = sym (negated-other n v h (omega (arith, b, twice n lo)))

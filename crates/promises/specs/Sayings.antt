@@ -1,6 +1,6 @@
 -- Which way it went (paper 02, Wish 4): what is promised of the saying beside a word, whatever was written, and of a column's count.
 use mathlib.Core.Path.{_≡_}
-use mathlib.Core.Bool.{Bool, not}
+use mathlib.Core.Bool.{Bool, false, not}
 use mathlib.Core.List.{List}
 use mathlib.Core.Logic.{_⊎_}
 use Prim.Native.Nat.{ℕ, _+_, _*_, _^_, _≤_, _<_}
@@ -9,17 +9,19 @@ use lib.IntN.{ℤ, pos, negℤ, natAbs, _+ℤ_, _-ℤ_}
 use lib.ListN.{length, getD}
 use Rattle.bounds.specs.declared.answer.Written.{Written}
 use Rattle.bounds.specs.declared.saying.Saying.{Saying}
-use Rattle.bounds.specs.declared.saying.Saying.the-variants.{Exact}
+use Rattle.bounds.specs.declared.saying.Saying.the-variants.{Exact, PastTheEnd}
 use Rattle.bounds.specs.Refusals.{IsWord}
 use Rattle.bounds.specs.Sayings.{sayingNumber, oppositeSaying, plain}
-use Rattle.bounds.specs.Widths.{narWord}
+use Rattle.bounds.specs.Widths.{narWord, largest, smallest}
 use Rattle.word.specs.declared.reading.Reading.{Reading}
 use Rattle.word.specs.Takum.{Takum, real, NaR, takum}
 use Rattle.word.specs.Reads.{num, den, Reads}
 use Rattle.word.specs.Orders.{negated}
 use Rattle.sizes.specs.declared.size.Size.{Size}
 use Rattle.nearest.specs.Sayings as nearest
-use Rattle.nearest.specs.Offers.{FindsNearest}
+use Rattle.nearest.specs.declared.size.Rest.{Rest}
+use Rattle.nearest.specs.Nearest.{HasValue}
+use Rattle.nearest.specs.Offers.{IsOffered, FindsNearest}
 use Rattle.round.specs.declared.value.Rule.{Rule}
 use Rattle.round.specs.declared.value.LongValue.{LongValue}
 use Rattle.round.specs.Jamming.{Between, jammed}
@@ -38,7 +40,7 @@ use Rattle.column.specs.Columns.{MovesColumn}
 use Rattle.column.specs.Counts.{Counts, HoldsAndCounts}
 use Rattle.promises.specs.Demands.{RefusedAs}
 use Rattle.promises.specs.Hub.{significand, longNumerator, longDenominator}
-use Rattle.promises.specs.Writing.{numerator, denominator, withOtherSign, Says}
+use Rattle.promises.specs.Writing.{numerator, denominator, withOtherSign, ofSign, Says}
 
 -- ---- the four sayings
 -- of a word that has a value, and whatever value it is given for, one of the four holds and no other: this is about the definition alone
@@ -145,15 +147,32 @@ ZeroAndNaRAreExact = (n : ℕ) (rule : Rule) (o : Offered) (r : Written) → IsF
     → ((negative : Bool) (b : ℕ) → meant o ≡ number negative 0 b → r ≡ Written.Word 0 Exact) × (meant o ≡ nar → r ≡ Written.Word (narWord n) Exact)
 
 -- ---- one value, however it is offered
--- two long values of one sign and one size are answered alike, and the same is said of them; both sizes are multiplied by both denominators
-unfoldable pub HowAValueIsSplitChangesNoSaying : Type 0
-HowAValueIsSplitChangesNoSaying = (n : ℕ) (rule : Rule) (u v : LongValue) (a b : Written) → u .negative ≡ v .negative → longNumerator u * longDenominator v ≡ longNumerator v * longDenominator u → WritesLongAndSays n rule u a → WritesLongAndSays n rule v b → a ≡ b
+-- NaR both, or numbers of one sign and one size; both sizes are multiplied by both denominators
+unfoldable pub MeanTheSame : Meant → Meant → Type 0
+MeanTheSame (number negative a b) (number negative' a' b') = (negative ≡ negative') × (a * b' ≡ a' * b)
+MeanTheSame (number negative a b) nar = ⊥
+MeanTheSame nar (number negative a b) = ⊥
+MeanTheSame nar nar = Unit {0}
+
+-- are answered alike by every call, and the same is said of them
+unfoldable pub OneMeaningHasOneAnswer : Type 0
+OneMeaningHasOneAnswer = (n : ℕ) (rule : Rule) (o o' : Offered) (r r' : Written) → IsFit o → IsFit o' → 2 ≤ n → n ≤ 64 → MeanTheSame (meant o) (meant o') → Gives n rule o r → Gives n rule o' r' → r ≡ r'
+
+-- What `nearest` says is said of the size (m + below * 2^-64) * 2^(h - 63), of which it finds the word, the top bit of m being set.
+unfoldable pub WhatIsFoundIsSaidOfTheSize : Type 0
+WhatIsFoundIsSaidOfTheSize = (n : ℕ) (negative : Bool) (h : ℤ) (m below w : ℕ) (s : Saying) → 2 ^ 63 ≤ m → m < 2 ^ 64 → below < 2 ^ 64 → nearest.FindsAndSays n negative h m below (Written.Word w s) → (a b : ℕ) → 0 < b → IsOffered (m * 2 ^ 64 + below) Rest.Nothing (h -ℤ pos 127) a b → nearest.Says n negative a b w s
 
 -- What is said of a jammed long value is said of the exact size a / b, between x and x + 1 units, of which x is the first 128 bits. (`JammingChangesNoAnswer`
 -- says that the word is that of the exact size.)
 unfoldable pub JammingChangesNoSaying : Type 0
 JammingChangesNoSaying =
     (n : ℕ) (rule : Rule) (v : LongValue) (x a b w : ℕ) (s : Saying) → 2 ≤ n → n ≤ 64 → 2 ^ 127 ≤ x → x < 2 ^ 128 → 0 < b → Between x (v .k) a b → significand v ≡ jammed x → WritesLongAndSays n rule v (Written.Word w s) → nearest.Says n (v .negative) a b w s
+
+-- ---- past the end
+-- past the end is said of an end word of the sign: of the largest where the size is beyond it, of the smallest where it is short of it
+unfoldable pub PastTheEndIsSaidOfTheEndWord : Type 0
+PastTheEndIsSaidOfTheEndWord = (n : ℕ) (o : Offered) (w : ℕ) → IsFit o → 2 ≤ n → n ≤ 64 → Gives n Rule.Rounded o (Written.Word w PastTheEnd)
+    → (negative : Bool) × (a b z : ℕ) × (meant o ≡ number negative a b) × ((HasValue n false z (largest n) × (z * b < a) × (w ≡ ofSign n negative (largest n))) ⊎ (HasValue n false z (smallest n) × (a < z * b) × (w ≡ ofSign n negative (smallest n))))
 
 -- ---- negation
 -- the same with the opposite sign
@@ -206,6 +225,10 @@ AllAreExactWhereStrictMovesThem = (n n' : ℕ) (words before after : List ℕ) (
 -- by the strict rule all are exact
 unfoldable pub AStrictColumnIsExactThroughout : Type 0
 AStrictColumnIsExactThroughout = (n n' : ℕ) (words before after : List ℕ) (a : MovedColumn) (count : ℕ) → Moved n n' Rule.Strict words before after a count → a .exact ≡ count
+
+-- to a width at least as wide all are, by either rule
+unfoldable pub AWiderColumnIsExactThroughout : Type 0
+AWiderColumnIsExactThroughout = (n more : ℕ) (rule : Rule) (words before after : List ℕ) (a : MovedColumn) (count : ℕ) → n + more ≤ 64 → Moved n (n + more) rule words before after a count → a .exact ≡ count
 
 -- a refused column counts none
 unfoldable pub ARefusedColumnCountsNone : Type 0

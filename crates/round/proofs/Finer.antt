@@ -3,17 +3,14 @@ use mathlib.Core.Path.{_≡_, refl, sym, ap, _∙_, subst}
 use mathlib.Core.Bool.{Bool}
 use mathlib.Core.Logic.{_⊎_, inl, inr, ⊎-elim}
 use Prim.Native.Nat.{ℕ, zero, suc, _+_, _-_, _*_, _^_, _≤_, _<_}
-use native.Mathlib.Nat.{mul-le-mul-right, lt-of-mul-lt-mul-right, mul-le-mul-left, mul-pos, mul-right-comm, mul-assoc, one-mul, two-pow-succ}
+use native.Mathlib.Nat.{lt-of-mul-lt-mul-right, mul-le-mul-left, mul-right-comm, mul-assoc, one-mul, two-pow-succ}
 use native.Mathlib.Omega.{arith}
-use lib.Dec.{lit≤}
 use lib.IntN.{ℤ, pos, negsuc, _+ℤ_, _-ℤ_, +ℤ-comm, -ℤ-+ℤ-cancel}
 use lib.Pow.{pow-pos}
 use Rattle.word.specs.Reads.{num, den, IsSize}
-use Rattle.word.proofs.Units.{unit-some, raise-size, lower-by}
-use Rattle.nearest.specs.declared.size.Rest.{Rest}
+use Rattle.word.proofs.Units.{raise-size}
 use Rattle.nearest.specs.declared.size.Side.{Side}
 use Rattle.round.specs.Writes.{IsExact}
-use Rattle.nearest.specs.Offers.{Amounts, IsOffered}
 use Rattle.nearest.specs.Parts.{TellsSide}
 use Rattle.round.specs.Jamming.{Between}
 use Rattle.round.proofs.Scales.{coarser, finer}

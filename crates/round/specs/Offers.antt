@@ -1,25 +1,17 @@
 -- Serves private functions only: what is written for zero and for what goes past 64 bits, and what a rule makes of the nearest word.
 use mathlib.Core.Path.{_≡_}
-use mathlib.Core.Bool.{Bool, cond}
+use mathlib.Core.Bool.{cond}
 use Prim.Native.Nat.{ℕ, _+_, _-_, _*_, _/_, _^_}
-use lib.IntN.{ℤ, pos, _+ℤ_}
-use Rattle.word.specs.Reads.{num, den}
 use Rattle.bounds.specs.declared.answer.Written.{Written}
 use Rattle.bounds.specs.declared.refusal.Refusal.{Refusal}
 use Rattle.bounds.specs.declared.saying.Saying.the-variants.{Exact}
 use Rattle.bounds.specs.Refusals.{widthTest, Decided}
-use Rattle.bounds.specs.Sayings.{saysExact, AndSays}
-use Rattle.nearest.specs.Sayings.{Says}
+use Rattle.bounds.specs.Sayings.{saysExact}
 use Rattle.round.specs.declared.value.Rule.{Rule}
-use Rattle.round.specs.Writes.{IsWritten}
 
 -- what is written for zero
 unfoldable pub WritesZero : ℕ → Written → Type 0
 WritesZero n r = Decided (widthTest n) (λ q. r ≡ Written.Refused q) (r ≡ Written.Word 0 Exact)
-
--- what is written for x * 2^k with its sign, and said of it
-unfoldable pub WritesTimes : ℕ → Rule → Bool → ℕ → ℤ → Written → Type 0
-WritesTimes n rule negative x k r = AndSays (IsWritten n rule negative (x * num (k +ℤ pos 307)) (den (k +ℤ pos 307))) (Says n negative (x * num (k +ℤ pos 307)) (den (k +ℤ pos 307))) r
 
 -- the first 64 bits of two numbers in a row, after so many zeros
 unfoldable pub topBits : ℕ → ℕ → ℕ → ℕ

@@ -12,7 +12,7 @@ ghost use mathlib.Core.Path.{_≡_};
 ghost use Prim.Native.Nat.{_+_, _-_, _*_, _^_, _≤_, _<_};
 ghost use Rattle.round.specs.declared.value.Rule.{Rule};
 ghost use Rattle.round.specs.Sayings.{WritesLongAndSays, WritesShortAndSays, WritesSizeAndSays};
-ghost use Rattle.round.specs.Offers.{WritesTimes, WritesZero, settled, topBits};
+ghost use Rattle.round.specs.Offers.{WritesZero, settled, topBits};
 
 // The word for a long value, the nearest, or exactly that value or INEXACT; and which way it went.
 pub fn write_long(width: Width, rule: Rule, value: LongValue) -> Written
@@ -20,10 +20,6 @@ pub fn write_long(width: Width, rule: Rule, value: LongValue) -> Written
 {
     if value.high == 0 {
         return write_short(width, rule, value.negative, value.low, value.k);
-    }
-    let verdict = width.test();
-    if let Verdict::Refused(q) = verdict {
-        return Written::Refused(q);
     }
     write_full(width, rule, value.negative, value.high, value.low, value.k)
 }
@@ -72,8 +68,8 @@ fn zero_word(width: Width) -> Written
 
 // What is written for a significand that goes past 64 bits. Its first 64 stand in m, the others below.
 fn write_full(width: Width, rule: Rule, negative: bool, high: u64, low: u64, k: i32) -> Written
-    requires { ⌜ (2 ≤ width .bits) × (width .bits ≤ 64) × (0 < high) ⌝ }
-    ensures { λ r. ⌜ WritesTimes (width .bits) rule negative (high * 2 ^ 64 + low) k r ⌝ }
+    requires { ⌜ 0 < high ⌝ }
+    ensures { λ r. ⌜ WritesShortAndSays (width .bits) rule negative (high * 2 ^ 64 + low) k r ⌝ }
 {
     let zeros = u64::leading_zeros(high);
     let h = k as i64 + (127 - zeros) as i64;

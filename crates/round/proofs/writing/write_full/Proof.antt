@@ -12,13 +12,11 @@ use Rattle.word.specs.Reads.{num, den}
 use Rattle.word.proofs.Units.{unit-some}
 use Rattle.nearest.specs.declared.size.Rest.{Rest}
 use Rattle.nearest.specs.Offers.{IsOffered}
-use Rattle.bounds.proofs.Verdicts.{width-fits, answered}
-use Rattle.round.specs.Offers.{topBits, WritesTimes}
-use Rattle.round.specs.Writes.{IsWritten}
+use Rattle.round.specs.Offers.{topBits}
+use Rattle.round.specs.Writes.{WritesShort}
+use Rattle.round.specs.Sayings.{WritesShortAndSays}
 use Rattle.round.proofs.Rules.{settles}
-use Rattle.bounds.specs.declared.answer.Written.{Written}
-use Rattle.bounds.specs.Sayings.{AndSays}
-use Rattle.nearest.specs.Sayings.{Says, FindsAndSays}
+use Rattle.nearest.specs.Sayings.{FindsAndSays}
 use Rattle.round.proofs.Held.{raised-fits, held-sum, wide}
 use Rattle.round.proofs.Long.{few-zeros, high-shifted, top-full, long-offer, some-rest, finer-offer}
 use Rattle.round.proofs.writing.write_full.Statement.{statement}
@@ -29,7 +27,7 @@ module _ (s : tie.Start) where
   zeros = leadingZeros 64 (s .args .high)
 
   few : zeros ≤ 63
-  few = few-zeros (s .args .high) (s .args .low) (s .pre .2) (s .fits .high .fits) (s .fits .low .fits)
+  few = few-zeros (s .args .high) (s .args .low) (s .pre) (s .fits .high .fits) (s .fits .low .fits)
 
   small : 127 - zeros < 2 ^ 31
   small = omega arith
@@ -47,17 +45,17 @@ module _ (s : tie.Start) where
   X = s .args .high * 2 ^ 64 + s .args .low
 
   some : 0 < X
-  some = omega (arith, s .pre .2)
+  some = omega (arith, s .pre)
 
   -- the value, as its bits are offered
   offered : (m : ℕ) → m ≡ topBits (s .args .high) (s .args .low) zeros → IsOffered (m * 2 ^ 64 + below) Rest.Nothing (h -ℤ pos 127) (X * num (s .args .k +ℤ pos 307)) (den (s .args .k +ℤ pos 307))
   offered m q =
       subst (λ (m : ℕ). IsOffered (m * 2 ^ 64 + below) Rest.Nothing (h -ℤ pos 127) (X * num (s .args .k +ℤ pos 307)) (den (s .args .k +ℤ pos 307))) (sym q)
-      (long-offer (s .args .high) (s .args .low) (s .pre .2) (s .fits .high .fits) (s .fits .low .fits) (s .args .k))
+      (long-offer (s .args .high) (s .args .low) (s .pre) (s .fits .high .fits) (s .fits .low .fits) (s .args .k))
 
 full : (c : tie.After-top-bits) → 2 ^ 63 ≤ c .top-bits .result
 full c = let s = c .before in
-    subst (λ (m : ℕ). 2 ^ 63 ≤ m) (sym (c .top-bits .ensures)) (top-full (s .args .high) (s .args .low) (s .pre .2) (s .fits .high .fits) (s .fits .low .fits))
+    subst (λ (m : ℕ). 2 ^ 63 ≤ m) (sym (c .top-bits .ensures)) (top-full (s .args .high) (s .args .low) (s .pre) (s .fits .high .fits) (s .fits .low .fits))
 
 cast-h : tie.Need-cast-h
 cast-h c = wide (c .args .k) (c .fits .k)
@@ -72,7 +70,7 @@ add-h : tie.Need-add-h
 add-h c = raised-fits (c .args .k) (c .fits .k) (127 - zeros c) (small c)
 
 top-bits-requires : tie.Need-top-bits-requires
-top-bits-requires c κs = (few c, high-shifted (c .args .high) (c .args .low) (c .pre .2) (c .fits .high .fits) (c .fits .low .fits))
+top-bits-requires c κs = (few c, high-shifted (c .args .high) (c .args .low) (c .pre) (c .fits .high .fits) (c .fits .low .fits))
 
 cast-below : tie.Need-cast-below
 cast-below c = record { fits = lt-of-le-of-lt (few (c .before)) (lit< tt) }
@@ -87,17 +85,15 @@ by-rule-requires : tie.Need-by-rule-requires
 by-rule-requires c κs = search needs
 
 returns : tie.Need-returns
-unfolding WritesTimes
+unfolding WritesShortAndSays WritesShort
 returns c = let k = c .before .before in
     let s = k .before in
     let t = some-rest (below s) in
-    let through-width = width-fits (s .args .width .bits) (s .pre .0) (s .pre .1) in
-    let x = settles (s .args .width .bits) (s .args .rule) (s .args .negative) (h s) (k .top-bits .result) (below s) (c .before .nearest .result) (full k) (k .top-bits .ok)
+    subst (WritesShortAndSays (s .args .width .bits) (s .args .rule) (s .args .negative) (X s) (s .args .k)) (sym (c .by-rule .ensures))
+    (settles (s .args .width .bits) (s .args .rule) (s .args .negative) (h s) (k .top-bits .result) (below s) (c .before .nearest .result) (full k) (k .top-bits .ok)
     (subst (λ (z : ℤ). FindsAndSays (s .args .width .bits) (s .args .negative) z (k .top-bits .result) (below s) (c .before .nearest .result)) (held-sum (s .args .k) (s .fits .k) (127 - zeros s) (small s)) (c .before .nearest .ensures))
     (t .0) (t .1) _ _ (mul-pos (some s) (unit-some _ .0)) (unit-some _ .1)
-    (finer-offer (k .top-bits .result) (below s) (t .0) (h s) _ _ (unit-some _ .1) (below-lt s) (t .1) (offered s (k .top-bits .result) (k .top-bits .ensures))) in
-    subst (λ (r : Written). AndSays (IsWritten (s .args .width .bits) (s .args .rule) (s .args .negative) (X s * num (s .args .k +ℤ pos 307)) (den (s .args .k +ℤ pos 307))) (Says (s .args .width .bits) (s .args .negative) (X s * num (s .args .k +ℤ pos 307)) (den (s .args .k +ℤ pos 307))) r) (sym (c .by-rule .ensures))
-    (record { answers = answered through-width (x .answers); says = x .says })
+    (finer-offer (k .top-bits .result) (below s) (t .0) (h s) _ _ (unit-some _ .1) (below-lt s) (t .1) (offered s (k .top-bits .result) (k .top-bits .ensures))))
 
 pub write-full-spec : {M : Type 1} → statement M
 write-full-spec =

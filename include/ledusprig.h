@@ -2,7 +2,7 @@
  * says the same in words, and tests/face tries it.
  *
  *     takum_saying_answer tag = takum_write_whole(16, TAKUM_ROUNDED, 515);
- *     if (tag.saying == TAKUM_ABOVE) puts("515 went up: the tag reads 516");
+ *     if (tag.refusal == 0 && tag.saying == TAKUM_ABOVE) puts("515 went up: the tag reads 516");
  *
  * It needs C99 or later, or C++11 or later. The archive is for x86-64 or for Arm (aarch64), under Linux. It is linked like any other, cc program.c
  * libledusprig.a, or, where it is installed, cc program.c $(pkg-config --cflags --libs ledusprig). It stands on nothing else, not even the C library,

@@ -17,6 +17,6 @@ SaysBinary64 n nan w s = s ≡ Exact
 SaysBinary64 n (inf t) w s = s ≡ Exact
 SaysBinary64 n (fin t m e) w s = Says n t (m * up e * 2 ^ 307) (down e) w s
 
--- ---- what the call answers
+-- ---- what the call answers, and says
 unfoldable pub WritesBinary64AndSays : ℕ → Rule → Float → Written → Type 0
 WritesBinary64AndSays n rule x r = AndSays (WritesBinary64 n rule x) (SaysBinary64 n x) r

@@ -43,6 +43,6 @@ SaysOffered n negative h m rest w s = (a b : ℕ) → 0 < b → IsOffered m rest
 unfoldable pub SaysFound : ℕ → Bool → ℤ → ℕ → ℕ → ℕ → Saying → Type 0
 SaysFound n negative h m below w s = (rest : Rest) → IsRest below rest → SaysOffered n negative h (2 ^ 63 + m % 2 ^ 63) rest w s
 
--- ---- what the call answers
+-- ---- what the call answers, and says
 unfoldable pub FindsAndSays : ℕ → Bool → ℤ → ℕ → ℕ → Written → Type 0
 FindsAndSays n negative h m below r = AndSays (FindsNearest n negative h m below) (SaysFound n negative h m below) r

@@ -1,2 +1,3 @@
-// The nearest word of a size, whatever lies below its first 64 bits: by value, ties to the even word, end words past the ends.
+// The nearest word of a size with its sign, whatever lies below its first 64 bits, and which way it went: by value, ties to the even word, end words past
+// the ends.
 pub mod size;

@@ -1,4 +1,4 @@
-// One normal size goes in with its sign, and the nearest word comes out with its saying: every number that is written passes here.
+// One normal size goes in with its sign, and the nearest word comes out with its saying: every number but zero that is written passes here.
 use bounds::answer::Written;
 use bounds::refusal::Verdict;
 use bounds::saying::Saying;
@@ -36,7 +36,8 @@ struct Start {
     r: u32,
 }
 
-// A positive word and where it lies from the size that it is nearest to: past it lies the size, it is exactly the size, or it is up from it, or down.
+// A positive word beside the size that it is nearest to. `past`: the size lies past this end word, and the other two tell nothing. Else `exact`: the
+// word is the size. Else `up`: the word is above the size, or below it.
 struct Near {
     word: u64,
     past: bool,

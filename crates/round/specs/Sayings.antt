@@ -11,7 +11,7 @@ use Rattle.round.specs.declared.value.Rule.{Rule}
 use Rattle.round.specs.declared.value.LongValue.{LongValue}
 use Rattle.round.specs.Writes.{WritesShort}
 
--- ---- what the calls answer
+-- ---- what the calls answer, and say
 -- m * 2^k with its sign, as `WritesShort` has it, and which way it went
 unfoldable pub WritesShortAndSays : ℕ → Rule → Bool → ℕ → ℤ → Written → Type 0
 WritesShortAndSays n rule negative m k r = AndSays (WritesShort n rule negative m k) (Says n negative (m * num (k +ℤ pos 307)) (den (k +ℤ pos 307))) r

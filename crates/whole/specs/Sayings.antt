@@ -9,6 +9,6 @@ use Rattle.round.specs.declared.value.Rule.{Rule}
 use Rattle.write.specs.Writes.{isNegative}
 use Rattle.whole.specs.Wholes.{WritesWhole}
 
--- ---- what the call answers
+-- ---- what the call answers, and says
 unfoldable pub WritesWholeAndSays : ℕ → Rule → ℤ → Written → Type 0
 WritesWholeAndSays n rule x r = AndSays (WritesWhole n rule x) (Says n (isNegative x) (natAbs x * 2 ^ 307) 1) r

@@ -19,7 +19,7 @@ unfoldable pub SaysMoved : ℕ → Takum → ℕ → Saying → Type 0
 SaysMoved n (real z) w s = Says n (isNegative z) (natAbs z) 1 w s
 SaysMoved n NaR w s = s ≡ Exact
 
--- ---- what the calls answer
+-- ---- what the calls answer, and say
 unfoldable pub WritesAndSays : ℕ → Rule → Value → Written → Type 0
 WritesAndSays n rule v r = AndSays (Writes n rule v) (Says n (v .negative) (v .m * num (v .k +ℤ pos 307)) (den (v .k +ℤ pos 307))) r
 

@@ -171,7 +171,7 @@ fn nearest_inside(n: u32, h: i64, m: u64, rest: Rest) -> Near
     // Where it falls in the fraction, words are evenly spaced and the bits that are cut off decide.
     let cut = (m << 1) << (n - start.r - 5);
     let word = chosen_by_cut(low, cut, rest);
-    beside(low, word, is_nothing(cut, rest))
+    beside(low, word, nothing_is_cut(cut, rest))
 }
 
 // The word that is nearest, low being the last one that is not above the size, and the size being exactly low or not.
@@ -200,8 +200,8 @@ fn ends_at(n: u32, low: u64, bits: u64, r: u32, m: u64, rest: Rest) -> bool
     is_none(rest)
 }
 
-// Whether nothing was cut off of the fraction.
-fn is_nothing(cut: u64, rest: Rest) -> bool
+// Whether nothing of the size was cut off behind the fraction.
+fn nothing_is_cut(cut: u64, rest: Rest) -> bool
     ensures { λ b. ⌜ TellsNothing cut rest b ⌝ }
 {
     if cut != 0 {

@@ -233,8 +233,8 @@ unfolding low
 chosen-by-cut-requires c κs = let g = given (c .before .before .before) in
     lt-of-lt-of-le (g .room) (pow-mono {i = c .before .before .before .before .before .before .before .before .args .n - 1} {j = 63} (omega (arith, g .hi)))
 
-is-nothing-requires : tie.Need-is-nothing-requires
-is-nothing-requires c κs = search needs
+nothing-is-cut-requires : tie.Need-nothing-is-cut-requires
+nothing-is-cut-requires c κs = search needs
 
 beside-requires-3 : tie.Need-beside-requires-3
 beside-requires-3 c κs = search needs
@@ -256,7 +256,7 @@ returns-5 c =
       is = near;
       lies = said-beside _ (lo k) (hi k) _ _ _ _ _ (raised-is k) (begins k) (full k) (top k) _ (is k) (first t) (omega (arith, room b)) _ near _
           (by-nothing _ (lo k) (hi k) _ _ _ _ _ (raised-is k) (begins k) (full k) (top k) _ (is k) (first t) (omega (arith, room b)) fine _
-          (subst (λ (cut : ℕ). TellsNothing cut (k .before .before .args .rest) (c .before .is-nothing .result)) shifts (c .before .is-nothing .ensures)));
+          (subst (λ (cut : ℕ). TellsNothing cut (k .before .before .args .rest) (c .before .nothing-is-cut .result)) shifts (c .before .nothing-is-cut .ensures)));
     })
 
 pub nearest-inside-spec : {M : Type 1} → statement M
@@ -291,6 +291,6 @@ nearest-inside-spec =
     cast-cut
     shl-cut
     chosen-by-cut-requires
-    is-nothing-requires
+    nothing-is-cut-requires
     beside-requires-3
     returns-5)

@@ -1,4 +1,4 @@
--- `is_nothing` meets its contract: the bits cut off, and then the rest. Assumes nothing.
+-- `nothing_is_cut` meets its contract: the bits cut off, and then the rest. Assumes nothing.
 use mathlib.Core.Bool.{Bool, true, false}
 use mathlib.Core.Logic.{inl, inr}
 use mathlib.Core.Path.{_≡_, refl, sym}
@@ -6,8 +6,8 @@ use native.Mathlib.Nat.{pos-of-ne-zero}
 use borrow.Author.Needs.{needs}
 use Rattle.nearest.specs.Parts.{TellsNothing, isNone}
 use Rattle.nearest.proofs.Halves.{no-rest, some-rest}
-use Rattle.nearest.proofs.size.is_nothing.Statement.{statement}
-use Rattle.nearest.proofs.size.is_nothing.Tie as tie
+use Rattle.nearest.proofs.size.nothing_is_cut.Statement.{statement}
+use Rattle.nearest.proofs.size.nothing_is_cut.Tie as tie
 
 returns : tie.Need-returns
 unfolding TellsNothing
@@ -27,5 +27,5 @@ returns-2 c = by (c .is-none .result) (c .is-none .ensures)
     by true q = (c .before .if1 .left, no-rest (s .args .rest) (sym q))
     by false q = inr (some-rest (s .args .rest) (sym q))
 
-pub is-nothing-spec : {M : Type 1} → statement M
-is-nothing-spec = tie.close (tie.spec returns is-none-requires returns-2)
+pub nothing-is-cut-spec : {M : Type 1} → statement M
+nothing-is-cut-spec = tie.close (tie.spec returns is-none-requires returns-2)

@@ -116,7 +116,7 @@ fn write_words(from: Width, to: Width, rule: Rule, words: &[u64], results: &mut 
     exact
 }
 
-// The word that a word is moved to. It has been tried, so the refusal never comes.
+// The word that a word is moved to, and whether it means the same. It has been tried, so the refusal never comes.
 fn moved(from: Width, to: Width, rule: Rule, word: u64) -> MovedWord
     requires { ⌜ Movable (from .bits) (to .bits) rule word ⌝ }
     ensures { λ m. ⌜ MovesWord (from .bits) (to .bits) rule word m ⌝ }

@@ -1,5 +1,5 @@
--- Between two neighbouring multiples of a unit, of which a word has at most 64 bits' worth, no word lies: so of every size there the same is said.
--- Assumes nothing.
+-- No word lies between two neighbouring multiples of a unit, the lower one taking 64 bits or more: so of every size there the same is said. Assumes
+-- nothing.
 use mathlib.Core.Path.{_≡_, sym, ap, _∙_}
 use mathlib.Core.Bool.{Bool, true, false, cond}
 use Prim.Native.Nat.{ℕ, _+_, _*_, _^_, _≤_, _<_}

@@ -1,4 +1,4 @@
-// The sums A and B over the block's 126 numbers, wrapping at 32 bits.
+// The sums A and B over the block's 126 numbers, wrapping at 32 bits, both in one walk over the lent bytes where they lie.
 use crate::numbers::four_bytes;
 use std::num::wrapping_add_u32;
 ghost use mathlib.Core.Path.{_≡_};
@@ -11,6 +11,7 @@ pub(crate) struct Sums {
     pub(crate) b: u32,
 }
 
+// A running value of A is added to B as soon as it is there. Neither the bytes nor the running values are kept: the handheld has little stack.
 pub(crate) fn sums_of(block: &[u8]) -> Sums
     requires { ⌜ length (now block) ≡ 512 ⌝ }
     ensures { λ r. ⌜ (r .a ≡ sumA (numbers (now (block .entry)))) × (r .b ≡ sumB (numbers (now (block .entry)))) ⌝ }

@@ -1,0 +1,231 @@
+# The most stack that a function and all it calls can use, from the machine code of a linked file for x86-64 or Arm.
+#
+#     llvm-objdump -d --no-show-raw-insn FILE | awk -v roots='NAME ...' -f tests/stack.d/deepest.awk
+#
+# For each root it prints a line: NAME, BYTES and the deepest path, and what it calls outside of the file, whose stack is not known and not counted.
+#
+# A function is walked along all its ways, one instruction after the other, with its depth: how far the stack pointer stands below where the caller left
+# it. Ways that meet have to have one depth, and a return that of the call. So a step that is not understood ends in a refusal, and not in a figure that is
+# too small. Refused is also a function that calls itself, by others too, and a call or a change of the stack pointer that hangs on a register.
+BEGIN { FS = "\t" }
+
+/file format elf64-x86-64/ { x86 = 1; pushed = 8 } # a call pushes the address to return to; on Arm it stays in a register
+/file format elf64-littleaarch64/ { arm = 1; pushed = 0 }
+/^Disassembly of section / { in_text = /section \.text/ }
+in_text && /^[0-9a-f]+ <.*>:$/ {
+    here = n + 1
+    name[here] = $0
+    sub(/^[0-9a-f]+ </, "", name[here])
+    sub(/>:$/, "", name[here])
+    entry[name[here]] = here
+}
+in_text && /^ *[0-9a-f]+:/ {
+    place[++n] = $1
+    gsub(/[ :]/, "", place[n])
+    at[place[n]] = n
+    of[n] = here
+    code[n] = $2
+    args[n] = $3
+    if (x86) sub(/ +#.*/, "", args[n]) # a comment
+    if (arm) sub(/ +\/\/.*/, "", args[n])
+}
+
+END {
+    if (!x86 && !arm) refuse(0, "this is no disassembly for x86-64 or Arm")
+    count = split(roots, root, " ")
+    for (k = 1; k <= count; k++) {
+        if (!(root[k] in entry)) refuse(0, "there is no function " root[k])
+        f = entry[root[k]]
+        bytes = most(f) + handed[f]
+        print root[k], bytes, path[f] (handed[f] ? ", and " handed[f] " that it is handed" : "") (outside[f] ? "; outside:" outside[f] : "")
+    }
+}
+
+function refuse(i, why) {
+    print "deepest.awk: " (i ? name[of[i]] ", at " place[i] ": " : "") why >"/dev/stderr"
+    exit 1
+}
+
+# ---- The functions, each after those that it calls.
+function most(f,    k, g, deepest, bytes) {
+    if (f in total) return total[f]
+    if (f in begun) refuse(f, "it calls itself, directly or by others")
+    begun[f] = 1
+    walk(f)
+    deepest = own[f]
+    path[f] = name[f] " " own[f]
+    for (k = 1; k <= calls[f]; k++) {
+        g = callee[f, k]
+        bytes = from[f, k] + (g in name ? most(g) : pushed)
+        add_outside(f, g in name ? outside[g] : g)
+        if (bytes > deepest) {
+            deepest = bytes
+            path[f] = name[f] " " from[f, k] " > " (g in name ? path[g] : g)
+        }
+    }
+    return total[f] = deepest
+}
+
+function add_outside(f, names,    k, count, list) {
+    count = split(names, list, " ")
+    for (k = 1; k <= count; k++) if (!index(outside[f] " ", " " list[k] " ")) outside[f] = outside[f] " " list[k]
+}
+
+# ---- One function, along all its ways.
+function walk(f,    i, d) {
+    own[f] = handed[f] = left = 0
+    table = -1
+    go_on(f, pushed)
+    do {
+        while (left) {
+            i = next_place[left]
+            d = next_depth[left--]
+            while (i) {
+                if (i in depth) {
+                    if (depth[i] != d) refuse(i, "two ways meet here at " depth[i] " and " d " bytes")
+                    break
+                }
+                if (of[i] != f) refuse(i, "the function before it runs on into this one")
+                depth[i] = d
+                look(i)
+                if (d + below > own[f]) own[f] = d + below
+                if (above > d && above - d > handed[f]) handed[f] = above - d
+                d += down
+                if (d < pushed) refuse(i, "more is taken off the stack than was put there")
+                if (d > own[f]) own[f] = d
+                i = follow(f, i, d)
+            }
+        }
+    } while (table >= 0 && go_on_by_table(f))
+    for (i = f; of[i] == f; i++) if (!(i in depth) && !is_filler(i)) refuse(i, "no way leads here")
+}
+
+function go_on(i, d) {
+    next_place[++left] = i
+    next_depth[left] = d
+    return 1
+}
+
+# A jump by a table leads to places that nothing else leads to, and leaves the stack pointer where it is.
+function go_on_by_table(f,    i) {
+    for (i = f; of[i] == f; i++) if (!(i in depth) && !is_filler(i)) return go_on(i, table)
+    return 0
+}
+
+# What stands between functions, and behind what never returns.
+function is_filler(i) { return code[i] ~ /^(nop|ud2|int3|udf|brk|\.)/ || args[i] ~ /nop|^%ax, %ax$/ }
+
+# The instruction after i, 0 where the way ends; d is the depth after i.
+function follow(f, i, d) {
+    if (way == "end") return 0
+    if (way == "return") {
+        if (d != pushed) refuse(i, "it returns at " d " bytes")
+        return 0
+    }
+    if (way == "table") {
+        if (table >= 0 && table != d) refuse(i, "two jumps by a table, at " table " and " d " bytes")
+        table = d
+        return 0
+    }
+    if (way == "call") note_call(f, i, d)
+    if (way == "jump" || way == "branch") {
+        if (target(i) in at && of[at[target(i)]] == f) go_on(at[target(i)], d)
+        else note_call(f, i, d - pushed) # it returns in this one's place
+        if (way == "jump") return 0
+    }
+    return i + 1
+}
+
+function note_call(f, i, d,    g) {
+    g = target(i)
+    if (g !~ /^[0-9a-f]+$/) refuse(i, "a call that hangs on a register: " code[i] " " args[i])
+    if (g in at) {
+        if (of[at[g]] != at[g]) refuse(i, "it leads into the middle of " name[of[at[g]]])
+        g = at[g]
+    } else {
+        g = args[i]
+        sub(/^.*</, "", g)
+        sub(/(@plt)?>.*$/, "", g)
+    }
+    callee[f, ++calls[f]] = g
+    from[f, calls[f]] = d
+}
+
+# The address that an instruction leads to, from its last operand: `0x12c4 <takum_read_block+0xa0>`.
+function target(i,    a) {
+    a = args[i]
+    sub(/ *<.*$/, "", a)
+    sub(/^.*[, ]/, "", a)
+    sub(/^0x/, "", a)
+    return a
+}
+
+# ---- One instruction: by how much it moves the stack pointer down, how far below and above the pointer it reaches, and where it leads.
+function look(i) {
+    down = below = above = 0
+    way = "on"
+    if (code[i] ~ /unknown/) refuse(i, "an instruction that llvm-objdump does not know")
+    if (x86) look_x86(i, code[i], args[i])
+    if (arm) look_arm(i, code[i], args[i])
+}
+
+function look_x86(i, c, a,    offset) {
+    if (c ~ /^pushq?$/) down = 8
+    else if (c ~ /^popq?$/ && a != "%rsp") down = -8
+    else if (c ~ /^callq?$/) way = "call"
+    else if (c ~ /^retq?$/ && a == "") way = "return"
+    else if (c == "ud2") way = "end"
+    else if (c ~ /^jmpq?$/) way = a ~ /^\*/ ? "table" : "jump"
+    else if (c ~ /^(j|loop)/) way = is_probe(i - 3) ? "on" : "branch"
+    else if (is_probe(i)) down = number(args[i - 1])
+    else if (c == "subq" && a ~ /^\$[^,]*, %rsp$/) down = number(a)
+    else if (c == "addq" && a ~ /^\$[^,]*, %rsp$/) down = -number(a)
+    else if (c == "leaq" && a ~ /^[^(]*\(%rsp\), %rsp$/) down = -number(a)
+    else if (a ~ /%(rsp|esp|sp|spl)$/ && c !~ /^(cmp|test)/) refuse(i, "a change of the stack pointer that is not understood: " c " " a)
+    else if (c ~ /^(push|pop|enter|leave|ret|lret|iret|sys|xchg)/ && a ~ /sp|^$/) refuse(i, "an instruction that is not understood: " c " " a)
+    else if (a == "%rsp, %rbp") refuse(i, "a frame pointer is not understood")
+    # A function that calls nothing may use up to 128 bytes below the pointer and leave it where it is. What it is handed lies above its return address.
+    else if (match(a, /[-x0-9a-f]*\(%rsp[,)]/)) {
+        offset = number(substr(a, RSTART))
+        if (offset < 0) below = -offset
+        else above = offset + 8
+        if (above <= depth[i]) above = 0
+    }
+}
+
+# A large frame is touched page by page: movq %rsp, %r11; subq $SIZE, %r11; i: subq $4096, %rsp; movq $0, (%rsp); cmpq %r11, %rsp; jne i.
+function is_probe(i) {
+    return code[i] == "subq" && args[i] ~ /, %rsp$/ && number(args[i]) == 4096 && args[i - 2] == "%rsp, %r11" && code[i - 1] == "subq" &&
+        args[i - 1] ~ /^\$[^,]*, %r11$/ && number(args[i - 1]) % 4096 == 0 && args[i + 2] == "%r11, %rsp" && code[i + 3] == "jne" && target(i + 3) == place[i]
+}
+
+function look_arm(i, c, a,    offset) {
+    if (c == "bl") way = "call"
+    else if (c == "blr") refuse(i, "a call that hangs on a register: " c " " a)
+    else if (c == "b") way = "jump"
+    else if (c == "br") way = "table"
+    else if (c ~ /^(b\.|cbn?z|tbn?z)/) way = "branch"
+    else if (c == "ret" && a == "") way = "return"
+    else if (c ~ /^(brk|udf)$/) way = "end"
+    else if (c ~ /^(sub|add)$/ && a ~ /^sp, sp, #/) down = (c == "sub" ? 1 : -1) * number(substr(a, 10)) * (a ~ /lsl #12$/ ? 4096 : 1)
+    else if (a ~ /\[sp, #.*\]!$/) down = -number(substr(a, index(a, "[sp, #") + 6))
+    else if (a ~ /\[sp\], #/) down = -number(substr(a, index(a, "[sp], #") + 7))
+    else if (a ~ /^w?sp,/ && c !~ /^cm[pn]$/ || c ~ /^(ret|eret|svc)/) refuse(i, "an instruction that is not understood: " c " " a)
+    else if (a ~ /\[sp(\]|, #)/) {
+        offset = a ~ /\[sp\]/ ? 0 : number(substr(a, index(a, "[sp, #") + 6))
+        if (offset < 0) below = -offset
+        else if (offset >= depth[i]) above = offset + (c ~ /p$/ ? 16 : 8)
+    }
+}
+
+# The number that a text begins with: 48, -0x30, $24.
+function number(text,    sign, value, k, digit) {
+    sub(/^\$/, "", text)
+    sign = sub(/^-/, "", text) ? -1 : 1
+    if (!sub(/^0x/, "", text)) return sign * (text + 0)
+    for (k = 1; digit = index("0123456789abcdef", substr(text, k, 1)); k++) {
+        if (k > length(text)) break
+        value = value * 16 + digit - 1
+    }
+    return sign * value
+}

@@ -6,8 +6,9 @@
  *
  * It needs C99 or later, or C++11 or later. The archive is for x86-64 or for Arm (aarch64), under Linux. It is linked like any other, cc program.c
  * libledusprig.a, or, where it is installed, cc program.c $(pkg-config --cflags --libs ledusprig). It stands on nothing else, not even the C library,
- * holds no state, asks for no memory and may be called from any thread; a call uses no more than 512 bytes of stack (counted, not proved). No answer depends on the floating-point rounding mode; no call changes it, and none raises an
- * exception of IEEE 754 unless it says so below. (The processors' own flag for a subnormal operand is none of these; a subnormal double may set it.)
+ * holds no state, asks for no memory and may be called from any thread; a call uses no more than 512 bytes of stack (read off the machine code, not
+ * proved). No answer depends on the floating-point rounding mode; no call changes it, and none raises an exception of IEEE 754 unless it says so below.
+ * (The processors' own flag for a subnormal operand is none of these; a subnormal double may set it.)
  *
  * A word of width n (in bits, 2 to 64) is carried in the low n bits of a uint64_t; the bits above must be zero. Zero is all bits zero, NaR
  * ("not a real") is the highest of the n bits alone. As n-bit two's complement numbers, words are in the order of their values.

@@ -51,7 +51,23 @@ given:
     ldr x1, [sp, #8]
     ret
 
-/* by_table: 96, 16 > frame 80 */
+/* passes_on: 16, what given is handed this one was handed */
+passes_on:
+    add x0, x0, #1
+    b given
+
+/* two_at_once: 32, two numbers of 16 bytes */
+two_at_once:
+    ldp q0, q1, [sp]
+    ret
+
+/* canopy: 1008 */
+canopy:
+    sub sp, sp, #1008
+    add sp, sp, #1008
+    ret
+
+/* by_table: 1024, 16 > canopy 1008 */
 by_table:
     str x30, [sp, #-16]!
     adrp x8, 3f
@@ -60,6 +76,7 @@ by_table:
     add x8, x8, x9
     br x8
 1:
+    bl canopy
     ldr x30, [sp], #16
     ret
 2:
@@ -96,6 +113,15 @@ copy:
     ldr x19, [sp], #16
     ret
 
+/* ends_there: 96, what it calls never returns */
+ends_there:
+    cbz w0, 1f
+    ret
+1:
+    str x30, [sp, #-16]!
+    bl frame
+    nop
+
 /* asks_outside: 16, its own; outside: */
 asks_outside:
     str x30, [sp, #-16]!
@@ -116,6 +142,7 @@ one_of_two:
     bl other_of_two
     ldr x30, [sp], #16
     ret
+/* other_of_two: refused, it calls itself */
 other_of_two:
     b one_of_two
 
@@ -124,6 +151,27 @@ by_register:
     str x30, [sp, #-16]!
     blr x0
     ldr x30, [sp], #16
+    ret
+
+/* by_pointer: refused, a jump that hangs on a register */
+by_pointer:
+    ldr x1, [x0, x1, lsl #3]
+    br x1
+
+/* by_frame_pointer: 56, 48, and 8 that it is handed */
+by_frame_pointer:
+    sub sp, sp, #48
+    stp x29, x30, [sp, #32]
+    add x29, sp, #32
+    stur x0, [x29, #-8]
+    ldr x0, [x29, #16]
+    ldp x29, x30, [sp, #32]
+    add sp, sp, #48
+    ret
+
+/* step_by_register: refused, an instruction that is not understood */
+step_by_register:
+    ld1 {v0.16b}, [sp], x1
     ret
 
 /* as_asked: refused, an instruction that is not understood */

@@ -6,7 +6,8 @@
 #
 # A function is walked along all its ways, one instruction after the other, with its depth: how far the stack pointer stands below where the caller left
 # it. Ways that meet have to have one depth, and a return that of the call. So a step that is not understood ends in a refusal, and not in a figure that is
-# too small. Refused is also a function that calls itself, by others too, and a call or a change of the stack pointer that hangs on a register.
+# too small. Refused is also a function that calls itself, by others too, and a call or a change of the stack pointer that hangs on a register. The code is
+# taken to be a compiler's for Linux: what lies below the pointer is used on x86-64 alone, by functions that call nothing.
 BEGIN { FS = "\t" }
 
 /file format elf64-x86-64/ { x86 = 1; pushed = 8 } # a call pushes the address to return to; on Arm it stays in a register
@@ -26,6 +27,7 @@ in_text && /^ *[0-9a-f]+:/ {
     of[n] = here
     code[n] = $2
     args[n] = $3
+    for (k = 4; k <= NF; k++) args[n] = args[n] " " $k
     if (x86) sub(/ +#.*/, "", args[n]) # a comment
     if (arm) sub(/ +\/\/.*/, "", args[n])
 }
@@ -58,6 +60,7 @@ function most(f,    k, g, deepest, bytes) {
         g = callee[f, k]
         bytes = from[f, k] + (g in name ? most(g) : pushed)
         add_outside(f, g in name ? outside[g] : g)
+        if ((f, k) in in_place && handed[g] - from[f, k] > handed[f]) handed[f] = handed[g] - from[f, k]
         if (bytes > deepest) {
             deepest = bytes
             path[f] = name[f] " " from[f, k] " > " (g in name ? path[g] : g)
@@ -72,9 +75,9 @@ function add_outside(f, names,    k, count, list) {
 }
 
 # ---- One function, along all its ways.
-function walk(f,    i, d) {
-    own[f] = handed[f] = left = 0
-    table = -1
+function walk(f,    i, d, pointer) {
+    own[f] = handed[f] = left = calls_some = points_below = 0
+    table = frame_pointer = -1
     go_on(f, pushed)
     do {
         while (left) {
@@ -85,18 +88,21 @@ function walk(f,    i, d) {
                     if (depth[i] != d) refuse(i, "two ways meet here at " depth[i] " and " d " bytes")
                     break
                 }
-                if (of[i] != f) refuse(i, "the function before it runs on into this one")
                 depth[i] = d
                 look(i)
                 if (d + below > own[f]) own[f] = d + below
                 if (above > d && above - d > handed[f]) handed[f] = above - d
                 d += down
                 if (d < pushed) refuse(i, "more is taken off the stack than was put there")
-                if (d > own[f]) own[f] = d
+                if (d > pointer) pointer = d
                 i = follow(f, i, d)
             }
         }
     } while (table >= 0 && go_on_by_table(f))
+    if (table >= 0 && !table_led) refuse(f, "a jump by a table that leads nowhere")
+    # Below the stack pointer there are 128 bytes for a function that calls nothing. Where it has pointers to there, it can use them all.
+    if (points_below && !calls_some) pointer += 128
+    if (pointer > own[f]) own[f] = pointer
     for (i = f; of[i] == f; i++) if (!(i in depth) && !is_filler(i)) refuse(i, "no way leads here")
 }
 
@@ -108,15 +114,18 @@ function go_on(i, d) {
 
 # A jump by a table leads to places that nothing else leads to, and leaves the stack pointer where it is.
 function go_on_by_table(f,    i) {
-    for (i = f; of[i] == f; i++) if (!(i in depth) && !is_filler(i)) return go_on(i, table)
+    for (i = f; of[i] == f; i++) if (!(i in depth) && !is_filler(i)) {
+        table_led = 1
+        return go_on(i, table)
+    }
     return 0
 }
 
 # What stands between functions, and behind what never returns.
-function is_filler(i) { return code[i] ~ /^(nop|ud2|int3|udf|brk|\.)/ || args[i] ~ /nop|^%ax, %ax$/ }
+function is_filler(i) { return code[i] ~ /^(nop|ud2|int3|udf|brk|\.)/ || args[i] ~ /^ *nop|^%ax, %ax$/ }
 
 # The instruction after i, 0 where the way ends; d is the depth after i.
-function follow(f, i, d) {
+function follow(f, i, d,    k) {
     if (way == "end") return 0
     if (way == "return") {
         if (d != pushed) refuse(i, "it returns at " d " bytes")
@@ -125,14 +134,24 @@ function follow(f, i, d) {
     if (way == "table") {
         if (table >= 0 && table != d) refuse(i, "two jumps by a table, at " table " and " d " bytes")
         table = d
+        table_led = 0
         return 0
     }
-    if (way == "call") note_call(f, i, d)
+    if (way == "call") {
+        note_call(f, i, d)
+        calls_some = 1
+        for (k = i + 1; of[k] == f && is_filler(k);) k++
+        if (of[k] != f) return 0 # what it calls never returns
+    }
     if (way == "jump" || way == "branch") {
         if (target(i) in at && of[at[target(i)]] == f) go_on(at[target(i)], d)
-        else note_call(f, i, d - pushed) # it returns in this one's place
+        else {
+            note_call(f, i, d - pushed)
+            in_place[f, calls[f]] = 1 # it returns in this one's place, and is handed what this one was
+        }
         if (way == "jump") return 0
     }
+    if (of[i + 1] != f) refuse(i, "the function runs on into the next one")
     return i + 1
 }
 
@@ -175,21 +194,24 @@ function look_x86(i, c, a,    offset) {
     else if (c ~ /^callq?$/) way = "call"
     else if (c ~ /^retq?$/ && a == "") way = "return"
     else if (c == "ud2") way = "end"
-    else if (c ~ /^jmpq?$/) way = a ~ /^\*/ ? "table" : "jump"
+    else if (c ~ /^jmpq?$/ && a ~ /^\*/) way = by_table(i, code[i - 1] == "addq" && a == "*" last(args[i - 1]))
+    else if (c ~ /^jmpq?$/) way = "jump"
     else if (c ~ /^(j|loop)/) way = is_probe(i - 3) ? "on" : "branch"
     else if (is_probe(i)) down = number(args[i - 1])
     else if (c == "subq" && a ~ /^\$[^,]*, %rsp$/) down = number(a)
     else if (c == "addq" && a ~ /^\$[^,]*, %rsp$/) down = -number(a)
     else if (c == "leaq" && a ~ /^[^(]*\(%rsp\), %rsp$/) down = -number(a)
     else if (a ~ /%(rsp|esp|sp|spl)$/ && c !~ /^(cmp|test)/) refuse(i, "a change of the stack pointer that is not understood: " c " " a)
-    else if (c ~ /^(push|pop|enter|leave|ret|lret|iret|sys|xchg)/ && a ~ /sp|^$/) refuse(i, "an instruction that is not understood: " c " " a)
+    else if (c ~ /^(push|pop|enter|leave|ret|lret|iret|sys)/ && c !~ /^popcnt/ || a ~ /^ *(push|pop|call|jmp|j[a-z]+ |ret)/ || (c ~ /xchg|xadd/ && a ~ /%[re]?sp/))
+        refuse(i, "an instruction that is not understood: " c " " a)
     else if (a == "%rsp, %rbp") refuse(i, "a frame pointer is not understood")
-    # A function that calls nothing may use up to 128 bytes below the pointer and leave it where it is. What it is handed lies above its return address.
-    else if (match(a, /[-x0-9a-f]*\(%rsp[,)]/)) {
+    if (down && c !~ /^push/) return # what is left speaks of %rsp itself
+    if ((a ~ /(^|, )%rsp(,|$)/ && c !~ /^(cmp|test)/ && !is_probe(i + 2)) || a ~ /\(%rsp,/ || (c == "leaq" && a ~ /\(%rsp\)/)) points_below = 1
+    # What it is handed on the stack lies above its return address.
+    if (match(a, /[-x0-9a-f]*\(%rsp[,)]/)) {
         offset = number(substr(a, RSTART))
         if (offset < 0) below = -offset
-        else above = offset + 8
-        if (above <= depth[i]) above = 0
+        else if (offset >= depth[i]) above = offset + (a ~ /%ymm/ ? 32 : a ~ /%xmm/ ? 16 : 8)
     }
 }
 
@@ -201,21 +223,35 @@ function is_probe(i) {
 
 function look_arm(i, c, a,    offset) {
     if (c == "bl") way = "call"
-    else if (c == "blr") refuse(i, "a call that hangs on a register: " c " " a)
     else if (c == "b") way = "jump"
-    else if (c == "br") way = "table"
+    else if (c == "br") way = by_table(i, code[i - 1] == "add" && index(args[i - 1], a ", ") == 1)
     else if (c ~ /^(b\.|cbn?z|tbn?z)/) way = "branch"
     else if (c == "ret" && a == "") way = "return"
     else if (c ~ /^(brk|udf)$/) way = "end"
     else if (c ~ /^(sub|add)$/ && a ~ /^sp, sp, #/) down = (c == "sub" ? 1 : -1) * number(substr(a, 10)) * (a ~ /lsl #12$/ ? 4096 : 1)
     else if (a ~ /\[sp, #.*\]!$/) down = -number(substr(a, index(a, "[sp, #") + 6))
     else if (a ~ /\[sp\], #/) down = -number(substr(a, index(a, "[sp], #") + 7))
-    else if (a ~ /^w?sp,/ && c !~ /^cm[pn]$/ || c ~ /^(ret|eret|svc)/) refuse(i, "an instruction that is not understood: " c " " a)
-    else if (a ~ /\[sp(\]|, #)/) {
-        offset = a ~ /\[sp\]/ ? 0 : number(substr(a, index(a, "[sp, #") + 6))
+    else if (c == "blr") refuse(i, "a call that hangs on a register: " c " " a)
+    else if (c ~ /^(blr|bra|ret|eret|svc)/ || a ~ /\[sp\], / || (a ~ /^w?sp,/ && c !~ /^cm[pn]$/)) refuse(i, "an instruction that is not understood: " c " " a)
+    else if (a ~ /^x29, sp/) frame_pointer = depth[i] - (a ~ /#/ ? number(substr(a, 10)) * (a ~ /lsl #12$/ ? 4096 : 1) : 0)
+    else if (match(a, /\[(sp|x29)(\]|, #)/)) {
+        offset = substr(a, RSTART + RLENGTH - 1, 1) == "#" ? number(substr(a, RSTART + RLENGTH)) : 0
+        if (a ~ /\[x29/ && frame_pointer < 0) return # a register like any other
+        if (a ~ /\[x29/) offset += depth[i] - frame_pointer # from the stack pointer
         if (offset < 0) below = -offset
-        else if (offset >= depth[i]) above = offset + (c ~ /p$/ ? 16 : 8)
+        else if (offset >= depth[i]) above = offset + (a ~ /^q/ ? 16 : 8) * (c ~ /^(ld|st)n?p/ ? 2 : 1)
     }
+}
+
+# Before a jump by a table the place of the table is added to what stands in it; any other jump by a register may lead out of the function.
+function by_table(i, is_added) {
+    if (!is_added) refuse(i, "a jump that hangs on a register: " code[i] " " args[i])
+    return "table"
+}
+
+function last(a) {
+    sub(/^.*, /, "", a)
+    return a
 }
 
 # The number that a text begins with: 48, -0x30, $24.
@@ -223,9 +259,6 @@ function number(text,    sign, value, k, digit) {
     sub(/^\$/, "", text)
     sign = sub(/^-/, "", text) ? -1 : 1
     if (!sub(/^0x/, "", text)) return sign * (text + 0)
-    for (k = 1; digit = index("0123456789abcdef", substr(text, k, 1)); k++) {
-        if (k > length(text)) break
-        value = value * 16 + digit - 1
-    }
+    for (k = 1; k <= length(text) && (digit = index("0123456789abcdef", substr(text, k, 1))); k++) value = value * 16 + digit - 1
     return sign * value
 }

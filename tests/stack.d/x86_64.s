@@ -21,6 +21,21 @@ below:
     movq -128(%rsp), %rax
     retq
 
+/* runs_up: 136, 8 and all 128 bytes that it can use below the pointer, since what is added to the pointer is not known */
+runs_up:
+    movq $-112, %rax
+1:
+    movq %rdi, -8(%rsp,%rax)
+    addq $8, %rax
+    jne 1b
+    retq
+
+/* points: 136, the same by a pointer */
+points:
+    leaq -8(%rsp), %rcx
+    movq %rdi, -112(%rcx)
+    retq
+
 /* caller: 80, 16 > frame 64 */
 caller:
     pushq %rax
@@ -52,7 +67,32 @@ given:
     addq 16(%rsp), %rax
     retq
 
-/* by_table: 80, 8 + 8 > frame 64 */
+/* passes_on: 24, what given is handed this one was handed */
+passes_on:
+    incq %rdi
+    jmp given
+
+/* two_at_once: 24, 8 and two numbers above it, read as one */
+two_at_once:
+    movups 8(%rsp), %xmm0
+    retq
+
+/* hands_on: 56, 32 > given 8, and the 16 from above that it hands to given */
+hands_on:
+    pushq %rax
+    pushq 24(%rsp)
+    pushq 24(%rsp)
+    callq given
+    addq $24, %rsp
+    retq
+
+/* canopy: 1008 */
+canopy:
+    subq $1000, %rsp
+    addq $1000, %rsp
+    retq
+
+/* by_table: 1024, 8 + 8 > canopy 1008 */
 by_table:
     pushq %rbx
     leaq 3f(%rip), %rcx
@@ -60,6 +100,7 @@ by_table:
     addq %rcx, %rax
     jmpq *%rax
 1:
+    callq canopy
     popq %rbx
     retq
 2:
@@ -84,7 +125,7 @@ pages:
     addq $8224, %rsp
     retq
 
-/* copy: 520, a block that is copied */
+/* copy: 648, a block that is copied: 8 + 512, and 128 below the pointer that it could use */
 copy:
     subq $512, %rsp
     movl $512, %ecx
@@ -93,6 +134,16 @@ copy:
     rep movsb
     addq $512, %rsp
     retq
+
+/* ends_there: 80, what it calls never returns */
+ends_there:
+    testl %edi, %edi
+    je 1f
+    retq
+1:
+    pushq %rax
+    callq frame
+    nop
 
 /* asks_outside: 24, 16 and a return address; outside: */
 asks_outside:
@@ -114,6 +165,7 @@ one_of_two:
     callq other_of_two
     popq %rax
     retq
+/* other_of_two: refused, it calls itself */
 other_of_two:
     jmp one_of_two
 
@@ -122,6 +174,26 @@ by_register:
     pushq %rax
     callq *%rdi
     popq %rax
+    retq
+
+/* by_pointer: refused, a jump that hangs on a register */
+by_pointer:
+    jmpq *(%rdi,%rsi,8)
+
+/* by_handed: refused, a jump that hangs on a register */
+by_handed:
+    jmpq *%rdx
+
+/* prefixed: refused, an instruction that is not understood */
+prefixed:
+    .byte 0xf2
+    callq leaf
+    retq
+
+/* in_words: refused, an instruction that is not understood */
+in_words:
+    pushw %ax
+    popw %ax
     retq
 
 /* as_asked: refused, a change of the stack pointer that is not understood */

@@ -5,9 +5,10 @@
 # For each root it prints a line: NAME, BYTES and the deepest path, and what it calls outside of the file, whose stack is not known and not counted.
 #
 # A function is walked along all its ways, one instruction after the other, with its depth: how far the stack pointer stands below where the caller left
-# it. Ways that meet have to have one depth, and a return that of the call. So a step that is not understood ends in a refusal, and not in a figure that is
-# too small. Refused is also a function that calls itself, by others too, and a call or a change of the stack pointer that hangs on a register. The code is
-# taken to be a compiler's for Linux: what lies below the pointer is used on x86-64 alone, by functions that call nothing.
+# it. Ways that meet have to have one depth, and a return that of the call, so that a change of the pointer that was passed over is noticed. Refused is also a
+# function that calls itself, by others too, and a call or a change of the stack pointer that hangs on a register. Of what a root is handed on the stack
+# that part is counted which it reads. The code is taken to be a compiler's for Linux: what lies below the pointer is used on x86-64 alone, by functions that
+# call nothing. It refuses some that compilers make: locals of a size that hangs on a value, and ways that never return but are not at the function's end.
 BEGIN { FS = "\t" }
 
 /file format elf64-x86-64/ { x86 = 1; pushed = 8 } # a call pushes the address to return to; on Arm it stays in a register
@@ -39,6 +40,7 @@ END {
         if (!(root[k] in entry)) refuse(0, "there is no function " root[k])
         f = entry[root[k]]
         bytes = most(f) + handed[f]
+        if (hides[f]) refuse(f, "it points to what it is handed on the stack, which can't be counted then")
         print root[k], bytes, path[f] (handed[f] ? ", and " handed[f] " that it is handed" : "") (outside[f] ? "; outside:" outside[f] : "")
     }
 }
@@ -60,7 +62,8 @@ function most(f,    k, g, deepest, bytes) {
         g = callee[f, k]
         bytes = from[f, k] + (g in name ? most(g) : pushed)
         add_outside(f, g in name ? outside[g] : g)
-        if ((f, k) in in_place && handed[g] - from[f, k] > handed[f]) handed[f] = handed[g] - from[f, k]
+        if ((f, k) in in_place && handed[g] > handed[f]) handed[f] = handed[g]
+        if ((f, k) in in_place && hides[g]) hides[f] = 1
         if (bytes > deepest) {
             deepest = bytes
             path[f] = name[f] " " from[f, k] " > " (g in name ? path[g] : g)
@@ -76,7 +79,7 @@ function add_outside(f, names,    k, count, list) {
 
 # ---- One function, along all its ways.
 function walk(f,    i, d, pointer) {
-    own[f] = handed[f] = left = calls_some = points_below = 0
+    own[f] = handed[f] = hides[f] = left = calls_some = points_below = 0
     table = frame_pointer = -1
     go_on(f, pushed)
     do {
@@ -92,6 +95,7 @@ function walk(f,    i, d, pointer) {
                 look(i)
                 if (d + below > own[f]) own[f] = d + below
                 if (above > d && above - d > handed[f]) handed[f] = above - d
+                if (points_above) hides[f] = 1
                 d += down
                 if (d < pushed) refuse(i, "more is taken off the stack than was put there")
                 if (d > pointer) pointer = d
@@ -146,7 +150,8 @@ function follow(f, i, d,    k) {
     if (way == "jump" || way == "branch") {
         if (target(i) in at && of[at[target(i)]] == f) go_on(at[target(i)], d)
         else {
-            note_call(f, i, d - pushed)
+            if (d != pushed) refuse(i, "it leaves for another function at " d " bytes")
+            note_call(f, i, 0)
             in_place[f, calls[f]] = 1 # it returns in this one's place, and is handed what this one was
         }
         if (way == "jump") return 0
@@ -181,7 +186,7 @@ function target(i,    a) {
 
 # ---- One instruction: by how much it moves the stack pointer down, how far below and above the pointer it reaches, and where it leads.
 function look(i) {
-    down = below = above = 0
+    down = below = above = points_above = 0
     way = "on"
     if (code[i] ~ /unknown/) refuse(i, "an instruction that llvm-objdump does not know")
     if (x86) look_x86(i, code[i], args[i])
@@ -194,7 +199,7 @@ function look_x86(i, c, a,    offset) {
     else if (c ~ /^callq?$/) way = "call"
     else if (c ~ /^retq?$/ && a == "") way = "return"
     else if (c == "ud2") way = "end"
-    else if (c ~ /^jmpq?$/ && a ~ /^\*/) way = by_table(i, code[i - 1] == "addq" && a == "*" last(args[i - 1]))
+    else if (c ~ /^jmpq?$/ && a ~ /^\*/) way = by_table(i, substr(a, 2))
     else if (c ~ /^jmpq?$/) way = "jump"
     else if (c ~ /^(j|loop)/) way = is_probe(i - 3) ? "on" : "branch"
     else if (is_probe(i)) down = number(args[i - 1])
@@ -211,7 +216,10 @@ function look_x86(i, c, a,    offset) {
     if (match(a, /[-x0-9a-f]*\(%rsp[,)]/)) {
         offset = number(substr(a, RSTART))
         if (offset < 0) below = -offset
-        else if (offset >= depth[i]) above = offset + (a ~ /%ymm/ ? 32 : a ~ /%xmm/ ? 16 : 8)
+        else if (offset >= depth[i]) {
+            above = offset + (a ~ /%ymm/ ? 32 : a ~ /%xmm/ || c ~ /^f.*t$/ ? 16 : 8)
+            points_above = c == "leaq" || a ~ /\(%rsp,/
+        }
     }
 }
 
@@ -224,7 +232,7 @@ function is_probe(i) {
 function look_arm(i, c, a,    offset) {
     if (c == "bl") way = "call"
     else if (c == "b") way = "jump"
-    else if (c == "br") way = by_table(i, code[i - 1] == "add" && index(args[i - 1], a ", ") == 1)
+    else if (c == "br") way = by_table(i, a)
     else if (c ~ /^(b\.|cbn?z|tbn?z)/) way = "branch"
     else if (c == "ret" && a == "") way = "return"
     else if (c ~ /^(brk|udf)$/) way = "end"
@@ -233,8 +241,11 @@ function look_arm(i, c, a,    offset) {
     else if (a ~ /\[sp\], #/) down = -number(substr(a, index(a, "[sp], #") + 7))
     else if (c == "blr") refuse(i, "a call that hangs on a register: " c " " a)
     else if (c ~ /^(blr|bra|ret|eret|svc)/ || a ~ /\[sp\], / || (a ~ /^w?sp,/ && c !~ /^cm[pn]$/)) refuse(i, "an instruction that is not understood: " c " " a)
-    else if (a ~ /^x29, sp/) frame_pointer = depth[i] - (a ~ /#/ ? number(substr(a, 10)) * (a ~ /lsl #12$/ ? 4096 : 1) : 0)
-    else if (match(a, /\[(sp|x29)(\]|, #)/)) {
+    else if (a ~ /^x[0-9]+, sp(, #|$)/) {
+        offset = a ~ /#/ ? number(substr(a, index(a, "#") + 1)) * (a ~ /lsl #12$/ ? 4096 : 1) : 0
+        if (a ~ /^x29/) frame_pointer = depth[i] - offset
+        points_above = offset >= depth[i]
+    } else if (match(a, /\[(sp|x29)(\]|, #)/)) {
         offset = substr(a, RSTART + RLENGTH - 1, 1) == "#" ? number(substr(a, RSTART + RLENGTH)) : 0
         if (a ~ /\[x29/ && frame_pointer < 0) return # a register like any other
         if (a ~ /\[x29/) offset += depth[i] - frame_pointer # from the stack pointer
@@ -244,13 +255,19 @@ function look_arm(i, c, a,    offset) {
 }
 
 # Before a jump by a table the place of the table is added to what stands in it; any other jump by a register may lead out of the function.
-function by_table(i, is_added) {
-    if (!is_added) refuse(i, "a jump that hangs on a register: " code[i] " " args[i])
-    return "table"
+function by_table(i, register,    k) {
+    for (k = i - 1; of[k] == of[i] && code[k] !~ /^(j|call|ret|b$|b[.lr]|cb|tb)/; k--) if (written(k) == register && code[k] !~ /^(cmp|test)/) {
+        if (code[k] ~ /^addq?$/) return "table"
+        break
+    }
+    refuse(i, "a jump that hangs on a register: " code[i] " " args[i])
 }
 
-function last(a) {
-    sub(/^.*, /, "", a)
+# The register that an instruction writes: on x86-64 the last one that it names, on Arm the first.
+function written(i,    a) {
+    a = args[i]
+    if (x86) sub(/^.*, /, "", a)
+    else sub(/,.*$/, "", a)
     return a
 }
 

@@ -1,10 +1,10 @@
-/* Functions whose stack is known by hand, for x86-64: what deepest.awk has to say of each stands above it, the bytes or why it is refused. */
+/* Functions for x86-64 whose stack is known by hand. Above each stands what deepest.awk has to say of it: BYTES, and their path, or why it is refused. */
 .text
-/* leaf: 8 */
+/* leaf: 8 leaf 8 */
 leaf:
     retq
 
-/* frame: 64, 8 + 16 + 40 */
+/* frame: 64 frame 64 */
 frame:
     pushq %rbp
     pushq %rbx
@@ -15,13 +15,15 @@ frame:
     popq %rbp
     retq
 
-/* below: 136, 8 and the 128 bytes that it uses below the pointer */
+/* all 128 bytes below the pointer */
+/* below: 136 below 136 */
 below:
     movq %rdi, -128(%rsp)
     movq -128(%rsp), %rax
     retq
 
-/* runs_up: 136, 8 and all 128 bytes that it can use below the pointer, since what is added to the pointer is not known */
+/* what is added to the pointer is not known, so all 128 below it are counted */
+/* runs_up: 136 runs_up 136 */
 runs_up:
     movq $-112, %rax
 1:
@@ -30,13 +32,14 @@ runs_up:
     jne 1b
     retq
 
-/* points: 136, the same by a pointer */
+/* the same by a pointer */
+/* points: 136 points 136 */
 points:
     leaq -8(%rsp), %rcx
     movq %rdi, -112(%rcx)
     retq
 
-/* caller: 80, 16 > frame 64 */
+/* caller: 80 caller 16 > frame 64 */
 caller:
     pushq %rax
     callq leaf
@@ -45,13 +48,15 @@ caller:
     popq %rax
     retq
 
-/* in_its_place: 64, frame is jumped to where nothing of its own is left */
+/* nothing of its own is left where frame begins */
+/* in_its_place: 64 in_its_place 0 > frame 64 */
 in_its_place:
     pushq %rax
     popq %rcx
     jmp frame
 
-/* one_way: 144, and no frame on the other way: 8 + 128 + leaf 8 */
+/* on the other way there is no frame */
+/* one_way: 144 one_way 136 > leaf 8 */
 one_way:
     testl %edi, %edi
     je 1f
@@ -61,23 +66,34 @@ one_way:
 1:
     retq
 
-/* given: 24, 8 and two numbers above it */
+/* given: 24 given 8, and 16 that it is handed */
 given:
     movq 8(%rsp), %rax
     addq 16(%rsp), %rax
     retq
 
-/* passes_on: 24, what given is handed this one was handed */
+/* what given is handed, this one was handed */
+/* passes_on: 24 passes_on 8, and 16 that it is handed */
 passes_on:
     incq %rdi
     jmp given
 
-/* two_at_once: 24, 8 and two numbers above it, read as one */
+/* two_at_once: 24 two_at_once 8, and 16 that it is handed */
 two_at_once:
     movups 8(%rsp), %xmm0
     retq
 
-/* hands_on: 56, 32 > given 8, and the 16 from above that it hands to given */
+/* four_at_once: 40 four_at_once 8, and 32 that it is handed */
+four_at_once:
+    vmovups 8(%rsp), %ymm0
+    retq
+
+/* long_double: 24 long_double 8, and 16 that it is handed */
+long_double:
+    fldt 8(%rsp)
+    retq
+
+/* hands_on: 56 hands_on 32 > given 8, and 16 that it is handed */
 hands_on:
     pushq %rax
     pushq 24(%rsp)
@@ -86,18 +102,20 @@ hands_on:
     addq $24, %rsp
     retq
 
-/* canopy: 1008 */
+/* its name has a nop in it */
+/* canopy: 1008 canopy 1008 */
 canopy:
     subq $1000, %rsp
     addq $1000, %rsp
     retq
 
-/* by_table: 1024, 8 + 8 > canopy 1008 */
+/* by_table: 1024 by_table 16 > canopy 1008 */
 by_table:
     pushq %rbx
     leaq 3f(%rip), %rcx
     movslq (%rcx,%rdi,4), %rax
     addq %rcx, %rax
+    movq %rdi, %rsi
     jmpq *%rax
 1:
     callq canopy
@@ -112,7 +130,7 @@ by_table:
     .long 1b - 3b, 2b - 3b
     .text
 
-/* pages: 8232, 8 + 2 * 4096 + 32 */
+/* pages: 8232 pages 8232 */
 pages:
     movq %rsp, %r11
     subq $8192, %r11
@@ -125,7 +143,8 @@ pages:
     addq $8224, %rsp
     retq
 
-/* copy: 648, a block that is copied: 8 + 512, and 128 below the pointer that it could use */
+/* a block; 128 more below the pointer could be used */
+/* copy: 648 copy 648 */
 copy:
     subq $512, %rsp
     movl $512, %ecx
@@ -135,7 +154,8 @@ copy:
     addq $512, %rsp
     retq
 
-/* ends_there: 80, what it calls never returns */
+/* what it calls never returns */
+/* ends_there: 80 ends_there 16 > frame 64 */
 ends_there:
     testl %edi, %edi
     je 1f
@@ -145,64 +165,64 @@ ends_there:
     callq frame
     nop
 
-/* asks_outside: 24, 16 and a return address; outside: */
+/* asks_outside: 24 asks_outside 16 > memset; outside: memset */
 asks_outside:
     pushq %rax
     callq memset@PLT
     popq %rax
     retq
 
-/* itself: refused, it calls itself */
+/* itself: refused: it calls itself */
 itself:
     pushq %rax
     callq itself
     popq %rax
     retq
 
-/* one_of_two: refused, it calls itself */
+/* one_of_two: refused: it calls itself */
 one_of_two:
     pushq %rax
     callq other_of_two
     popq %rax
     retq
-/* other_of_two: refused, it calls itself */
+/* other_of_two: refused: it calls itself */
 other_of_two:
     jmp one_of_two
 
-/* by_register: refused, a call that hangs on a register */
+/* by_register: refused: a call that hangs on a register */
 by_register:
     pushq %rax
     callq *%rdi
     popq %rax
     retq
 
-/* by_pointer: refused, a jump that hangs on a register */
+/* by_pointer: refused: a jump that hangs on a register */
 by_pointer:
     jmpq *(%rdi,%rsi,8)
 
-/* by_handed: refused, a jump that hangs on a register */
+/* by_handed: refused: a jump that hangs on a register */
 by_handed:
     jmpq *%rdx
 
-/* prefixed: refused, an instruction that is not understood */
+/* prefixed: refused: an instruction that is not understood */
 prefixed:
     .byte 0xf2
     callq leaf
     retq
 
-/* in_words: refused, an instruction that is not understood */
+/* in_words: refused: an instruction that is not understood */
 in_words:
     pushw %ax
     popw %ax
     retq
 
-/* as_asked: refused, a change of the stack pointer that is not understood */
+/* as_asked: refused: a change of the stack pointer that is not understood */
 as_asked:
     subq %rdi, %rsp
     addq %rdi, %rsp
     retq
 
-/* by_frame_pointer: refused, a frame pointer is not understood */
+/* by_frame_pointer: refused: a frame pointer is not understood */
 by_frame_pointer:
     pushq %rbp
     movq %rsp, %rbp
@@ -210,7 +230,7 @@ by_frame_pointer:
     popq %rbp
     retq
 
-/* uneven: refused, two ways meet here */
+/* uneven: refused: two ways meet here */
 uneven:
     testl %edi, %edi
     je 1f
@@ -219,7 +239,71 @@ uneven:
     popq %rbx
     retq
 
-/* left_over: refused, it returns at 16 bytes */
+/* left_over: refused: it returns at 16 bytes */
 left_over:
     pushq %rbx
+    retq
+
+/* leaves_early: refused: it leaves for another function at 16 bytes */
+leaves_early:
+    pushq %rbx
+    jmp frame
+
+/* takes_more: refused: more is taken off the stack than was put there */
+takes_more:
+    popq %rax
+    retq
+
+/* points_to_given: refused: it points to what it is handed */
+points_to_given:
+    leaq 8(%rsp), %rax
+    retq
+
+/* one_of_given: refused: it points to what it is handed */
+one_of_given:
+    movzbl 8(%rsp,%rdi), %eax
+    retq
+
+/* passes_on_one: refused: it points to what it is handed */
+passes_on_one:
+    jmp one_of_given
+
+/* leads_nowhere: refused: a jump by a table that leads nowhere */
+leads_nowhere:
+    addq %rdi, %rax
+    jmpq *%rax
+
+/* two_tables: refused: two jumps by a table */
+two_tables:
+    testl %edi, %edi
+    je 1f
+    addq %rdi, %rax
+    jmpq *%rax
+1:
+    pushq %rbx
+    addq %rdi, %rax
+    jmpq *%rax
+
+/* into_the_middle: refused: it leads into the middle of frame */
+into_the_middle:
+    callq frame + 1
+    retq
+
+/* not_reached: refused: no way leads here */
+not_reached:
+    retq
+    incq %rdi
+    retq
+
+/* not_known: refused: an instruction that llvm-objdump does not know */
+not_known:
+    .byte 0x06
+    retq
+
+/* runs_on: refused: the function runs on into the next one */
+runs_on:
+    incq %rdi
+
+/* last: 8 last 8 */
+last:
     retq

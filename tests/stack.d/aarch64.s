@@ -149,6 +149,7 @@ one_of_two:
     bl other_of_two
     ldr x30, [sp], #16
     ret
+
 /* other_of_two: refused: it calls itself */
 other_of_two:
     b one_of_two

@@ -185,6 +185,7 @@ one_of_two:
     callq other_of_two
     popq %rax
     retq
+
 /* other_of_two: refused: it calls itself */
 other_of_two:
     jmp one_of_two

@@ -31,8 +31,10 @@ pub mod Sums
 pub mod LimitBinades
 -- the string of a whole number: the beginning, its bits without the leading one, and zeros
 pub mod LimitStrings
--- where its last bit is 1, it needs h bits after the beginning
+-- it needs all of these but the zeros that they end in
 pub mod LimitBeyond
+-- so it has a word at the widths that have room for them
+pub mod WordLengths
 -- so every whole number up to the limit has a word, and no odd one past it has
 pub mod LimitWords
 -- and strict writing refuses none up to the limit
@@ -43,3 +45,10 @@ pub mod LimitEvens
 pub mod LimitLarge
 -- so a whole number past the limit is rounded to an even one
 pub mod LimitRounded
+-- ---- the shortest word
+-- trailing zeros are the greatest power of two that divides a number
+pub mod OddParts
+-- the corrected length of document 004, Proposition 4, is the least width at which a number has a word
+pub mod Lengths
+-- so that width is the answer, and past 64 there is none
+pub mod ShortestWidths

@@ -1,4 +1,5 @@
--- The string of a whole number i from 2^h to 2^(h + 1): the beginning, the bits of i without the leading one, and zeros. Assumes nothing.
+-- The string of the whole number o * 2^(h - g), which lies from 2^h to 2^(h + 1), o having g bits after its leading one: the beginning, those g bits, and
+-- zeros. Assumes nothing.
 use mathlib.Core.Path.{_≡_, ap, _∙_}
 use Prim.Native.Nat.{ℕ, zero, suc, _+_, _-_, _*_, _^_, _≤_, _<_}
 use native.Mathlib.Nat.{le-trans, le-of-eq, le-add-right, mul-assoc, mul-pos, mul-le-mul-right, two-pow-succ}
@@ -8,41 +9,41 @@ use Rattle.bounds.proofs.Powers.{pow-sum}
 use Rattle.word.proofs.Sizes.{size}
 use Rattle.whole.proofs.LimitBinades.{beginning, WholeBinade}
 
--- without the zeros; where i is 2^(h + 1) it carries into the beginning
-unfoldable pub wholeBits : ℕ → ℕ → ℕ → ℕ
-wholeBits ρ h i = beginning ρ h * 2 ^ h + (i - 2 ^ h)
+-- without the zeros; where o is 2^(g + 1) it carries into the beginning
+unfoldable pub wholeBits : ℕ → ℕ → ℕ → ℕ → ℕ
+wholeBits ρ h g o = beginning ρ h * 2 ^ g + (o - 2 ^ g)
 
-module _ (ρ h K : ℕ) (binade : WholeBinade ρ h K) (i : ℕ) (low : 2 ^ h ≤ i) (high : i ≤ 2 ^ suc h) (fine : h + ρ ≤ 59) where
+module _ (ρ h K : ℕ) (binade : WholeBinade ρ h K) (g o : ℕ) (inside-h : g ≤ h) (low : 2 ^ g ≤ o) (high : o ≤ 2 ^ suc g) (fine : g + ρ ≤ 59) where
   zeros : ℕ
-  zeros = 2 ^ (59 - ρ - h)
+  zeros = 2 ^ (59 - ρ - g)
 
-  together : 2 ^ h * zeros ≡ 2 ^ (59 - ρ)
+  together : 2 ^ g * zeros ≡ 2 ^ (59 - ρ)
   unfolding zeros
-  together = pow-sum h (59 - ρ - h) (59 - ρ) (omega (arith, fine))
+  together = pow-sum g (59 - ρ - g) (59 - ρ) (omega (arith, fine))
 
-  inside : (i - 2 ^ h) * zeros ≤ 2 ^ (59 - ρ)
-  inside = le-trans (mul-le-mul-right {m = i - 2 ^ h} {n = 2 ^ h} zeros (omega (arith, high, two-pow-succ h))) (le-of-eq together)
+  inside : (o - 2 ^ g) * zeros ≤ 2 ^ (59 - ρ)
+  inside = le-trans (mul-le-mul-right {m = o - 2 ^ g} {n = 2 ^ g} zeros (omega (arith, high, two-pow-succ g))) (le-of-eq together)
 
-  string : wholeBits ρ h i * zeros ≡ beginning ρ h * 2 ^ (59 - ρ) + (i - 2 ^ h) * zeros
+  string : wholeBits ρ h g o * zeros ≡ beginning ρ h * 2 ^ (59 - ρ) + (o - 2 ^ g) * zeros
   unfolding wholeBits
   string = omega (arith, ap (λ (x : ℕ). beginning ρ h * x) together)
 
-  pub whole-some : zero < wholeBits ρ h i
+  pub whole-some : zero < wholeBits ρ h g o
   unfolding wholeBits beginning
-  whole-some = le-trans (mul-pos {m = beginning ρ h} {n = 2 ^ h} (omega arith) (pow-pos h)) (le-add-right (beginning ρ h * 2 ^ h) (i - 2 ^ h))
+  whole-some = le-trans (mul-pos {m = beginning ρ h} {n = 2 ^ g} (omega arith) (pow-pos g)) (le-add-right (beginning ρ h * 2 ^ g) (o - 2 ^ g))
 
-  pub whole-below : wholeBits ρ h i * 2 ^ (59 - ρ - h) < 2 ^ 63
+  pub whole-below : wholeBits ρ h g o * 2 ^ (59 - ρ - g) < 2 ^ 63
   unfolding zeros
   whole-below = omega (arith, string, inside, binade .room)
 
-  pub whole-size : size (wholeBits ρ h i * 2 ^ (59 - ρ - h)) ≡ i * 2 ^ 307
+  pub whole-size : size (wholeBits ρ h g o * 2 ^ (59 - ρ - g)) ≡ o * 2 ^ (h - g + 307)
   unfolding zeros
   whole-size =
-      ap size string ∙ binade .sizes ((i - 2 ^ h) * zeros) inside ∙ ap (λ (x : ℕ). x * 2 ^ K) significand
-      ∙ mul-assoc i zeros (2 ^ K) ∙ ap (λ (x : ℕ). i * x) (pow-sum (59 - ρ - h) K 307 (omega (arith, binade .last, fine)))
+      ap size string ∙ binade .sizes ((o - 2 ^ g) * zeros) inside ∙ ap (λ (x : ℕ). x * 2 ^ K) significand
+      ∙ mul-assoc o zeros (2 ^ K) ∙ ap (λ (x : ℕ). o * x) (pow-sum (59 - ρ - g) K (h - g + 307) (omega (arith, binade .last, fine, inside-h)))
     where
-      whole : 2 ^ h + (i - 2 ^ h) ≡ i
+      whole : 2 ^ g + (o - 2 ^ g) ≡ o
       whole = omega (arith, low)
 
-      significand : 2 ^ (59 - ρ) + (i - 2 ^ h) * zeros ≡ i * zeros
+      significand : 2 ^ (59 - ρ) + (o - 2 ^ g) * zeros ≡ o * zeros
       significand = omega (arith, together, ap (λ (x : ℕ). x * zeros) whole)

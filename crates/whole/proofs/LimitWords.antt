@@ -1,8 +1,8 @@
 -- Every whole number up to the exact-count limit has a word, and the limit plus one has none, nor has any odd number past the limit. Assumes nothing.
-use mathlib.Core.Path.{_≡_, refl, sym, ap, _∙_, subst, subst₂}
+use mathlib.Core.Path.{_≡_, refl, sym, ap, _∙_, subst}
 use mathlib.Core.Bool.{Bool}
 use Prim.Native.Nat.{ℕ, zero, suc, _+_, _-_, _*_, _%_, _^_, _≤_, _<_}
-use native.Mathlib.Nat.{zero-lt-suc, le-trans, le-of-eq, le-of-lt, le-of-suc-le-suc, lt-of-le-of-lt, lt-of-mul-lt-mul-right, mul-pos, mul-one, mul-assoc, mul-le-mul-left, mod-lt, two-pow-succ}
+use native.Mathlib.Nat.{zero-lt-suc, le-trans, le-of-eq, le-of-lt, le-of-suc-le-suc, lt-of-le-of-lt, mul-pos, mul-one, mul-le-mul-left, mod-lt, two-pow-succ}
 use native.Mathlib.Numerals.{add-one}
 use native.Mathlib.Omega.{arith}
 use lib.Count.{leadingZeros}
@@ -10,23 +10,21 @@ use lib.Dec.{lit<, lit≤, ltb}
 use lib.IntN.{ℤ, pos, negsuc, _+ℤ_, _-ℤ_}
 use lib.Pow.{pow-pos}
 use Rattle.bounds.specs.Widths.{Within, Greatest, greatest, none, IsLimit}
-use Rattle.bounds.proofs.Powers.{Log, leading-log, pow-sum, shl-below}
+use Rattle.bounds.proofs.Powers.{Log, leading-log, shl-below}
 use Rattle.bounds.proofs.Limits.{below-power, exponent-lt, within, exponent-small}
 use Rattle.sizes.specs.declared.size.Size.{Size}
 use Rattle.word.specs.Reads.{num, den, IsSize}
 use Rattle.sizes.specs.Sizes.{withoutSign}
 use Rattle.word.specs.Takum.{p, F, c}
 use Rattle.word.proofs.Sizes.{size}
-use Rattle.word.proofs.Values.{grown-suc}
 use Rattle.nearest.specs.Nearest.{HasValue}
-use Rattle.nearest.proofs.Places.{wordOf, Place, has-value, place-of}
 use Rattle.round.proofs.Rules.{zero-value}
 use Rattle.round.proofs.Sized.{has-form}
-use Rattle.word.proofs.Top.{NaR-shifted}
 use Rattle.whole.specs.Limits as promise
-use Rattle.whole.proofs.LimitBinades.{beginning, WholeBinade, whole-binade}
-use Rattle.whole.proofs.LimitStrings.{wholeBits, whole-some, whole-below, whole-size}
-use Rattle.whole.proofs.LimitBeyond.{odd-at-most, ends-in-one, odd-ends-in-one, bits-needed}
+use Rattle.whole.proofs.LimitBinades.{beginning}
+use Rattle.whole.proofs.LimitStrings.{wholeBits}
+use Rattle.whole.proofs.LimitBeyond.{odd-at-most, ends-in-one, odd-ends-in-one}
+use Rattle.whole.proofs.WordLengths.{wide-enough, width-needed}
 
 -- every number but 0 has its logarithm
 log-of : (a : ℕ) → zero < a → (L : ℕ) × Log L a
@@ -42,78 +40,41 @@ downward : (n : ℕ) {v : ℕ} → Greatest n v → (u : ℕ) → zero < u → u
 downward n (greatest x f) u some le = within n u (x .L) some (subst (λ (k : ℕ). u < 2 ^ k) (add-one (x .L)) (omega (arith, le, x .log-high))) (omega (arith, le, x .bound))
 downward n (none f) u some le = absurd (omega (arith, some, le))
 
+-- all bits of a whole number from 2^h to 2^(h + 1), the last one of value 1, counted in 2^-307
+unit : (h i : ℕ) → i * 2 ^ (h - h + 307) ≡ i * 2 ^ 307
+unit h i = let none : h - h + 307 ≡ 307 = omega arith in ap (λ (x : ℕ). i * 2 ^ x) none
+
 module _ (n : ℕ) (lo : 2 ≤ n) (hi : n ≤ 64) where
   -- ---- up to the limit
-  -- a string that ends in 64 - n zeros is a word's
-  word-of-string : (s : Bool) (w u z : ℕ) → w * 2 ^ (64 - n) ≡ u → zero < w → u < 2 ^ 63 → size u ≡ z → HasValue n s z (wordOf n s w)
-  word-of-string s w u z cut some below is = subst (λ (x : ℕ). HasValue n s x (wordOf n s w)) (grown-suc n w some ∙ ap size cut ∙ is) (has-value n lo hi s w some short)
-    where
-      short : w < 2 ^ (n - 1)
-      short = lt-of-mul-lt-mul-right (2 ^ (64 - n)) (subst₂ (λ (x y : ℕ). x < y) (sym cut) (sym (NaR-shifted n lo hi)) below)
-
-  -- 1 has a word at every width, also where no number is one of the rule
-  one-has-a-word : (s : Bool) → HasValue n s (1 * 2 ^ 307) (wordOf n s (2 ^ (n - 2)))
+  -- 1 has a word at every width, also where no number is one of the rule: its bits end in three zeros
+  one-has-a-word : (s : Bool) → (w : ℕ) × HasValue n s (1 * 2 ^ 307) w
   unfolding wholeBits beginning
-  one-has-a-word s =
-      let t = whole-binade 0 0 (record { low = lit≤ tt; high = lit< tt }) (lit< tt) in
-      word-of-string s (2 ^ (n - 2)) (2 ^ 62) (2 ^ 307) (pow-sum (n - 2) (64 - n) 62 (omega (arith, lo, hi))) (pow-pos (n - 2)) (lit< tt) (whole-size 0 0 (t .0) (t .1) 1 (lit≤ tt) (lit≤ tt) (lit≤ tt))
-
-  -- from 2^h to 2^(h + 1), where h + 1 is a number of the rule
-  module _ (h : ℕ) (x : Within n (suc h)) (i : ℕ) (low : 2 ^ h ≤ i) (high : i ≤ 2 ^ suc h) where
-    ρ : ℕ
-    ρ = x .L
-
-    log : Log ρ (suc h)
-    unfolding ρ
-    log = record { low = x .log-low; high = subst (λ (k : ℕ). suc h < 2 ^ k) (add-one (x .L)) (x .log-high) }
-
-    bound : h + ρ + 5 ≤ n
-    unfolding ρ
-    bound = omega (arith, x .bound)
-
-    cut : wholeBits ρ h i * 2 ^ (n - 5 - ρ - h) * 2 ^ (64 - n) ≡ wholeBits ρ h i * 2 ^ (59 - ρ - h)
-    cut = mul-assoc (wholeBits ρ h i) (2 ^ (n - 5 - ρ - h)) (2 ^ (64 - n)) ∙ ap (λ (y : ℕ). wholeBits ρ h i * y) (pow-sum (n - 5 - ρ - h) (64 - n) (59 - ρ - h) (omega (arith, bound, hi)))
-
-    fine : h + ρ ≤ 59
-    fine = omega (arith, bound, hi)
-
-    binade : (K : ℕ) × WholeBinade ρ h K
-    binade = whole-binade ρ h log (omega (arith, bound, hi))
-
-    has-a-word : (s : Bool) → (w : ℕ) × HasValue n s (i * 2 ^ 307) w
-    has-a-word s = (
-      wordOf n s (wholeBits ρ h i * 2 ^ (n - 5 - ρ - h)),
-      word-of-string s (wholeBits ρ h i * 2 ^ (n - 5 - ρ - h)) (wholeBits ρ h i * 2 ^ (59 - ρ - h)) (i * 2 ^ 307) cut (mul-pos (whole-some ρ h (binade .0) (binade .1) i low high fine) (pow-pos (n - 5 - ρ - h)))
-          (whole-below ρ h (binade .0) (binade .1) i low high fine) (whole-size ρ h (binade .0) (binade .1) i low high fine),
-    )
+  one-has-a-word s = wide-enough n lo hi 0 0 0 1 1 3 (record { low = lit≤ tt; high = lit< tt }) (lit< tt) (lit≤ tt) (lit≤ tt) (lit≤ tt) refl (lit≤ tt) (omega (arith, lo)) s
 
   module _ (v : ℕ) (g : Greatest n v) where
+    -- from 2^h to 2^(h + 1), where h + 1 is a number of the rule
+    has-a-word : (h i : ℕ) → Within n (suc h) → 2 ^ h ≤ i → i ≤ 2 ^ suc h → (s : Bool) → (w : ℕ) × HasValue n s (i * 2 ^ 307) w
+    has-a-word h i x low high s =
+        subst (λ (z : ℕ). (w : ℕ) × HasValue n s z w) (unit h i)
+        (wide-enough n lo hi (x .L) h h i (wholeBits (x .L) h h i) 0 log (omega (arith, x .bound, hi)) (le-of-eq refl) low high (sym (mul-one (wholeBits (x .L) h h i))) (omega (arith, x .bound, hi)) (omega (arith, x .bound)) s)
+      where
+        log : Log (x .L) (suc h)
+        log = record { low = x .log-low; high = subst (λ (k : ℕ). suc h < 2 ^ k) (add-one (x .L)) (x .log-high) }
+
     -- h is the logarithm of i - 1, so that the limit itself is the end of a binade
     up-to : (i : ℕ) → i ≤ 2 ^ v → (s : Bool) → (w : ℕ) × HasValue n s (i * 2 ^ 307) w
     up-to zero le s = (0, zero-value n lo hi s)
-    up-to (suc zero) le s = (wordOf n s (2 ^ (n - 2)), one-has-a-word s)
+    up-to (suc zero) le s = one-has-a-word s
     up-to (suc (suc j)) le s =
         let t = log-of (suc j) (zero-lt-suc j) in
-        has-a-word (t .0) (downward n g (suc (t .0)) (zero-lt-suc (t .0)) (exponent-lt (t .0) v (omega (arith, t .1 .low, le)))) (suc (suc j)) (omega (arith, t .1 .low)) (t .1 .high) s
+        has-a-word (t .0) (suc (suc j)) (downward n g (suc (t .0)) (zero-lt-suc (t .0)) (exponent-lt (t .0) v (omega (arith, t .1 .low, le)))) (omega (arith, t .1 .low)) (t .1 .high) s
 
     -- ---- and beyond it: no whole number from 2^h to 2^(h + 1) whose bits end in 1, for h + 1 would be one of the rule
-    none-beyond : (h i : ℕ) → v ≤ h → h < 64 → 2 ^ h ≤ i → i ≤ 2 ^ suc h → ((ρ : ℕ) → Log ρ (suc h) → wholeBits ρ h i % 2 ≡ 1) → (s : Bool) (w : ℕ) → HasValue n s (i * 2 ^ 307) w → ⊥
-    none-beyond h i past small low high ends s w x = omega (arith, past, at-most n g (suc h) (within n (suc h) ρ (zero-lt-suc h) (log .high) (omega (arith, needed, hi))))
-      where
-        place : Place n lo hi s (i * 2 ^ 307) w
-        place = place-of n lo hi s (i * 2 ^ 307) w (mul-pos {m = i} {n = 2 ^ 307} (le-trans (pow-pos h) low) (pow-pos 307)) x
-
-        ρ : ℕ
-        ρ = log-of (suc h) (zero-lt-suc h) .0
-
-        log : Log ρ (suc h)
-        log = log-of (suc h) (zero-lt-suc h) .1
-
-        binade : (K : ℕ) × WholeBinade ρ h K
-        binade = whole-binade ρ h log small
-
-        needed : 64 - n + h + ρ ≤ 59
-        needed = bits-needed ρ h (binade .0) (binade .1) i low high (ends ρ log) (place .v) (64 - n) (shl-below (n - 1) (64 - n) 63 (place .last) (omega (arith, lo, hi))) (sym (place .size-is ∙ grown-suc n (place .v) (place .first)))
+    none-beyond : (h i : ℕ) → v ≤ h → h < 64 → 2 ^ h ≤ i → i ≤ 2 ^ suc h → ((ρ : ℕ) → Log ρ (suc h) → wholeBits ρ h h i % 2 ≡ 1) → (s : Bool) (w : ℕ) → HasValue n s (i * 2 ^ 307) w → ⊥
+    none-beyond h i past small low high ends s w x =
+        let t = log-of (suc h) (zero-lt-suc h) in
+        let needed : 5 + h + t .0 ≤ n + 0 = width-needed n lo hi (t .0) h h i (wholeBits (t .0) h h i) 0 (t .1) small (le-of-eq refl) low high (sym (mul-one (wholeBits (t .0) h h i))) (ends (t .0) (t .1)) s w (subst (λ (z : ℕ). HasValue n s z w) (sym (unit h i)) x) in
+        omega (arith, past, at-most n g (suc h) (within n (suc h) (t .0) (zero-lt-suc h) (t .1 .high) (omega (arith, needed))))
 
     beyond : (s : Bool) (w : ℕ) → HasValue n s ((2 ^ v + 1) * 2 ^ 307) w → ⊥
     beyond = none-beyond v (2 ^ v + 1) (le-of-eq refl) (exponent-small n hi g) (omega arith) (omega (arith, pow-pos v, two-pow-succ v)) (λ ρ log. ends-in-one ρ v log)
@@ -123,7 +84,7 @@ module _ (n : ℕ) (lo : 2 ≤ n) (hi : n ≤ 64) where
       where
         by : (h : ℕ) → Log h i → (s : Bool) (w : ℕ) → HasValue n s (i * 2 ^ 307) w → ⊥
         by zero k = absurd (omega (arith, k .high, past, pow-pos v))
-        by (suc h) k = none-beyond (suc h) i (le-of-suc-le-suc (exponent-lt v (suc (suc h)) (omega (arith, past, k .high)))) (exponent-lt (suc h) 64 (omega (arith, k .low, small))) (k .low) (le-of-lt (k .high)) (λ ρ l. odd-ends-in-one ρ h i (k .low) odd)
+        by (suc h) k = none-beyond (suc h) i (le-of-suc-le-suc (exponent-lt v (suc (suc h)) (omega (arith, past, k .high)))) (exponent-lt (suc h) 64 (omega (arith, k .low, small))) (k .low) (le-of-lt (k .high)) (λ ρ l. odd-ends-in-one ρ (suc h) h i (k .low) odd)
 
 pub every-whole-number-up-to-the-limit-has-a-word : promise.EveryWholeNumberUpToTheLimitHasAWord
 unfolding promise.EveryWholeNumberUpToTheLimitHasAWord

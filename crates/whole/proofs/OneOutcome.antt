@@ -1,13 +1,15 @@
 -- Two outcomes that the contract of a call allows are equal. Assumes nothing.
-use mathlib.Core.Path.{_≡_, sym, _∙_, subst}
-use Prim.Native.Nat.{ℕ, _*_, _^_}
-use native.Mathlib.Nat.{zero-lt-suc}
+use mathlib.Core.Path.{_≡_, sym, ap, _∙_, subst}
+use Prim.Native.Nat.{ℕ, _*_, _^_, _≤_, _<_}
+use native.Mathlib.Nat.{zero-lt-suc, le-antisymm}
 use lib.IntN.{ℤ, natAbs}
 use Rattle.bounds.specs.declared.answer.Answer.{Answer}
 use Rattle.bounds.specs.declared.answer.Written.{Written}
+use Rattle.bounds.specs.declared.width.Made.{Made}
 use Rattle.bounds.specs.Refusals.{_then_, Decided, through, refused}
 use Rattle.word.specs.Takum.{Takum, real, NaR, takum}
 use Rattle.bounds.proofs.Answers.{said-one}
+use Rattle.bounds.proofs.Powers.{not-more}
 use Rattle.bounds.proofs.Verdicts.{width-through, answered, refused-as, decided-one}
 use Rattle.round.specs.declared.value.Rule.{Rule}
 use Rattle.write.specs.Writes.{isNegative}
@@ -17,6 +19,7 @@ use Rattle.whole.specs.declared.taking.Taking.{Taking}
 use Rattle.whole.specs.declared.taking.Whole.{Whole}
 use Rattle.whole.specs.Wholes.{overTest, inexactTest, IsTakenWhole, WritesWhole, TakesWhole}
 use Rattle.whole.specs.Sayings.{WritesWholeAndSays}
+use Rattle.whole.specs.Shortest.{IsShortest, GivesShortest}
 use Rattle.whole.proofs.NearestWholes.{one-nearest-whole}
 
 pub writes-whole-one : (n : ℕ) (rule : Rule) (x : ℤ) (a b : Answer) → WritesWhole n rule x a → WritesWhole n rule x b → a ≡ b
@@ -40,3 +43,14 @@ taken-one rule (real z) a b (x, near, p) (y, other, q) =
 pub takes-whole-one : (n : ℕ) (rule : Taking) (w : ℕ) (a b : Whole) → TakesWhole n rule w a → TakesWhole n rule w b → a ≡ b
 unfolding TakesWhole
 takes-whole-one n rule w = decided-one Whole.Refused (IsTakenWhole rule (takum n w)) (taken-one rule (takum n w))
+
+-- ---- the shortest width: of two least ones neither is less
+shortest-one : (x : ℤ) (n k : ℕ) → IsShortest x n → IsShortest x k → n ≤ k
+shortest-one x n k y z = not-more (λ (l : k < n). y .none-shorter k (z .least) l (z .has))
+
+pub gives-shortest-one : (x : ℤ) (a b : Made) → GivesShortest x a → GivesShortest x b → a ≡ b
+unfolding GivesShortest
+gives-shortest-one x (Made.Width n) (Made.Width k) y z = ap (λ (bits : ℕ). Made.Width (record { bits = bits })) (le-antisymm (shortest-one x (n .bits) (k .bits) y z) (shortest-one x (k .bits) (n .bits) z y))
+gives-shortest-one x (Made.Width n) (Made.Refused q) y z = absurd (z .1 (n .bits) (y .least) (y .most) (y .has))
+gives-shortest-one x (Made.Refused q) (Made.Width n) y z = absurd (y .1 (n .bits) (z .least) (z .most) (z .has))
+gives-shortest-one x (Made.Refused q) (Made.Refused p) y z = ap Made.Refused (y .0 ∙ sym (z .0))

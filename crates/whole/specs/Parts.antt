@@ -1,7 +1,9 @@
--- Serves private functions only: what the parts of taking out answer, from the whole number nearest to a size to what the rule makes of it.
+-- Serves private functions only: what the parts of taking out answer, from the whole number nearest to a size to what the rule makes of it; and the two
+-- reductions of a length.
 use mathlib.Core.Path.{_≡_}
-use mathlib.Core.Bool.{Bool, cond}
-use Prim.Native.Nat.{ℕ, _+_, _*_, _%_, _^_, _≤_}
+use mathlib.Core.Bool.{Bool, cond, _&&_}
+use Prim.Native.Nat.{ℕ, _+_, _-_, _*_, _%_, _^_, _≤_}
+use lib.Dec.{eqb}
 use lib.IntN.{ℤ, pos, _-ℤ_}
 use Rattle.bounds.specs.declared.refusal.Refusal.{Refusal}
 use Rattle.word.specs.Takum.{Takum, real}
@@ -9,6 +11,7 @@ use Rattle.word.specs.Reads.{IsSize, signedSize}
 use Rattle.whole.specs.declared.taking.Taking.{Taking}
 use Rattle.whole.specs.declared.taking.Whole.{Whole}
 use Rattle.whole.specs.Wholes.{IsTakenWhole}
+use Rattle.whole.specs.Lengths.{IsMax, upTo, when}
 
 -- i is the whole number nearest to the size a, u being one: it is at most a half off, and where it is a half off, even
 pub record NearestSize (u a i : ℕ) : Type 0 where
@@ -33,3 +36,10 @@ TakesByEitherRule negative h m a = (rule : Taking) → TakesSize rule negative h
 -- from 2^55 on the size m * 2^(h - 63) is a whole number, as that of every word is; it is counted in 2^-307, as in `IsSize`
 unfoldable pub WholeWhereLarge : ℤ → ℕ → Type 0
 WholeWhereLarge h m = (v : ℕ) → IsSize m (h -ℤ pos 63) v → 2 ^ 55 * 2 ^ 307 ≤ v → (j : ℕ) × (v ≡ j * 2 ^ 307)
+
+-- what a reduction of (11) takes off, by the letters v, w and floor(log2 v)
+unfoldable pub IsFirstReduction : ℕ → ℕ → ℕ → ℕ → Type 0
+IsFirstReduction v w log r = (first : ℕ) × IsMax (upTo log) (v - 2 ^ log) first × (r ≡ when (eqb (w + 1) v) first)
+
+unfoldable pub IsLastReduction : ℕ → ℕ → ℕ → ℕ → Type 0
+IsLastReduction v w log r = (last : ℕ) × IsMax (upTo 3) log last × (r ≡ when (eqb (w + 1) v && eqb v (2 ^ log)) last)

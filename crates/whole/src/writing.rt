@@ -21,7 +21,7 @@ pub fn write_whole(width: Width, rule: Rule, x: i64) -> Written
 }
 
 // How large a whole number is without its sign; -2^63 has no opposite in 64 bits, so -1 - x is taken first.
-fn size(x: i64) -> u64
+pub(crate) fn size(x: i64) -> u64
     ensures { λ r. ⌜ r ≡ natAbs x ⌝ }
 {
     if x < 0 {

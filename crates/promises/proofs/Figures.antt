@@ -1,16 +1,18 @@
 -- The P figures hold, by one test that is computed over the whole table. Assumes nothing.
-use mathlib.Core.Path.{_≡_, refl, sym, _∙_, subst}
+use mathlib.Core.Path.{_≡_, refl, sym, ap, _∙_, subst}
 use mathlib.Core.Bool.{Bool, true, false, _&&_, _||_, cond}
 use mathlib.Core.List.{List, [], _∷_}
 use mathlib.Core.Logic.{_⊎_, inl, inr, ⊎-elim}
-use Prim.Native.Nat.{ℕ, zero, suc, _+_, _-_, _*_, _%_, _^_, _<_}
+use Prim.Native.Nat.{ℕ, zero, suc, _+_, _-_, _*_, _%_, _^_, _≤_, _<_}
 use native.Mathlib.Nat.{mul-one, zero-lt-suc, le-of-eq, lt-of-le-of-lt, lt-of-lt-of-le}
 use native.Mathlib.Omega.{arith}
+use lib.Count.{leadingZeros, trailingZeros}
 use lib.Dec.{T, eqb, leb, ltb, eqb→eq, leb→le, ltb→lt}
-use lib.IntN.{ℤ, pos, natAbs, _+ℤ_}
+use lib.IntN.{ℤ, pos, negsuc, natAbs, _+ℤ_}
 use Rattle.bounds.specs.declared.answer.Answer.{Answer}
 use Rattle.bounds.specs.declared.answer.Written.{Written}
 use Rattle.bounds.specs.declared.refusal.Refusal.{Refusal}
+use Rattle.bounds.specs.declared.width.Made.{Made}
 use Rattle.word.specs.Takum.{Takum, real, NaR, power, regimeOf, characteristicOf, S, D, R, r, p, C, F, c, e, value, meaning, N, padded, takum, orZero, ownFractionBits}
 use Rattle.word.specs.Reads.{num, den, IsSize, signedSize}
 use Rattle.word.specs.Orders.{negated}
@@ -30,16 +32,19 @@ use Rattle.whole.specs.declared.taking.Whole.{Whole}
 use Rattle.whole.specs.Parts.{NearestSize, byRule}
 use Rattle.whole.specs.Wholes.{IsTakenWhole, WritesWhole, TakesWhole}
 use Rattle.whole.specs.Sayings.{WritesWholeAndSays}
+use Rattle.whole.specs.Shortest.{GivesShortest}
 use Rattle.whole.proofs.Answers.{inside, taken-inside}
 use Rattle.whole.proofs.NearestWholes.{nearest-whole}
 use Rattle.whole.proofs.Refused.{meaning-taken}
 use Rattle.whole.proofs.OneOutcome.{taken-one, writes-whole-and-says-one}
-use Rattle.promises.specs.Figures.{Said, plus, minus, nar, IsSaid, Figure, reads, hasOwn, writes, refuses, writesWhole, refusesWhole, takes, says, saysWhole, whole, positive, negative, below, figures, FigureHolds, AllHold}
+use Rattle.promises.specs.Figures.{Said, plus, minus, nar, IsSaid, Figure, reads, hasOwn, writes, refuses, writesWhole, refusesWhole, takes, says, saysWhole, needs, needsMore, whole, positive, negative, below, figures, FigureHolds, AllHold}
 use Rattle.promises.specs.Demands.{RefusedAs, ReadingIsTheDefinition}
 use Rattle.promises.specs.Writing.{numerator, denominator}
+use Rattle.promises.specs.Shortest.{bits, ZeroNeeds2}
 use Rattle.promises.proofs.Tests.{size-of, same, same-is, either, is-word, word-is, has, has-is}
 use Rattle.promises.proofs.Settled.{size-at, is-positive, past-half, before-half, is-rounded, went, size-settled, settled, positive-is, size-has, rounded-is, answered-so}
 use Rattle.promises.proofs.Demands.{reading-is-the-definition}
+use Rattle.promises.proofs.Shortest.{lengthOf, by-counting, zero-needs-2}
 
 -- ---- reading: the size is the one that is said, and the sign too
 said : Said → Takum → Bool
@@ -89,6 +94,18 @@ taken : ℕ → Taking → ℕ → ℤ → Bool
 taken n Taking.Nearest w x = (is-word n w && same (takum n w) (real (signedSize (sign-of (takum n w)) (size-of (takum n w))))) && (same-integer (signedSize (sign-of (takum n w)) (natAbs x)) x && (half-off (size-of (takum n w)) (natAbs x) && ltb (natAbs x) (2 ^ 63)))
 taken n Taking.Strict w x = false
 
+-- ---- the shortest width: zero needs 2, and every other number its length, which is 64 at most or past that
+within : ℕ → ℕ → Bool
+within m n = ltb m (2 ^ 64) && (eqb n (lengthOf m) && leb (lengthOf m) 64)
+
+needed : ℤ → ℕ → Bool
+needed (pos zero) n = eqb n 2
+needed (pos (suc i)) n = within (suc i) n
+needed (negsuc i) n = within (suc i) n
+
+needed-more : ℤ → ℕ → Bool
+needed-more x number = (ltb 0 (natAbs x) && ltb (natAbs x) (2 ^ 64)) && (ltb 64 (lengthOf (natAbs x)) && eqb number 4)
+
 -- ---- the test of one figure and of a list of them
 passes : Figure → Bool
 passes (reads n w x) = is-word n w && said x (takum n w)
@@ -100,6 +117,8 @@ passes (refusesWhole n rule M number) = not-given n rule M number (low-word n M)
 passes (takes n rule w x) = taken n rule w x
 passes (says n v w s) = settled n (v .negative) (numerator v) (denominator v) w s
 passes (saysWhole n x w s) = settled n (isNegative x) (scaled (natAbs x)) 1 w s
+passes (needs x n) = needed x n
+passes (needsMore x number) = needed-more x number
 
 all-pass : List Figure → Bool
 all-pass [] = true
@@ -167,6 +186,37 @@ taken-holds n Taking.Nearest w x t = λ a y.
     taken-one Taking.Nearest (real (signedSize s v)) a (Whole.Is x) (meaning-taken n Taking.Nearest w a (word-is n w (word .0)) y (real (signedSize s v)) (same-is (takum n w) (real (signedSize s v)) (word .1)))
     (subst (λ (z : ℤ). IsTakenWhole Taking.Nearest (real (signedSize s v)) (Whole.Is z)) (same-integer-is (signedSize s (natAbs x)) x (number .0)) (taken-inside Taking.Nearest (signedSize s v) (signedSize s (natAbs x)) _ (nearest-whole s v (natAbs x) (half-off-is v (natAbs x) (near .0))) (inside s (natAbs x) (ltb→lt (natAbs x) (2 ^ 63) (near .1))) refl))
 
+within-holds : (x : ℤ) (n : ℕ) → zero < natAbs x → T (within (natAbs x) n) → (a : Made) → GivesShortest x a → a ≡ bits n
+unfolding within
+within-holds x n some t = λ a y.
+    let m = natAbs x in
+    let u = both (ltb m (2 ^ 64)) (eqb n (lengthOf m) && leb (lengthOf m) 64) t in
+    let v = both (eqb n (lengthOf m)) (leb (lengthOf m) 64) (u .1) in
+    ⊎-elim (λ l. l .1 ∙ ap bits (sym (eqb→eq n (lengthOf m) (v .0)))) (λ l. absurd (not-past (lengthOf m) (leb→le (lengthOf m) 64 (v .1)) (l .0)))
+    (by-counting x a some (ltb→lt m (2 ^ 64) (u .0)) y)
+  where
+    not-past : (l : ℕ) → l ≤ 64 → 64 < l → ⊥
+    not-past l h past = omega (arith, h, past)
+
+needed-holds : (x : ℤ) (n : ℕ) → T (needed x n) → (a : Made) → GivesShortest x a → a ≡ bits n
+unfolding needed ZeroNeeds2
+needed-holds (pos zero) n t = λ a y. zero-needs-2 a y ∙ ap bits (sym (eqb→eq n 2 t))
+needed-holds (pos (suc i)) n t = within-holds (pos (suc i)) n (zero-lt-suc i) t
+needed-holds (negsuc i) n t = within-holds (negsuc i) n (zero-lt-suc i) t
+
+needed-more-holds : (x : ℤ) (number : ℕ) → T (needed-more x number) → (a : Made) → GivesShortest x a → RefusedAs Made Made.Refused number a
+unfolding needed-more
+needed-more-holds x number t = λ a y.
+    let m = natAbs x in
+    let u = both (ltb 0 m && ltb m (2 ^ 64)) (ltb 64 (lengthOf m) && eqb number 4) t in
+    let inside = both (ltb 0 m) (ltb m (2 ^ 64)) (u .0) in
+    let past = both (ltb 64 (lengthOf m)) (eqb number 4) (u .1) in
+    subst (λ (k : ℕ). RefusedAs Made Made.Refused k a) (sym (eqb→eq number 4 (past .1)))
+    (⊎-elim (λ l. absurd (not-within (lengthOf m) (ltb→lt 64 (lengthOf m) (past .0)) (l .0))) (λ l. l .1) (by-counting x a (ltb→lt 0 m (inside .0)) (ltb→lt m (2 ^ 64) (inside .1)) y))
+  where
+    not-within : (l : ℕ) → 64 < l → l ≤ 64 → ⊥
+    not-within l past h = omega (arith, h, past)
+
 -- a whole number is offered as the value is
 as-value : (n : ℕ) (rule : Rule) (M : ℕ) (a : Answer) → WritesWhole n rule (pos M) a → Writes n rule (whole M) a
 unfolding WritesWhole Writes whole isNegative num den
@@ -188,6 +238,8 @@ holds (takes n rule w x) ok = taken-holds n rule w x ok
 holds (refusesWhole n rule M number) ok = λ a x. not-given-holds n rule M number (low-word n M) ok a (as-value n rule M a x)
 holds (says n v w s) ok = λ a x. writes-and-says-one n Rule.Rounded v a (Written.Word w s) x (answered-so n (v .negative) (numerator v) (denominator v) w s (unit-some (v .k +ℤ pos 307) .1) ok)
 holds (saysWhole n x w s) ok = λ a y. writes-whole-and-says-one n Rule.Rounded x a (Written.Word w s) y (answered-so n (isNegative x) (scaled (natAbs x)) 1 w s (zero-lt-suc 0) ok)
+holds (needs x n) ok = needed-holds x n ok
+holds (needsMore x number) ok = needed-more-holds x number ok
 
 all-hold : (fs : List Figure) → T (all-pass fs) → AllHold fs
 unfolding all-pass AllHold
@@ -195,5 +247,5 @@ all-hold [] t = tt
 all-hold (f ∷ fs) t = let x = both (passes f) (all-pass fs) t in (holds f (x .0), all-hold fs (x .1))
 
 pub figures-hold : AllHold figures
-unfolding figures below said num den signedSize power same is-word passes all-pass regimeOf characteristicOf S D R r p C F c e value meaning N padded takum orZero ownFractionBits has low-word last-below size-of scaled given not-given half-off sign-of taken isNegative positive negative numerator denominator negated size-at is-positive past-half before-half is-rounded went size-settled settled
+unfolding figures below said num den signedSize power same is-word passes all-pass regimeOf characteristicOf S D R r p C F c e value meaning N padded takum orZero ownFractionBits has low-word last-below size-of scaled given not-given half-off sign-of taken isNegative positive negative numerator denominator negated size-at is-positive past-half before-half is-rounded went size-settled settled within needed needed-more lengthOf leadingZeros trailingZeros
 figures-hold = all-hold figures tt

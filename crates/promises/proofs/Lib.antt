@@ -35,6 +35,8 @@ pub mod Narrow
 pub mod Numbers
 -- whole numbers by nearest
 pub mod Wholes
+-- the shortest word for a count
+pub mod Shortest
 -- the nearest binary64
 pub mod Nearest
 -- every place of a column and of a block, and lent memory after a refusal

@@ -34,7 +34,7 @@ pub use Rattle.sizes.proofs.OneOutcome.{reads-size-one}
 pub use Rattle.nearest.proofs.OneOutcome.{finds-nearest-one, finds-and-says-one}
 pub use Rattle.round.proofs.OneOutcome.{writes-short-one, writes-size-one, writes-long-one, writes-short-and-says-one, writes-size-and-says-one, writes-long-and-says-one}
 pub use Rattle.write.proofs.OneOutcome.{writes-one, moves-one, writes-and-says-one, moves-and-says-one}
-pub use Rattle.whole.proofs.OneOutcome.{writes-whole-one, writes-whole-and-says-one, takes-whole-one}
+pub use Rattle.whole.proofs.OneOutcome.{writes-whole-one, writes-whole-and-says-one, takes-whole-one, gives-shortest-one}
 pub use Rattle.binary64.proofs.OneOutcome.{writes-binary64-one, writes-binary64-and-says-one, takes-binary64-one}
 pub use Rattle.column.proofs.OneOutcome.{moves-column-one, holds-one, moved-column-one}
 pub use Rattle.sheet.proofs.OneOutcome.{reads-block-one, fills-results-one, writes-block-one, fills-buffer-one}

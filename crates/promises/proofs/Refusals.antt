@@ -15,7 +15,7 @@ use Rattle.column.proofs.Positions.{first}
 use Rattle.sheet.specs.Writes.{WritesBlock}
 use Rattle.promises.specs.Demands.{ComesBack}
 use Rattle.promises.specs.Refusals.{RefusalsFollowTheTable}
-use Rattle.promises.proofs.WordRefusals.{of-width, of-word, word-none, reading-none, size-none, number-none, compare-follows, test-follows, test-word-follows, write-short-follows, write-size-follows, write-long-follows, write-follows, write-whole-follows, write-binary64-follows, move-follows, goes-follows, take-whole-follows}
+use Rattle.promises.proofs.WordRefusals.{of-width, of-word, word-none, reading-none, size-none, number-none, compare-follows, test-follows, test-word-follows, write-short-follows, write-size-follows, write-long-follows, write-follows, write-whole-follows, write-binary64-follows, move-follows, goes-follows, take-whole-follows, shortest-follows}
 use Rattle.promises.proofs.SliceRefusals.{test-room-follows, column-follows, position-follows, block-follows}
 use Rattle.promises.proofs.WrittenRefusals.{written-follows, written-position-follows, position-inside}
 
@@ -40,6 +40,7 @@ refusals-follow-the-table = record {
   write = write-follows;
   write-whole = write-whole-follows;
   take-whole = take-whole-follows;
+  shortest-width = shortest-follows;
   write-binary64 = write-binary64-follows;
   take-binary64 = λ n w a x. of-word n w (number-none (takum n w) a) x;
   move-word = move-follows;

@@ -15,6 +15,7 @@ use lib.Pow.{pow-pos}
 use Rattle.bounds.specs.declared.answer.Answer.{Answer}
 use Rattle.bounds.specs.declared.refusal.Refusal.{Refusal}
 use Rattle.bounds.specs.declared.refusal.Verdict.{Verdict}
+use Rattle.bounds.specs.declared.width.Made.{Made}
 use Rattle.bounds.specs.Refusals.{numberOf, widthTest, strayTest, wordTest, _then_, IsWord, Decided}
 use Rattle.bounds.specs.Widths.{narWord}
 use Rattle.bounds.proofs.Powers.{not-more}
@@ -40,6 +41,7 @@ use Rattle.write.proofs.Moves.{moved-to-the-same, strict-keeps}
 use Rattle.whole.specs.declared.taking.Taking.{Taking}
 use Rattle.whole.specs.declared.taking.Whole.{Whole}
 use Rattle.whole.specs.Wholes.{IsNearestWhole, overTest, inexactTest, IsTakenWhole, WritesWhole, TakesWhole}
+use Rattle.whole.specs.Shortest.{HasWord, GivesShortest}
 use Rattle.whole.proofs.Refused.{whole-size}
 use Rattle.whole.proofs.NearestWholes.{one-nearest-whole}
 use Rattle.whole.proofs.WholeValues.{valueOf, exact-value}
@@ -49,7 +51,7 @@ use Rattle.binary64.specs.Writes.{IsWrittenBinary64, WritesBinary64}
 use Rattle.promises.specs.Writing.{numerator, denominator, Goes}
 use Rattle.promises.specs.Hub.{significand, longNumerator, longDenominator}
 use Rattle.promises.specs.Numbers.{IsWhole}
-use Rattle.promises.specs.Refusals.{FollowsUpTo, Follows, width, stray, nar, noWord, noWhole, over, shortLines, moveLines, IsBinary64, ChainFollows, OutsideSigned64}
+use Rattle.promises.specs.Refusals.{FollowsUpTo, Follows, width, stray, nar, noWord, noWhole, noWidth, over, shortLines, moveLines, IsBinary64, ChainFollows, OutsideSigned64}
 use Rattle.promises.proofs.Lines.{Tells, holds, fails, width-tells, stray-tells, parts, follow, verdict-decided, retold, then-so, none-hold}
 
 -- the calls of a width, and of a word with its width
@@ -218,3 +220,9 @@ take-whole-follows n rule w a x = follow Refusal.Width (width-tells n) (parts x)
       λ h. not-NaR z (sym q ∙ h),
       follow Refusal.Over (over-tells n w i z x q near) (parts d) (λ e y. follow Refusal.Inexact (inexact-tells n w i z x q near rule) y (λ e' h p k. let e : _≡_ {A = ℕ} 0 1 = cc in omega arith)),
     )
+
+-- the shortest width has one line, which is the contract's own
+pub shortest-follows : (x : ℤ) (a : Made) → GivesShortest x a → Follows Made.Refused a (noWidth x ∷ [])
+unfolding Follows FollowsUpTo GivesShortest HasWord IsWhole
+shortest-follows x (Made.Width n) y = inr ((λ none. none (n .bits) (y .has .0) (y .least) (y .most) (y .has .1)), λ q e. let z : _≡_ {A = ℕ} 0 1 = cc in omega arith)
+shortest-follows x (Made.Refused q) y = inl ((λ n w lo hi v. y .1 n lo hi (w, v)), record { q = Refusal.Inexact; is = ap Made.Refused (y .0); known = refl })

@@ -2,12 +2,13 @@
 use mathlib.Core.Path.{_≡_}
 use mathlib.Core.Bool.{true, false}
 use mathlib.Core.List.{List, [], _∷_}
-use Prim.Native.Nat.{ℕ}
+use Prim.Native.Nat.{ℕ, _+_, _-_, _^_}
 use lib.IntN.{ℤ, pos, negℤ}
 use Rattle.bounds.specs.declared.answer.Answer.{Answer}
 use Rattle.bounds.specs.declared.answer.Written.{Written}
 use Rattle.bounds.specs.declared.saying.Saying.{Saying}
 use Rattle.bounds.specs.declared.saying.Saying.the-variants.{Exact, Below, Above, PastTheEnd}
+use Rattle.bounds.specs.declared.width.Made.{Made}
 use Rattle.bounds.specs.Refusals.{IsWord}
 use Rattle.word.specs.declared.reading.Reading.{Reading}
 use Rattle.word.specs.Takum.{Takum, real, NaR, fractionBits, ownFractionBits}
@@ -20,7 +21,9 @@ use Rattle.whole.specs.declared.taking.Taking.{Taking}
 use Rattle.whole.specs.declared.taking.Whole.{Whole}
 use Rattle.whole.specs.Wholes.{WritesWhole, TakesWhole}
 use Rattle.whole.specs.Sayings.{WritesWholeAndSays}
+use Rattle.whole.specs.Shortest.{GivesShortest}
 use Rattle.promises.specs.Demands.{RefusedAs}
+use Rattle.promises.specs.Shortest.{bits}
 
 -- -k, for exponents and numbers below 0
 unfoldable pub below : ℕ → ℤ
@@ -41,7 +44,8 @@ IsSaid nar t = t ≡ NaR
 -- reads n w x: the word w of n bits is x; hasOwn n w k: it has k fraction bits of its own; writes n rule M w: the value M, written in n bits by the rule,
 -- is the word w; refuses n rule M number: it is the refusal with this number; writesWhole and refusesWhole: the same of M as a whole number, which is the
 -- call a tally goes through; takes n rule w x: the word w of n bits goes out as the whole number x by the rule; says n v w s: the value v, written rounded
--- in n bits, is the word w and this is said of it; saysWhole n x w s: the same of x as a whole number
+-- in n bits, is the word w and this is said of it; saysWhole n x w s: the same of x as a whole number; needs x n: the whole number x needs n bits;
+-- needsMore x number: it has a word at no width, and is refused with this number
 pub data Figure : Type 0 where
   reads : ℕ → ℕ → Said → Figure
   hasOwn : ℕ → ℕ → ℕ → Figure
@@ -52,6 +56,8 @@ pub data Figure : Type 0 where
   takes : ℕ → Taking → ℕ → ℤ → Figure
   says : ℕ → Value → ℕ → Saying → Figure
   saysWhole : ℕ → ℤ → ℕ → Saying → Figure
+  needs : ℤ → ℕ → Figure
+  needsMore : ℤ → ℕ → Figure
 
 unfoldable pub whole : ℕ → Value
 whole M = record { negative = false; m = M; k = pos 0 }
@@ -143,6 +149,26 @@ figures =
     -- 2^231 is nearer to 2^223 than to 2^239
     ∷ reads 8 0x7E (plus 1 (pos 223))
     ∷ says 8 (positive 1 (pos 231)) 0x7E Below
+    -- paper 02, Wish 9: how many bits a number needs. 9 needs 10, where document 004 prints 9; past the limits of 16, 32 and 64 bits; both ends
+    ∷ needs (pos 0) 2
+    ∷ needs (pos 1) 2
+    ∷ needs (pos 2) 5
+    ∷ needs (pos 3) 7
+    ∷ needs (pos 7) 8
+    ∷ needs (pos 8) 4
+    ∷ needs (pos 9) 10
+    ∷ needs (pos 10) 9
+    ∷ needs (pos 512) 7
+    ∷ needs (pos 513) 17
+    ∷ needs (pos 515) 17
+    ∷ needs (pos 1024) 8
+    ∷ needs (pos (2 ^ 24)) 9
+    ∷ needs (pos (2 ^ 24 + 1)) 33
+    ∷ needs (pos (2 ^ 55)) 7
+    ∷ needsMore (pos (2 ^ 55 + 1)) 4
+    ∷ needs (pos (2 ^ 62)) 10
+    ∷ needs (below (2 ^ 63)) 4
+    ∷ needsMore (pos (2 ^ 63 - 1)) 4
     ∷ []
 
 -- whatever reading or answer the contract allows is the figure's
@@ -156,6 +182,8 @@ FigureHolds (refusesWhole n rule M number) = (a : Answer) → WritesWhole n rule
 FigureHolds (takes n rule w x) = (a : Whole) → TakesWhole n rule w a → a ≡ Whole.Is x
 FigureHolds (says n v w s) = (a : Written) → WritesAndSays n Rule.Rounded v a → a ≡ Written.Word w s
 FigureHolds (saysWhole n x w s) = (a : Written) → WritesWholeAndSays n Rule.Rounded x a → a ≡ Written.Word w s
+FigureHolds (needs x n) = (a : Made) → GivesShortest x a → a ≡ bits n
+FigureHolds (needsMore x number) = (a : Made) → GivesShortest x a → RefusedAs Made Made.Refused number a
 
 -- every figure of a list holds
 unfoldable pub AllHold : List Figure → Type 0

@@ -18,6 +18,8 @@ pub mod Hub
 pub mod Numbers
 -- whole numbers by nearest
 pub mod Wholes
+-- the shortest word for a count
+pub mod Shortest
 -- the nearest binary64
 pub mod Nearest
 -- which way it went

@@ -32,6 +32,7 @@ use Rattle.write.specs.Writes.{Writes, Moves}
 use Rattle.whole.specs.declared.taking.Taking.{Taking}
 use Rattle.whole.specs.declared.taking.Whole.{Whole}
 use Rattle.whole.specs.Wholes.{IsNearestWhole, WritesWhole, TakesWhole}
+use Rattle.whole.specs.Shortest.{GivesShortest}
 use Rattle.binary64.specs.declared.taking.Binary64.{Binary64}
 use Rattle.binary64.specs.Takes.{TakesBinary64}
 use Rattle.binary64.specs.Writes.{WritesBinary64}
@@ -71,6 +72,10 @@ noWord rule HasTheValue = line 4 ((rule ≡ Rule.Strict) × ((w : ℕ) → HasTh
 -- 4 INEXACT: strict, and no whole number has the value
 abbrev pub noWhole : Taking → ℕ → ℕ → Line
 noWhole rule n w = line 4 ((rule ≡ Taking.Strict) × ((x : ℤ) → IsWhole n x w → ⊥))
+
+-- 4 INEXACT: no width from 2 to 64 has a word with the value
+abbrev pub noWidth : ℤ → Line
+noWidth x = line 4 ((n w : ℕ) → 2 ≤ n → n ≤ 64 → IsWhole n x w → ⊥)
 
 -- below -2^63, or from 2^63 up
 unfoldable pub OutsideSigned64 : ℤ → Type 0
@@ -169,6 +174,7 @@ pub record RefusalsFollowTheTable : Type 0 where
   pub write : (n : ℕ) (rule : Rule) (v : Value) (a : Answer) → Writes n rule v a → Follows Answer.Refused a (width n ∷ noWord rule (IsExact n (v .negative) (numerator v) (denominator v)) ∷ [])
   pub write-whole : (n : ℕ) (rule : Rule) (x : ℤ) (a : Answer) → WritesWhole n rule x a → Follows Answer.Refused a (width n ∷ noWord rule (IsWhole n x) ∷ [])
   pub take-whole : (n : ℕ) (rule : Taking) (w : ℕ) (a : Whole) → TakesWhole n rule w a → Follows Whole.Refused a (width n ∷ stray n w ∷ nar n w ∷ over n w ∷ noWhole rule n w ∷ [])
+  pub shortest-width : (x : ℤ) (a : Made) → GivesShortest x a → Follows Made.Refused a (noWidth x ∷ [])
   pub write-binary64 : (n : ℕ) (rule : Rule) (x : Float) (a : Answer) → WritesBinary64 n rule x a → Follows Answer.Refused a (width n ∷ noWord rule (IsBinary64 n x) ∷ [])
   pub take-binary64 : (n w : ℕ) (a : Binary64) → TakesBinary64 n w a → Follows Binary64.Refused a (width n ∷ stray n w ∷ [])
   -- the source's width, then the target's

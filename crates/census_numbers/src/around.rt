@@ -1,8 +1,10 @@
 // A number with its neighbours and their opposites: what is asked of each, in the order of the page.
 use crate::answers::take_binary64_out;
+use crate::numbers::whole_of;
 use crate::ways::take_binary64_in;
 use crate::ways::take_out;
 use crate::ways::take_round;
+use crate::ways::take_shortest;
 use crate::ways::take_whole_in;
 use binary64::taking::take_binary64;
 use bounds::width::Width;
@@ -10,16 +12,17 @@ use census::bits::TOP_BIT;
 use census::bits::low_bits;
 ghost use Prim.Native.Nat.{_≤_};
 
-// What is asked of a number x of 64 bits. Where it is asked of a word, the word is x modulo 2^n.
+// What is asked of a number x of 64 bits. Where it is asked of a word, the word is x modulo 2^n. The shortest width is asked without n.
 pub(crate) enum Ways {
     Out,
     OutAsBinary64,
     WholeIn,
     WholeRound,
     Binary64In,
+    Shortest,
 }
 
-fn take_ways(ways: Ways, digest: u64, n: u32, x: u64) -> u64
+pub(crate) fn take_ways(ways: Ways, digest: u64, n: u32, x: u64) -> u64
     requires { ⌜ (2 ≤ n) × (n ≤ 64) ⌝ }
 {
     match ways {
@@ -30,6 +33,7 @@ fn take_ways(ways: Ways, digest: u64, n: u32, x: u64) -> u64
         Ways::WholeIn => take_whole_in(digest, n, x),
         Ways::WholeRound => take_round(digest, n, x),
         Ways::Binary64In => take_binary64_in(digest, n, x),
+        Ways::Shortest => take_shortest(digest, whole_of(x)),
     }
 }
 

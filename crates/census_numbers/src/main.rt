@@ -10,6 +10,7 @@ mod parts;
 mod patterns;
 mod places;
 mod runs;
+mod shortest;
 mod subjects;
 mod unnumbered;
 mod ways;
@@ -18,9 +19,11 @@ mod wholes;
 use crate::parts::Part;
 use crate::parts::print_everywhere;
 use crate::parts::print_part;
+use crate::runs::print_runs;
 use crate::subjects::Subject;
 use crate::unnumbered::print_bad_widths;
 use bounds::width::Width;
+use census::run::WIDEST_WHOLE;
 
 fn main() {
     print_outs();
@@ -29,6 +32,7 @@ fn main() {
     print_bad_widths(b"unnumbered");
     print_everywhere(b"unread", Part::Strays);
     print_part(b"half", Part::Line(Subject::Half), 17, Width::GREATEST);
+    print_shortest();
 }
 
 // Parts 13 to 17.
@@ -72,4 +76,12 @@ fn print_binaries() {
     print_part(b"twos", Part::Line(Subject::Twos), Width::LEAST, 12);
     print_part(b"twos", Part::Line(Subject::Twos), 56, 60);
     print_everywhere(b"extreme", Part::Extreme);
+}
+
+// Parts 53 to 56. The runs of the parts 53 and 55 belong to no width; the one that is given stays unused.
+fn print_shortest() {
+    print_runs(b"shortest", Subject::Shortest, Width::GREATEST);
+    print_everywhere(b"shortpower", Part::ShortPower);
+    print_runs(b"shortdraw", Subject::ShortDraw, Width::GREATEST);
+    print_part(b"shortword", Part::ShortWords, Width::LEAST, WIDEST_WHOLE);
 }

@@ -2,6 +2,8 @@
 use crate::binaries::print_extreme;
 use crate::runs::print_one_line;
 use crate::runs::print_runs;
+use crate::shortest::print_short_power;
+use crate::shortest::print_short_words;
 use crate::subjects::Subject;
 use crate::unnumbered::print_strays;
 use crate::wholes::print_brink;
@@ -16,6 +18,8 @@ pub(crate) enum Part {
     Brink,
     Extreme,
     Strays,
+    ShortPower,
+    ShortWords,
 }
 
 // Prints a part at every width.
@@ -44,5 +48,7 @@ fn print_at(name: &[u8], part: Part, n: u32)
         Part::Brink => print_brink(name, n),
         Part::Extreme => print_extreme(name, n),
         Part::Strays => print_strays(name, n),
+        Part::ShortPower => print_short_power(name, n),
+        Part::ShortWords => print_short_words(name, n),
     }
 }

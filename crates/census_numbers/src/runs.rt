@@ -6,8 +6,10 @@ use crate::subjects::first_place;
 use crate::subjects::first_state;
 use crate::subjects::longest_run;
 use census::digest::EMPTY;
+use census::line::print_digest;
+use census::line::print_number;
 use census::line::print_of_one;
-use census::line::print_of_three;
+use census::line::print_text;
 use census::run::Run;
 use census::run::run_end;
 ghost use Prim.Native.Nat.{_≤_};
@@ -25,12 +27,20 @@ pub(crate) fn print_runs(name: &[u8], subject: Subject, n: u32)
     }
 }
 
-// Prints the line of a run, and gives back the state of the sequence after it.
+// Prints the line of a run, with the width where it belongs to one, and gives back the state of the sequence after it.
 fn print_run(name: &[u8], subject: Subject, n: u32, first: u64, stop: u64, state: u64) -> u64
     requires { ⌜ (2 ≤ n) × (n ≤ 64) × (first ≤ stop) ⌝ }
 {
     let run = take_run(subject, n, first, stop, state);
-    print_of_three(name, n, first, stop - first, run.digest);
+    print_text(name);
+    match subject {
+        Subject::Shortest => {}
+        Subject::ShortDraw => {}
+        _ => print_number(n as u64),
+    }
+    print_number(first);
+    print_number(stop - first);
+    print_digest(run.digest);
     run.state
 }
 

@@ -16,6 +16,8 @@ pub(crate) enum Subject {
     Binary,
     Twos,
     Half,
+    Shortest,
+    ShortDraw,
 }
 
 // The powers of part 21 begin at 2^1.
@@ -38,6 +40,8 @@ pub(crate) fn end_of(subject: Subject, n: u32) -> u64 {
         Subject::Binary => DRAWN,
         Subject::Twos => 514,
         Subject::Half => 264,
+        Subject::Shortest => 140_001,
+        Subject::ShortDraw => 4096,
     }
 }
 
@@ -48,24 +52,20 @@ pub(crate) fn longest_run(subject: Subject) -> u64
     match subject {
         Subject::OutFull => 64,
         Subject::Whole => 4096,
+        Subject::Shortest => 4096,
         _ => 256,
     }
 }
 
-// Each width has a sequence of its own.
+// Each width has a sequence of its own; part 55, which belongs to no width, has one.
 pub(crate) fn first_state(subject: Subject, n: u32) -> u64
     requires { ⌜ n ≤ 64 ⌝ }
 {
-    sequence(start_of(subject) + n as u64)
-}
-
-fn start_of(subject: Subject) -> u64
-    ensures { λ r. ⌜ r ≤ 7000 ⌝ }
-{
     match subject {
-        Subject::Out => 5000,
-        Subject::Tally => 6000,
-        Subject::Binary => 7000,
+        Subject::Out => sequence(5000 + n as u64),
+        Subject::Tally => sequence(6000 + n as u64),
+        Subject::Binary => sequence(7000 + n as u64),
+        Subject::ShortDraw => sequence(9500),
         _ => 0,
     }
 }

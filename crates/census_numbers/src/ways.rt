@@ -1,4 +1,4 @@
-// The ways in and out at a width, taken into a digest: of whole numbers, of binary64 numbers, and of words.
+// The ways in and out at a width, taken into a digest: of whole numbers, of binary64 numbers, and of words; and a whole number's shortest width.
 use crate::answers::take_binary64_out;
 use crate::answers::take_whole_out;
 use crate::numbers::number_of;
@@ -6,9 +6,13 @@ use crate::numbers::whole_of;
 use binary64::taking::take_binary64;
 use binary64::writing::write_binary64;
 use bounds::answer::Written;
+use bounds::width::Made;
 use bounds::width::Width;
+use census::digest::take_kind;
+use census::digest::take_refusal;
 use census::digest::take_written;
 use round::value::Rule;
+use whole::shortest::shortest_width;
 use whole::taking::Taking;
 use whole::taking::take_whole;
 use whole::writing::write_whole;
@@ -41,6 +45,14 @@ pub(crate) fn take_out(digest: u64, n: u32, word: u64) -> u64 {
 pub(crate) fn take_round(digest: u64, n: u32, bits: u64) -> u64 {
     let written = write_whole(Width { bits: n }, Rule::Rounded, whole_of(bits));
     take_out(take_whole_in(digest, n, bits), n, word_or(written, 0))
+}
+
+// The shortest width of a whole number.
+pub(crate) fn take_shortest(digest: u64, z: i64) -> u64 {
+    match shortest_width(z) {
+        Made::Width(width) => take_kind(digest, 0, width.bits as u64),
+        Made::Refused(refusal) => take_refusal(digest, refusal),
+    }
 }
 
 // The word that was written, or another where the library has refused; what is taken in of it has to show a wrong refusal.

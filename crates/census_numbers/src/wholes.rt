@@ -1,11 +1,10 @@
-// Parts 18 to 22: the ways in of whole numbers, and their rounds, in order, at limits, at powers of two, and drawn.
+// Parts 18 to 22: the ways in of whole numbers, and their rounds, in order, at limits, at powers of two, and drawn. Part 53 has the same order.
 use crate::around::Ways;
 use crate::around::take_both_of_five;
 use crate::around::take_both_of_three;
 use crate::around::take_three;
+use crate::around::take_ways;
 use crate::drawn::without_lowest;
-use crate::ways::take_round;
-use crate::ways::take_whole_in;
 use bounds::width::Limit;
 use bounds::width::Width;
 use census::bits::ALL_BITS;
@@ -18,9 +17,11 @@ use census::line::print_of_one;
 use census::run::Run;
 ghost use Prim.Native.Nat.{_≤_};
 
-// Part 18: the first place is that of -70,000.
-pub(crate) fn take_in_order(digest: u64, n: u32, place: u64) -> u64 {
-    take_whole_in(digest, n, std::num::wrapping_sub_u64(place, 70_000))
+// Parts 18 and 53: the first place is that of -70,000.
+pub(crate) fn take_in_order(ways: Ways, digest: u64, n: u32, place: u64) -> u64
+    requires { ⌜ (2 ≤ n) × (n ≤ 64) ⌝ }
+{
+    take_ways(ways, digest, n, std::num::wrapping_sub_u64(place, 70_000))
 }
 
 // Part 19.
@@ -43,7 +44,7 @@ fn limit_of(n: u32) -> u64 {
 pub(crate) fn print_brink(name: &[u8], n: u32)
     requires { ⌜ (2 ≤ n) × (n ≤ 64) ⌝ }
 {
-    print_of_one(name, n, take_past_ends(take_ends(n), n));
+    print_of_one(name, n, take_past_ends(take_ends(Ways::WholeRound, n), n));
 }
 
 // The words around that of value 2^63. Below width 4 there is none.
@@ -56,16 +57,21 @@ fn take_past_ends(digest: u64, n: u32) -> u64
     take_both_of_five(Ways::Out, digest, n, 7 << (n - 4))
 }
 
-fn take_ends(n: u32) -> u64 {
-    let after_ends = take_near_ends(EMPTY, n, TOP_BIT);
-    let after_next = take_near_ends(after_ends, n, TOP_BIT + 1);
-    let after_third = take_near_ends(after_next, n, TOP_BIT + 2);
-    take_near_ends(after_third, n, TOP_BIT + 3)
+// The four least numbers and the four greatest ones, from the ends on.
+pub(crate) fn take_ends(ways: Ways, n: u32) -> u64
+    requires { ⌜ (2 ≤ n) × (n ≤ 64) ⌝ }
+{
+    let after_ends = take_near_ends(ways, EMPTY, n, TOP_BIT);
+    let after_next = take_near_ends(ways, after_ends, n, TOP_BIT + 1);
+    let after_third = take_near_ends(ways, after_next, n, TOP_BIT + 2);
+    take_near_ends(ways, after_third, n, TOP_BIT + 3)
 }
 
-// The rounds of a number near the least one, and of the number as near to the greatest one.
-fn take_near_ends(digest: u64, n: u32, bits: u64) -> u64 {
-    take_round(take_round(digest, n, bits), n, ALL_BITS - bits)
+// A number near the least one, and the number as near to the greatest one.
+fn take_near_ends(ways: Ways, digest: u64, n: u32, bits: u64) -> u64
+    requires { ⌜ (2 ≤ n) × (n ≤ 64) ⌝ }
+{
+    take_ways(ways, take_ways(ways, digest, n, bits), n, ALL_BITS - bits)
 }
 
 // Part 21: around 2^k and 2^63 - 2^k, k being the place.

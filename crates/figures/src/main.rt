@@ -12,6 +12,7 @@ use crate::lines::print_word;
 use crate::lines::print_writing;
 use crate::numbers::print_binary64_in;
 use crate::numbers::print_binary64_out;
+use crate::numbers::print_shortest;
 use crate::numbers::print_whole_in;
 use crate::numbers::print_whole_out;
 use round::value::Rule;
@@ -34,6 +35,11 @@ fn main() {
     print_own_bits_below_12();
     print_own_bits_from_12();
     print_sayings();
+    print_shortest_of_few();
+    print_shortest_of_counts();
+    print_shortest_of_many();
+    print_shortest_near_the_end();
+    print_shortest_below_zero();
 }
 
 fn print_words() {
@@ -341,6 +347,95 @@ fn print_sayings_of_binary64() {
     print_binary64_in(16, Rule::Rounded, -0.0);
     print_binary64_in(16, Rule::Rounded, f64::from_bits(0xffef_ffff_ffff_ffff));
     print_binary64_in(16, Rule::Rounded, f64::from_bits(0x8000_0000_0000_0001));
+}
+
+// The numbers up to 10. Proposition 4 as printed gives 9 for 9, which needs 10.
+fn print_shortest_of_few() {
+    print_shortest(0);
+    print_shortest(1);
+    print_shortest(2);
+    print_shortest(3);
+    print_shortest(4);
+    print_shortest(5);
+    print_shortest(6);
+    print_shortest(7);
+    print_shortest(8);
+    print_shortest(9);
+    print_shortest(10);
+}
+
+// A power of two needs far less than its neighbours.
+fn print_shortest_of_counts() {
+    print_shortest(16);
+    print_shortest(17);
+    print_shortest(42);
+    print_shortest(255);
+    print_shortest(256);
+    print_shortest(257);
+    print_shortest(511);
+    print_shortest(512);
+    print_shortest(513);
+    print_shortest(514);
+    print_shortest(515);
+    print_shortest(516);
+    print_shortest(1023);
+    print_shortest(1024);
+    print_shortest(1025);
+    print_shortest(2048);
+    print_shortest(4095);
+    print_shortest(4096);
+    print_shortest(65_535);
+    print_shortest(65_536);
+}
+
+// The limits of widths 32 and 64, which are 2^24 and 2^55, with the first numbers past them, and other powers of two.
+fn print_shortest_of_many() {
+    print_shortest(16_777_215);
+    print_shortest(16_777_216);
+    print_shortest(16_777_217);
+    print_shortest(16_777_218);
+    print_shortest(4_294_967_296);
+    print_shortest(4_294_967_295);
+    print_shortest(18_014_398_509_481_985);
+    print_shortest(36_028_797_018_963_967);
+    print_shortest(36_028_797_018_963_968);
+    print_shortest(36_028_797_018_963_969);
+    print_shortest(36_028_797_018_963_970);
+    print_shortest(72_057_594_037_927_936);
+    print_shortest(72_057_594_037_927_938);
+}
+
+// From 2^62 on only multiples of 2^8 have a word.
+fn print_shortest_near_the_end() {
+    print_shortest(4_611_686_018_427_387_904);
+    print_shortest(4_611_686_018_427_388_160);
+    print_shortest(4_611_686_018_427_388_032);
+    print_shortest(4_611_686_018_427_387_903);
+    print_shortest(9_223_372_036_854_775_807);
+    print_shortest(9_223_372_036_854_775_296);
+    print_shortest(9_223_372_036_854_775_552);
+    print_shortest(9_223_372_036_854_775_680);
+}
+
+// As their opposites; that of -2^63 is no i64.
+fn print_shortest_below_zero() {
+    print_shortest(-1);
+    print_shortest(-2);
+    print_shortest(-3);
+    print_shortest(-8);
+    print_shortest(-9);
+    print_shortest(-10);
+    print_shortest(-512);
+    print_shortest(-513);
+    print_shortest(-515);
+    print_shortest(-1024);
+    print_shortest(-16_777_217);
+    print_shortest(-36_028_797_018_963_968);
+    print_shortest(-36_028_797_018_963_969);
+    print_shortest(-4_611_686_018_427_387_904);
+    print_shortest(-9_223_372_036_854_775_807);
+    print_shortest(-9_223_372_036_854_775_296);
+    print_shortest(-0x7fff_ffff_ffff_ffff - 1);
 }
 
 fn plus(m: u64, k: i32) -> Value {

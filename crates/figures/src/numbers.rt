@@ -1,4 +1,4 @@
-// Lines of whole numbers and of binary64: what goes in or out, and the answer.
+// Lines of whole numbers and of binary64: what goes in or out, or is asked of a whole number, and the answer.
 use crate::lines::print_refusal;
 use crate::lines::print_width;
 use crate::lines::print_word_of_width;
@@ -9,8 +9,10 @@ use crate::text::print_signed;
 use binary64::taking::Binary64;
 use binary64::taking::take_binary64;
 use binary64::writing::write_binary64;
+use bounds::width::Made;
 use bounds::width::Width;
 use round::value::Rule;
+use whole::shortest::shortest_width;
 use whole::taking::Taking;
 use whole::taking::Whole;
 use whole::taking::take_whole;
@@ -39,6 +41,23 @@ fn print_taking(rule: Taking) {
         Taking::Nearest => print_bytes(b" nearest"),
         Taking::Strict => print_bytes(b" strict"),
     }
+}
+
+// The shortest width of a whole number.
+pub(crate) fn print_shortest(x: i64) {
+    print_bytes(b"whole number ");
+    print_signed(x);
+    match shortest_width(x) {
+        Made::Width(width) => {
+            print_bytes(b" needs ");
+            print_width(width.bits);
+        }
+        Made::Refused(refusal) => {
+            print_bytes(b" is ");
+            print_refusal(refusal);
+        }
+    }
+    print_bytes(b"\n");
 }
 
 // A binary64 number by its bit pattern.

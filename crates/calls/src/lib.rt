@@ -9,10 +9,12 @@ use ledusprig::handed::columns::HandedWriting;
 use ledusprig::handed::numbers::HandedNumber;
 use ledusprig::handed::numbers::HandedWhole;
 use ledusprig::handed::widths::HandedLimit;
+use ledusprig::handed::widths::HandedWidth;
 use ledusprig::handed::words::HandedComparison;
 use ledusprig::handed::words::HandedReading;
 use ledusprig::handed::words::HandedSaying;
 use ledusprig::handed::words::HandedWord;
+use ledusprig::numbers::takum_shortest_width;
 use ledusprig::numbers::takum_take_binary64;
 use ledusprig::numbers::takum_take_whole;
 use ledusprig::numbers::takum_write_binary64;
@@ -26,7 +28,7 @@ use ledusprig::words::takum_move;
 use ledusprig::words::takum_negate;
 use ledusprig::words::takum_read;
 use ledusprig::words::takum_write;
-ghost use Rattle.promises.specs.Face.{isStrict, HandsLargest, HandsSmallest, HandsNaR, HandsLimit, HandsReading, HandsComparison, HandsNegated, HandsWritten, HandsMoved, HandsWholeWritten, HandsWhole, HandsBinary64Written, HandsNumber, HandsColumn, HandsBlock, HandsBlockWritten};
+ghost use Rattle.promises.specs.Face.{isStrict, HandsLargest, HandsSmallest, HandsNaR, HandsLimit, HandsReading, HandsComparison, HandsNegated, HandsWritten, HandsMoved, HandsWholeWritten, HandsWhole, HandsShortest, HandsBinary64Written, HandsNumber, HandsColumn, HandsBlock, HandsBlockWritten};
 
 pub fn call_largest(n: u32) -> HandedWord
     ensures { λ r. ⌜ HandsLargest n r ⌝ }
@@ -92,6 +94,12 @@ pub fn call_take_whole(n: u32, taking: u32, word: u64) -> HandedWhole
     ensures { λ r. ⌜ HandsWhole n (isStrict taking) word r ⌝ }
 {
     takum_take_whole(n, taking, word)
+}
+
+pub fn call_shortest_width(x: i64) -> HandedWidth
+    ensures { λ r. ⌜ HandsShortest x r ⌝ }
+{
+    takum_shortest_width(x)
 }
 
 pub fn call_write_binary64(n: u32, rule: u32, x: f64) -> HandedSaying

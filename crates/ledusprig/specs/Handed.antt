@@ -15,6 +15,7 @@ use Rattle.order.specs.declared.order.Comparison.{Comparison}
 use Rattle.word.specs.declared.reading.Kind.{Kind}
 use Rattle.word.specs.declared.reading.Reading.{Reading}
 use Rattle.bounds.specs.declared.width.Limit.{Limit}
+use Rattle.bounds.specs.declared.width.Made.{Made}
 use Rattle.round.specs.declared.value.Rule.{Rule}
 use Rattle.whole.specs.declared.taking.Taking.{Taking}
 use Rattle.whole.specs.declared.taking.Whole.{Whole}
@@ -31,6 +32,7 @@ use Rattle.ledusprig.specs.declared.handed.words.HandedSaying.{HandedSay
 use Rattle.ledusprig.specs.declared.handed.words.HandedReading.{HandedReading}
 use Rattle.ledusprig.specs.declared.handed.words.HandedComparison.{HandedComparison}
 use Rattle.ledusprig.specs.declared.handed.widths.HandedLimit.{HandedLimit}
+use Rattle.ledusprig.specs.declared.handed.widths.HandedWidth.{HandedWidth}
 use Rattle.ledusprig.specs.declared.handed.numbers.HandedWhole.{HandedWhole}
 use Rattle.ledusprig.specs.declared.handed.numbers.HandedNumber.{HandedNumber}
 use Rattle.ledusprig.specs.declared.handed.columns.HandedColumn.{HandedColumn}
@@ -71,6 +73,10 @@ comparisonHanded (Comparison.Refused q) = record { refusal = numberOf q; order =
 abbrev pub limitHanded : Limit → HandedLimit
 limitHanded (Limit.Count limit) = record { refusal = 0; limit = limit }
 limitHanded (Limit.Refused q) = record { refusal = numberOf q; limit = 0 }
+
+abbrev pub widthHanded : Made → HandedWidth
+widthHanded (Made.Width width) = record { refusal = 0; width = width .bits }
+widthHanded (Made.Refused q) = record { refusal = numberOf q; width = 0 }
 
 abbrev pub wholeHanded : Whole → HandedWhole
 wholeHanded (Whole.Is x) = record { refusal = 0; whole = x }

@@ -35,6 +35,7 @@ use Rattle.round.proofs.Rounding.{rounded-one, exact-rounded}
 use Rattle.round.proofs.Rules.{zero-value}
 use Rattle.whole.specs.Wholes.{IsNearestWhole}
 use Rattle.whole.proofs.NearestWholes.{one-nearest-whole}
+use Rattle.whole.proofs.OneOutcome.{one-shortest}
 use Rattle.binary64.specs.Nearest.{NearestBinary64}
 use Rattle.column.specs.Counts.{Counts, KeepsTheMeaning}
 use Rattle.column.proofs.Counts.{counts-one}
@@ -45,6 +46,7 @@ use Rattle.ledusprig.specs.declared.handed.words.HandedSaying.{HandedSaying}
 use Rattle.ledusprig.specs.declared.handed.words.HandedReading.{HandedReading}
 use Rattle.ledusprig.specs.declared.handed.words.HandedComparison.{HandedComparison}
 use Rattle.ledusprig.specs.declared.handed.widths.HandedLimit.{HandedLimit}
+use Rattle.ledusprig.specs.declared.handed.widths.HandedWidth.{HandedWidth}
 use Rattle.ledusprig.specs.declared.handed.numbers.HandedWhole.{HandedWhole}
 use Rattle.ledusprig.specs.declared.handed.numbers.HandedNumber.{HandedNumber}
 use Rattle.ledusprig.specs.declared.handed.columns.HandedColumn.{HandedColumn}
@@ -53,8 +55,8 @@ use Rattle.ledusprig.specs.declared.handed.columns.HandedWriting.{HandedWriting
 use Rattle.ledusprig.specs.Handed.{kindHanded}
 use Rattle.promises.specs.Nearest.{OneNumberIsTheNearest}
 use Rattle.promises.specs.Numbers.{IsWhole}
-use Rattle.promises.specs.Refusals.{Line, line, width, stray, nar, over, room, size, mark, check, blockWidth, count, fill, writtenWidth, writtenCount}
-use Rattle.promises.specs.Face.{FieldFollows, NoneHolds, HandsWord, HandsSaid, inexact, IsGiven, IsNaR, IsLargest, IsSmallest, CountsUpTo, HandsLargest, HandsSmallest, HandsNaR, HandsLimit, NoNumber, IsToldBy, HandsReading, HandsComparison, HandsNegated, HandsValue, HandsWritten, HandsWholeWritten, HandsBinary64Written, HandsWhole, HandsNumber, wordLines, IsMovedTo, HandsMoved, MovedAll, RefusedAtPosition, HandsColumn, HandsBlock, WrittenAll, StrayAtPosition, HandsBlockWritten}
+use Rattle.promises.specs.Refusals.{Line, line, width, stray, nar, over, noWidth, room, size, mark, check, blockWidth, count, fill, writtenWidth, writtenCount}
+use Rattle.promises.specs.Face.{FieldFollows, NoneHolds, HandsWord, HandsSaid, inexact, IsGiven, IsNaR, IsLargest, IsSmallest, CountsUpTo, HandsLargest, HandsSmallest, HandsNaR, HandsLimit, NoNumber, IsToldBy, HandsReading, HandsComparison, HandsNegated, HandsValue, HandsWritten, HandsWholeWritten, HandsBinary64Written, HandsWhole, HandsNumber, HandsShortest, wordLines, IsMovedTo, HandsMoved, MovedAll, RefusedAtPosition, HandsColumn, HandsBlock, WrittenAll, StrayAtPosition, HandsBlockWritten}
 use Rattle.promises.proofs.Nearest.{one-number-is-the-nearest}
 
 -- ---- for every struct
@@ -222,6 +224,14 @@ number-called-one n w r s = follows-one (width n ∷ stray n w ∷ []) (λ e (f,
     by e (inl (f, z, h, x)) (inr (f', y, h')) = absurd (not-NaR z (sym h ∙ h'))
     by e (inr (f, x, h)) (inl (f', z, h', y)) = absurd (not-NaR z (sym h' ∙ h))
     by e (inr (f, x, h)) (inr (f', y, h')) = same e (both f f') (both x y)
+
+-- ---- the shortest width
+pub shortest-called-one : (x : ℤ) (r s : HandedWidth) → HandsShortest x r → HandsShortest x s → r ≡ s
+unfolding HandsShortest
+shortest-called-one x r s = follows-one (noWidth x ∷ []) (λ e z z'. same e (both z z')) (λ none (e, y) (e', z). same (both e e') (one-shortest x (r .width) (s .width) y z))
+  where
+    same : r .refusal ≡ s .refusal → r .width ≡ s .width → r ≡ s
+    same e f = λ i. record { refusal = e i; width = f i }
 
 -- ---- moves
 moved-one : (n : ℕ) → 2 ≤ n → n ≤ 64 → (strict : Bool) (t : Takum) (v w : ℕ) → IsMovedTo n strict t v → IsMovedTo n strict t w → v ≡ w

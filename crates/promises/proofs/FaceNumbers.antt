@@ -8,6 +8,7 @@ use native.Mathlib.Omega.{arith}
 use lib.Ieee.{Float, nan, inf, fin, up, down, binary64, ofBits}
 use lib.IntN.{ℤ, pos, natAbs, _+ℤ_}
 use Rattle.bounds.specs.declared.answer.Answer.{Answer}
+use Rattle.bounds.specs.declared.width.Made.{Made}
 use Rattle.bounds.specs.declared.refusal.Refusal.{Refusal}
 use Rattle.bounds.specs.declared.refusal.Verdict.{Verdict}
 use Rattle.bounds.specs.declared.saying.Saying.the-variants.{Exact}
@@ -25,6 +26,7 @@ use Rattle.write.specs.Sayings.{SaysMoved, WritesAndSays, MovesAndSays}
 use Rattle.whole.specs.declared.taking.Whole.{Whole}
 use Rattle.whole.specs.Wholes.{IsNearestWhole, WritesWhole, TakesWhole}
 use Rattle.whole.specs.Sayings.{WritesWholeAndSays}
+use Rattle.whole.specs.Shortest.{IsShortest, GivesShortest}
 use Rattle.whole.proofs.InAndOut.{strictly-taken}
 use Rattle.whole.proofs.TakenOut.{taken-out}
 use Rattle.whole.proofs.WholeValues.{valueOf}
@@ -34,14 +36,15 @@ use Rattle.binary64.specs.Takes as taken
 use Rattle.binary64.specs.Writes.{IsWrittenBinary64, WritesBinary64}
 use Rattle.binary64.specs.Sayings.{SaysBinary64, WritesBinary64AndSays}
 use Rattle.ledusprig.specs.declared.handed.words.HandedSaying.{HandedSaying}
+use Rattle.ledusprig.specs.declared.handed.widths.HandedWidth.{HandedWidth}
 use Rattle.ledusprig.specs.declared.handed.numbers.HandedWhole.{HandedWhole}
 use Rattle.ledusprig.specs.declared.handed.numbers.HandedNumber.{HandedNumber}
-use Rattle.ledusprig.specs.Handed.{HandsOver, ruleOf, takingOf, sayingHanded, wholeHanded, numberHanded}
+use Rattle.ledusprig.specs.Handed.{HandsOver, ruleOf, takingOf, sayingHanded, widthHanded, wholeHanded, numberHanded}
 use Rattle.promises.specs.Demands.{TheNaRWord}
 use Rattle.promises.specs.Nearest.{TheNumberOutIsTheNearest}
 use Rattle.promises.specs.Numbers.{IsWhole, AWordThatIsNotNaRGoesOutAsANumber}
-use Rattle.promises.specs.Refusals.{Line, FollowsUpTo, Follows, width, stray, nar, over, moveLines}
-use Rattle.promises.specs.Face.{inexact, IsGiven, IsNaR, HandsSaid, HandsValue, HandsWritten, HandsWholeWritten, HandsBinary64Written, HandsWhole, HandsNumber, wordLines, IsMovedTo, HandsMoved}
+use Rattle.promises.specs.Refusals.{Line, FollowsUpTo, Follows, width, stray, nar, over, noWidth, moveLines}
+use Rattle.promises.specs.Face.{inexact, IsGiven, IsNaR, HandsSaid, HandsValue, HandsWritten, HandsWholeWritten, HandsBinary64Written, HandsWhole, HandsNumber, HandsShortest, wordLines, IsMovedTo, HandsMoved}
 use Rattle.promises.proofs.Demands.{the-NaR-word}
 use Rattle.promises.proofs.FaceLaws.{hands, said-hands, unrefused, numbered, last-retold, rule-retold, takes-strictly}
 use Rattle.promises.proofs.Lines.{width-tells, follow}
@@ -156,3 +159,12 @@ take-binary64-hands n w = hands Binary64.Refused (λ r. r .refusal) (λ r. (r .r
     by (Binary64.Number x) t none = let (z, means, near) = the-number-out-is-the-nearest n w x t in (refl, inl (refl, z, means, near))
     by Binary64.Nar t none = (refl, inr (refl, refl, no-number n w (word-through n w (unrefused none t .0)) t))
     by (Binary64.Refused q) t none = absurd (none q refl)
+
+-- ---- the shortest width
+pub shortest-hands : (x : ℤ) (r : HandedWidth) → HandsOver widthHanded (GivesShortest x) r → HandsShortest x r
+unfolding HandsShortest GivesShortest
+shortest-hands x = hands Made.Refused (λ r. r .refusal) (λ r. r .width ≡ 0) (λ r. (r .refusal ≡ 0) × IsShortest x (r .width)) (noWidth x ∷ []) (λ q y. (refl, refl)) by (refusals-follow-the-table .shortest-width x)
+  where
+    by : (a : Made) → GivesShortest x a → ((q : Refusal) → a ≡ Made.Refused q → ⊥) → (widthHanded a .refusal ≡ 0) × IsShortest x (widthHanded a .width)
+    by (Made.Width n) y none = (refl, y)
+    by (Made.Refused q) y none = absurd (none q refl)

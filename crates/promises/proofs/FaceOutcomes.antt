@@ -13,6 +13,7 @@ use Rattle.write.specs.Sayings.{WritesAndSays, MovesAndSays}
 use Rattle.whole.specs.declared.taking.Taking.{Taking}
 use Rattle.whole.specs.Wholes.{TakesWhole}
 use Rattle.whole.specs.Sayings.{WritesWholeAndSays}
+use Rattle.whole.specs.Shortest.{GivesShortest}
 use Rattle.binary64.specs.Takes.{TakesBinary64}
 use Rattle.binary64.specs.Sayings.{WritesBinary64AndSays}
 use Rattle.sheet.specs.declared.writing.Writing.{Writing}
@@ -20,9 +21,9 @@ use Rattle.sheet.specs.Reads.{ReadsBlock}
 use Rattle.sheet.specs.Writes.{WritesBlock, FillsBuffer}
 use Rattle.ledusprig.specs.declared.handed.columns.HandedColumn.{HandedColumn}
 use Rattle.ledusprig.specs.declared.handed.columns.HandedWriting.{HandedWriting}
-use Rattle.ledusprig.specs.Handed.{HandsOver, MovesTheColumn, WritesTheBlock, wordHanded, sayingHanded, readingHanded, comparisonHanded, limitHanded, wholeHanded, numberHanded, columnHanded, blockHanded, writingHanded}
+use Rattle.ledusprig.specs.Handed.{HandsOver, MovesTheColumn, WritesTheBlock, wordHanded, sayingHanded, readingHanded, comparisonHanded, limitHanded, widthHanded, wholeHanded, numberHanded, columnHanded, blockHanded, writingHanded}
 use Rattle.ledusprig.proofs.OneOutcome.{hands-over-one}
-use Rattle.promises.proofs.OneOutcome.{gives-word-one, gives-limit-one, reads-one, compares-one, negates-one, writes-and-says-one, moves-and-says-one, writes-whole-and-says-one, takes-whole-one, writes-binary64-and-says-one, takes-binary64-one, moved-column-one, reads-block-one, writes-block-one, fills-buffer-one}
+use Rattle.promises.proofs.OneOutcome.{gives-word-one, gives-limit-one, reads-one, compares-one, negates-one, writes-and-says-one, moves-and-says-one, writes-whole-and-says-one, takes-whole-one, gives-shortest-one, writes-binary64-and-says-one, takes-binary64-one, moved-column-one, reads-block-one, writes-block-one, fills-buffer-one}
 
 -- two outcomes of a function whose contract is HandsOver handed Gives are equal
 abbrev pub One : {Answers Handed : Type 0} → (Answers → Handed) → (Answers → Type 0) → Type 0
@@ -55,6 +56,9 @@ whole-written-handed-one n rule x r s p q = hands-over-one p q (writes-whole-and
 
 pub whole-taken-handed-one : (n : ℕ) (rule : Taking) (w : ℕ) → One wholeHanded (TakesWhole n rule w)
 whole-taken-handed-one n rule w r s p q = hands-over-one p q (takes-whole-one n rule w)
+
+pub shortest-handed-one : (x : ℤ) → One widthHanded (GivesShortest x)
+shortest-handed-one x r s p q = hands-over-one p q (gives-shortest-one x)
 
 pub binary64-written-handed-one : (n : ℕ) (rule : Rule) (x : Float) → One sayingHanded (WritesBinary64AndSays n rule x)
 binary64-written-handed-one n rule x r s p q = hands-over-one p q (writes-binary64-and-says-one n rule x)

@@ -1,10 +1,10 @@
 -- The promises that specs/Shortest.antt states, from the laws of the shortest width. Assumes nothing.
-use mathlib.Core.Path.{_≡_, refl, sym, ap, _∙_, subst, subst₂}
+use mathlib.Core.Path.{_≡_, refl, sym, ap, _∙_, subst}
 use mathlib.Core.Bool.{_&&_}
 use mathlib.Core.Logic.{_⊎_, inl, inr}
 use Prim.Native.Nat.{ℕ, zero, suc, _+_, _-_, _*_, _^_, _≤_, _<_}
 use native.Mathlib.Decide.{decLt}
-use native.Mathlib.Nat.{le-antisymm, le-of-suc-le-suc, lt-of-le-of-lt, lt-of-not-le, zero-lt-suc}
+use native.Mathlib.Nat.{lt-of-le-of-lt, lt-of-not-le, zero-lt-suc}
 use native.Mathlib.Omega.{arith}
 use lib.Count.{leadingZeros, trailingZeros}
 use borrow.Author.Tests.{ltb-true, leb-true}
@@ -21,8 +21,8 @@ use Rattle.nearest.specs.Nearest.{HasValue}
 use Rattle.write.specs.Writes.{isNegative}
 use Rattle.whole.specs.Wholes.{overTest}
 use Rattle.whole.specs.Limits.{EveryWholeNumberUpToTheLimitHasAWord, TheLimitPlusOneHasNoWord}
-use Rattle.whole.specs.Shortest.{HasWord, IsShortest, GivesShortest}
-use Rattle.whole.specs.Lengths.{IsLog, IsMax, N0, upTo, Letters, when, powerOfTwo, bitsArePowerOfTwo, reducedOnce, printedLength, correctedLength, IsLength}
+use Rattle.whole.specs.Shortest.{HasWord, GivesShortest}
+use Rattle.whole.specs.Lengths.{IsLog, IsMax, N0, upTo, when, powerOfTwo, bitsArePowerOfTwo, reducedOnce, printedLength, correctedLength, IsLength}
 use Rattle.whole.specs.Parts.{IsFirstReduction, IsLastReduction}
 use Rattle.whole.proofs.LimitLarge.{wider}
 use Rattle.whole.proofs.LimitWords.{every-whole-number-up-to-the-limit-has-a-word, the-limit-plus-one-has-no-word}

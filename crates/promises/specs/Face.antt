@@ -22,6 +22,7 @@ use Rattle.round.specs.Writes.{IsRounded, IsExact}
 use Rattle.write.specs.Writes.{isNegative}
 use Rattle.write.specs.Sayings.{SaysMoved}
 use Rattle.whole.specs.Wholes.{IsNearestWhole}
+use Rattle.whole.specs.Shortest.{IsShortest}
 use Rattle.binary64.specs.Nearest.{NearestBinary64}
 use Rattle.column.specs.Counts.{Counts, KeepsTheMeaning}
 use Rattle.sheet.specs.Layout as block
@@ -31,13 +32,14 @@ use Rattle.ledusprig.specs.declared.handed.words.HandedSaying.{HandedSaying}
 use Rattle.ledusprig.specs.declared.handed.words.HandedReading.{HandedReading}
 use Rattle.ledusprig.specs.declared.handed.words.HandedComparison.{HandedComparison}
 use Rattle.ledusprig.specs.declared.handed.widths.HandedLimit.{HandedLimit}
+use Rattle.ledusprig.specs.declared.handed.widths.HandedWidth.{HandedWidth}
 use Rattle.ledusprig.specs.declared.handed.numbers.HandedWhole.{HandedWhole}
 use Rattle.ledusprig.specs.declared.handed.numbers.HandedNumber.{HandedNumber}
 use Rattle.ledusprig.specs.declared.handed.columns.HandedColumn.{HandedColumn}
 use Rattle.ledusprig.specs.declared.handed.columns.HandedBlock.{HandedBlock}
 use Rattle.ledusprig.specs.declared.handed.columns.HandedWriting.{HandedWriting}
 use Rattle.promises.specs.Numbers.{IsWhole}
-use Rattle.promises.specs.Refusals.{Line, line, width, stray, nar, over, room, size, mark, check, blockWidth, count, fill, writtenWidth, writtenCount}
+use Rattle.promises.specs.Refusals.{Line, line, width, stray, nar, over, noWidth, room, size, mark, check, blockWidth, count, fill, writtenWidth, writtenCount}
 
 -- ---- how a struct follows the table
 -- The first line that holds gives the field `refusal` its number, and Refused is so; where none holds, Then is so.
@@ -166,6 +168,11 @@ HandsWhole n strict w r = Hands (r .refusal) (width n ∷ stray n w ∷ nar n w 
 unfoldable pub HandsNumber : ℕ → ℕ → HandedNumber → Type 0
 HandsNumber n w r = Hands (r .refusal) (width n ∷ stray n w ∷ []) ((r .real ≡ false) × (r .number ≡ ofBits binary64 0))
     (((r .real ≡ true) × (z : ℤ) × (takum n w ≡ real z) × NearestBinary64 z (r .number)) ⊎ ((r .real ≡ false) × (r .number ≡ nan) × (takum n w ≡ NaR)))
+
+-- ---- takum_shortest_width
+-- the least width from 2 to 64 at which the number has a word
+unfoldable pub HandsShortest : ℤ → HandedWidth → Type 0
+HandsShortest x r = Hands (r .refusal) (noWidth x ∷ []) (r .width ≡ 0) (IsShortest x (r .width))
 
 -- ---- takum_move and takum_move_column
 -- the lines of a word in a move, after those of the widths

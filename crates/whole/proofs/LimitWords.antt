@@ -16,7 +16,6 @@ use Rattle.sizes.specs.declared.size.Size.{Size}
 use Rattle.word.specs.Reads.{num, den, IsSize}
 use Rattle.sizes.specs.Sizes.{withoutSign}
 use Rattle.word.specs.Takum.{p, F, c}
-use Rattle.word.proofs.Sizes.{size}
 use Rattle.nearest.specs.Nearest.{HasValue}
 use Rattle.round.proofs.Rules.{zero-value}
 use Rattle.round.proofs.Sized.{has-form}

@@ -45,12 +45,15 @@ unfolding TakesWhole
 takes-whole-one n rule w = decided-one Whole.Refused (IsTakenWhole rule (takum n w)) (taken-one rule (takum n w))
 
 -- ---- the shortest width: of two least ones neither is less
-shortest-one : (x : ℤ) (n k : ℕ) → IsShortest x n → IsShortest x k → n ≤ k
-shortest-one x n k y z = not-more (λ (l : k < n). y .none-shorter k (z .least) l (z .has))
+not-longer : (x : ℤ) (n k : ℕ) → IsShortest x n → IsShortest x k → n ≤ k
+not-longer x n k y z = not-more (λ (l : k < n). y .none-shorter k (z .least) l (z .has))
+
+pub one-shortest : (x : ℤ) (n k : ℕ) → IsShortest x n → IsShortest x k → n ≡ k
+one-shortest x n k y z = le-antisymm (not-longer x n k y z) (not-longer x k n z y)
 
 pub gives-shortest-one : (x : ℤ) (a b : Made) → GivesShortest x a → GivesShortest x b → a ≡ b
 unfolding GivesShortest
-gives-shortest-one x (Made.Width n) (Made.Width k) y z = ap (λ (bits : ℕ). Made.Width (record { bits = bits })) (le-antisymm (shortest-one x (n .bits) (k .bits) y z) (shortest-one x (k .bits) (n .bits) z y))
+gives-shortest-one x (Made.Width n) (Made.Width k) y z = ap (λ (bits : ℕ). Made.Width (record { bits = bits })) (one-shortest x (n .bits) (k .bits) y z)
 gives-shortest-one x (Made.Width n) (Made.Refused q) y z = absurd (z .1 (n .bits) (y .least) (y .most) (y .has))
 gives-shortest-one x (Made.Refused q) (Made.Width n) y z = absurd (y .1 (n .bits) (z .least) (z .most) (z .has))
 gives-shortest-one x (Made.Refused q) (Made.Refused p) y z = ap Made.Refused (y .0 ∙ sym (z .0))

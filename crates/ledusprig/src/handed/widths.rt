@@ -1,7 +1,8 @@
-// What a width's calls hand over beside words: the exact-count limit.
+// What the calls about widths hand over beside words: the exact-count limit, and a width.
 use bounds::width::Limit;
+use bounds::width::Made;
 ghost use mathlib.Core.Path.{_≡_};
-ghost use Rattle.ledusprig.specs.Handed.{limitHanded};
+ghost use Rattle.ledusprig.specs.Handed.{limitHanded, widthHanded};
 
 #[repr(C)]
 pub struct HandedLimit {
@@ -17,6 +18,27 @@ pub(crate) fn hand_limit(answer: Limit) -> HandedLimit
         Limit::Refused(q) => HandedLimit {
             refusal: q.number(),
             limit: 0,
+        },
+    }
+}
+
+#[repr(C)]
+pub struct HandedWidth {
+    pub refusal: u32,
+    pub width: u32,
+}
+
+pub(crate) fn hand_width(answer: Made) -> HandedWidth
+    ensures { λ r. ⌜ r ≡ widthHanded answer ⌝ }
+{
+    match answer {
+        Made::Width(width) => HandedWidth {
+            refusal: 0,
+            width: width.bits,
+        },
+        Made::Refused(q) => HandedWidth {
+            refusal: q.number(),
+            width: 0,
         },
     }
 }

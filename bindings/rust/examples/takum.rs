@@ -17,6 +17,7 @@ const HELP: &str = "Usage: takum QUESTION
     compare WIDTH WORD WORD           the order of two words
     negate WIDTH WORD                 the word with the negated value
     limit WIDTH                       up to where every whole number has a word
+    shortest-width NUMBER             the fewest bits in which a whole number has a word
     largest WIDTH, smallest WIDTH     the end words
     nar WIDTH, zero WIDTH             the words that have no sign
     help                              this text
@@ -103,6 +104,7 @@ fn answer(given: &[&str]) -> Answer {
         ["compare", n, x, y] => compared(takum(n, x)?, takum(n, y)?),
         ["negate", n, word] => Ok(shown(-takum(n, word)?)),
         ["limit", n] => Ok(limited(width(n)?)),
+        ["shortest-width", x] => shortest(number::<i64>(x, "whole number of 64 bits")?),
         ["largest", n] => Ok(shown(width(n)?.largest())),
         ["smallest", n] => Ok(shown(width(n)?.smallest())),
         ["nar", n] => Ok(shown(width(n)?.nar())),
@@ -278,4 +280,10 @@ fn compared(x: Takum, y: Takum) -> Answer {
 fn limited(width: Width) -> String {
     let limit = width.limit();
     format!("{limit}\nevery whole number from -{limit} to {limit} has a word of {width} bits, and {} has none", limit + 1)
+}
+
+fn shortest(x: i64) -> Answer {
+    let no_word = |refusal| Failure::Refused(format!("{refusal}\n{x} has no word of 64 bits or fewer"));
+    let width = Width::shortest(x).map_err(no_word)?;
+    Ok(format!("{width}\n{x} has the word {:#x} of {width} bits, and none of fewer", Takum::try_from((width, x))?))
 }

@@ -92,6 +92,21 @@ pub fn take_whole(n: u32, taking: Taking, word: u64) -> Result<i64, Refusal> {
     Refusal::unless(answer.refusal, answer.whole)
 }
 
+/// How wide a word a whole number needs: the least width, from 2 to 64, at which one has exactly that value. Every greater width up to 64 has one too, so
+/// [`write_whole`] by the strict rule gives a word from this width on, and refuses below it. `Inexact` where no width up to 64 has one.
+///
+/// ```
+/// use ledusprig::{calls, Refusal};
+///
+/// // a power of two needs far less than its neighbours
+/// assert_eq!([512, 513, 515, -515].map(calls::shortest_width), [Ok(7), Ok(17), Ok(17), Ok(17)]);
+/// assert_eq!(calls::shortest_width(i64::MAX), Err(Refusal::Inexact));
+/// ```
+pub fn shortest_width(x: i64) -> Result<u32, Refusal> {
+    let answer = unsafe { face::takum_shortest_width(x) };
+    Refusal::unless(answer.refusal, answer.width)
+}
+
 /// The word for a binary64 number, and which way it went: NaN and both infinities give NaR, both zeros give zero, and these are exact.
 pub fn write_binary64(n: u32, rule: Rule, x: f64) -> Result<Written, Refusal> {
     written_of(unsafe { face::takum_write_binary64(n, rule as u32, x) })

@@ -41,6 +41,12 @@ pub struct LimitAnswer {
 }
 
 #[repr(C)]
+pub struct WidthAnswer {
+    pub refusal: u32,
+    pub width: u32,
+}
+
+#[repr(C)]
 pub struct WholeAnswer {
     pub refusal: u32,
     pub whole: i64,
@@ -87,6 +93,7 @@ extern "C" {
     pub fn takum_move(from: u32, to: u32, rule: u32, word: u64) -> SayingAnswer;
     pub fn takum_write_whole(n: u32, rule: u32, x: i64) -> SayingAnswer;
     pub fn takum_take_whole(n: u32, taking: u32, word: u64) -> WholeAnswer;
+    pub fn takum_shortest_width(x: i64) -> WidthAnswer;
     pub fn takum_write_binary64(n: u32, rule: u32, x: f64) -> SayingAnswer;
     pub fn takum_take_binary64(n: u32, word: u64) -> NumberAnswer;
     pub fn takum_move_column(

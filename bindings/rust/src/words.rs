@@ -67,6 +67,22 @@ impl Width {
         calls::nar(bits).map(|_| Width { bits })
     }
 
+    /// The width that a whole number needs: the least at which it has a word, or [`Refusal::Inexact`] where none up to 64 has one. Every greater width
+    /// has one too.
+    ///
+    /// ```
+    /// use ledusprig::{Refusal, Takum, Width};
+    ///
+    /// let width = Width::shortest(515)?;
+    /// assert_eq!(width.bits(), 17);
+    /// assert!(Takum::try_from((width, 515_i64)).is_ok());
+    /// assert_eq!(Takum::try_from((Width::W16, 515_i64)), Err(Refusal::Inexact));
+    /// # Ok::<(), Refusal>(())
+    /// ```
+    pub fn shortest(x: i64) -> Result<Width, Refusal> {
+        calls::shortest_width(x).map(|bits| Width { bits })
+    }
+
     /// Its number of bits.
     #[must_use]
     pub const fn bits(self) -> u32 {

@@ -160,6 +160,13 @@ void of_take_whole(given *from, answer *to) {
     }
 }
 
+void of_shortest_width(given *from, answer *to) {
+    takum_width_answer got = takum_shortest_width(take_signed(from));
+    if (!put_refusal(to, got.refusal, got.width == 0)) {
+        put_number(to, "width ", got.width);
+    }
+}
+
 static bool is_nan(uint64_t pattern) {
     return (pattern & 0x7fffffffffffffff) > 0x7ff0000000000000;
 }

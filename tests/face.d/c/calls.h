@@ -10,7 +10,7 @@ typedef void call(given *from, answer *to);
 
 /* Those of one word, and the header's constants (calls.c). */
 call of_constant, of_largest, of_smallest, of_nar, of_limit, of_read, of_compare, of_negate, of_write, of_move, of_write_whole, of_take_whole,
-    of_write_binary64, of_take_binary64;
+    of_shortest_width, of_write_binary64, of_take_binary64;
 
 /* Those that are lent slices (lent.c). */
 call of_move_column, of_read_block, of_write_block;

@@ -22,6 +22,7 @@ static struct {
     {"move", of_move, 0},
     {"write_whole", of_write_whole, 0},
     {"take_whole", of_take_whole, 0},
+    {"shortest_width", of_shortest_width, 0},
     {"write_binary64", of_write_binary64, 0},
     {"take_binary64", of_take_binary64, 0},
     {"move_column", of_move_column, 0},

@@ -156,6 +156,12 @@ pub fn take_whole(given: &mut Given, to: &mut String) {
     put(to, answer, |to, whole| write!(to, "whole {whole}"));
 }
 
+pub fn shortest_width(given: &mut Given, to: &mut String) {
+    let x = given.signed();
+    let answer = same(to, calls::shortest_width(x), Width::shortest(x).map(Width::bits));
+    put(to, answer, |to, width| write!(to, "width {width}"));
+}
+
 pub fn write_binary64(given: &mut Given, to: &mut String) {
     let (n, rule, x) = (given.width(), rule(given), f64::from_bits(given.number()));
     let typed = width(n).and_then(|width| width.write_binary64(rule, x));

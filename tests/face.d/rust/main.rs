@@ -7,7 +7,7 @@ use std::io::BufRead;
 use text::{spelled_out, stop, Given};
 
 /// The calls by their names in a case.
-const CALLS: [(&str, fn(&mut Given, &mut String)); 17] = [
+const CALLS: [(&str, fn(&mut Given, &mut String)); 18] = [
     ("constant", calls::constant),
     ("largest", calls::largest),
     ("smallest", calls::smallest),
@@ -20,6 +20,7 @@ const CALLS: [(&str, fn(&mut Given, &mut String)); 17] = [
     ("move", calls::move_word),
     ("write_whole", calls::write_whole),
     ("take_whole", calls::take_whole),
+    ("shortest_width", calls::shortest_width),
     ("write_binary64", calls::write_binary64),
     ("take_binary64", calls::take_binary64),
     ("move_column", lent::move_column),

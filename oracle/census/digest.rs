@@ -32,7 +32,7 @@ impl Digest {
         self.take(refusal as u64);
     }
 
-    /// A word that is neither written nor moved, a width or a limit.
+    /// A word that is neither written nor moved, a width (a shortest width too) or a limit.
     pub fn take_number(&mut self, answer: Result<u64, Refusal>) {
         match answer {
             Err(refusal) => self.take_refusal(refusal),

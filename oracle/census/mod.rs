@@ -13,6 +13,7 @@ pub mod out;
 mod reading;
 mod results;
 mod runs;
+pub mod shortest;
 pub mod ways;
 pub mod whole;
 pub mod writing;
@@ -28,7 +29,7 @@ pub fn words() -> Vec<String> {
     lines
 }
 
-/// The text of numbers: parts 13 to 27, then 51.
+/// The text of numbers: parts 13 to 27, then 51, then 53 to 56.
 pub fn numbers() -> Vec<String> {
     let mut lines = Vec::new();
     out::push(&mut lines);
@@ -36,6 +37,7 @@ pub fn numbers() -> Vec<String> {
     binary64::push(&mut lines);
     ways::push_refusals(&mut lines);
     halves::push(&mut lines);
+    shortest::push(&mut lines);
     lines
 }
 

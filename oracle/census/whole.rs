@@ -94,12 +94,16 @@ fn tally_lines(lines: &mut Vec<String>) {
 pub fn chosen_whole(sequence: &mut Sequence) -> i64 {
     let [x1, x2] = [(); 2].map(|()| sequence.next_number());
     let s = 1 + x2 % 63;
-    let zeros = (x2 >> 16) % (64 - s);
-    let all_bits = x1 >> s;
-    let m = (all_bits - low_bits(all_bits, zeros as u32)) as i64;
+    let m = shortened(x1, s, (x2 >> 16) % (64 - s));
     if (x2 >> 32) % 2 == 1 {
         -m
     } else {
         m
     }
+}
+
+/// floor(x / 2^s) with its lowest bits, as many as `zeros` says, set to zero; s is at least 1, so it is below 2^63.
+pub fn shortened(x: u64, s: u64, zeros: u64) -> i64 {
+    let all_bits = x >> s;
+    (all_bits - low_bits(all_bits, zeros as u32)) as i64
 }

@@ -1,9 +1,9 @@
 //! Checks of the printed figures against papers 01 and 02; written from the papers alone.
 //!
 //! Each line stands below the sentence of paper 01 that gives it, or that it follows from, in HALVES of paper 02,
-//! Wish 2, in OWN_BITS of Wish 3 and in SAYINGS of Wish 4; the marks P are left out. The words that the papers don't
-//! name were worked out by hand from the fields of Definition 2: S, D, R, C and F from the top. What is said beside a
-//! word (Wish 4) follows from its value and the one offered.
+//! Wish 2, in OWN_BITS of Wish 3, in SAYINGS of Wish 4 and in SHORTEST of Wish 9; the marks P are left out. The words
+//! that the papers don't name were worked out by hand from the fields of Definition 2: S, D, R, C and F from the top.
+//! What is said beside a word (Wish 4) follows from its value and the one offered.
 
 /// Every line below is printed, and no other is.
 pub fn check(lines: &[String]) {
@@ -17,6 +17,7 @@ pub fn check(lines: &[String]) {
         &BINARY64,
         &OWN_BITS,
         &SAYINGS,
+        &SHORTEST,
     ]
     .concat();
     for line in &expected {
@@ -323,4 +324,97 @@ const SAYINGS: [&str; 53] = [
     "width 16 binary64 8000000000000000 rounded gives 0, exact",
     "width 16 binary64 ffefffffffffffff rounded gives 8001, past the end",
     "width 16 binary64 8000000000000001 rounded gives ffff, past the end",
+];
+
+/// Paper 02, Wish 9: "Answer the least width from 2 to 64 at which it has a word." In the strings below the zeros at
+/// the end are left out: appended they change no value. Two bits are the fewest.
+const SHORTEST: [&str; 69] = [
+    // "Zero needs 2." "Width 2: 01 is 1, 11 is -1."
+    "whole number 0 needs width 2",
+    "whole number 1 needs width 2",
+    // 0 1 001, then 3 as 0 1 001 0 1 and 4 as 0 1 001 1.
+    "whole number 2 needs width 5",
+    "whole number 3 needs width 7",
+    "whole number 4 needs width 6",
+    // 0 1 001 1 01, 0 1 001 1 1 and 0 1 001 1 11.
+    "whole number 5 needs width 8",
+    "whole number 6 needs width 7",
+    "whole number 7 needs width 8",
+    // 8 is 0 1 010 00, so 0 1 01. "As printed it gives 9 for the number 9, which needs 10": 0 1 010 00 001. 10 is
+    // 0 1 010 00 01.
+    "whole number 8 needs width 4",
+    "whole number 9 needs width 10",
+    "whole number 10 needs width 9",
+    // 0 1 010 01, 0 1 010 01 0001 and 0 1 010 10 0101.
+    "whole number 16 needs width 7",
+    "whole number 17 needs width 11",
+    "whole number 42 needs width 11",
+    // From 128 to 2^15 - 1 there are three bits C, and a number that is odd has all its bits but the highest in F. 255
+    // has 0 1 011 000 and seven bits F, 256 is 0 1 011 001.
+    "whole number 255 needs width 15",
+    "whole number 256 needs width 8",
+    "whole number 257 needs width 16",
+    // 512 is 0 1 011 01. Its limit being 512, 16 bits have no 513.
+    "whole number 511 needs width 16",
+    "whole number 512 needs width 7",
+    "whole number 513 needs width 17",
+    "whole number 514 needs width 16",
+    "whole number 515 needs width 17",
+    "whole number 516 needs width 15",
+    // 1,024 is 0 1 011 011, 2,048 is 0 1 011 1 and 4,096 is 0 1 011 101.
+    "whole number 1023 needs width 17",
+    "whole number 1024 needs width 8",
+    "whole number 1025 needs width 18",
+    "whole number 2048 needs width 6",
+    "whole number 4095 needs width 19",
+    "whole number 4096 needs width 8",
+    // From 2^15 to 2^31 - 1 there are four bits C. 65,535 has 15 bits F, 65,536 is 0 1 100 0001.
+    "whole number 65535 needs width 24",
+    "whole number 65536 needs width 9",
+    // "2^24 at 32": 2^24 - 1 has 23 bits F and 2^24 + 1 has 24. 2^24 is 0 1 100 1001.
+    "whole number 16777215 needs width 32",
+    "whole number 16777216 needs width 9",
+    "whole number 16777217 needs width 33",
+    "whole number 16777218 needs width 32",
+    // From 2^31 on there are five bits C. 2^32 is 0 1 101 00001, and 2^32 - 1 has 31 bits F.
+    "whole number 4294967296 needs width 10",
+    "whole number 4294967295 needs width 41",
+    // "2^55 at 64." 2^54 + 1 and 2^55 - 1 have 54 bits F, 2^55 + 1 has 55, and 2^55 + 2 has 54. 2^55 is 0 1 101 11.
+    "whole number 18014398509481985 needs width 64",
+    "whole number 36028797018963967 needs width 64",
+    "whole number 36028797018963968 needs width 7",
+    "whole number 36028797018963969 is refused 4",
+    "whole number 36028797018963970 needs width 64",
+    // 2^56 is 0 1 101 11001, and 2^56 + 2 has 55 bits F.
+    "whole number 72057594037927936 needs width 10",
+    "whole number 72057594037927938 is refused 4",
+    // 2^62 is 0 1 101 11111. 2^62 + 2^8 has 54 bits F, 2^62 + 2^7 has 55, and 2^62 - 1 has 61.
+    "whole number 4611686018427387904 needs width 10",
+    "whole number 4611686018427388160 needs width 64",
+    "whole number 4611686018427388032 is refused 4",
+    "whole number 4611686018427387903 is refused 4",
+    // 2^63 - 1 has 62 bits F, 2^63 - 2^9 has 53, 2^63 - 2^8 has 54, and 2^63 - 2^7 has 55.
+    "whole number 9223372036854775807 is refused 4",
+    "whole number 9223372036854775296 needs width 63",
+    "whole number 9223372036854775552 needs width 64",
+    "whole number 9223372036854775680 is refused 4",
+    // "Negation is two's complement negation in n bits", so a number and its negation have words at the same widths.
+    "whole number -1 needs width 2",
+    "whole number -2 needs width 5",
+    "whole number -3 needs width 7",
+    "whole number -8 needs width 4",
+    "whole number -9 needs width 10",
+    "whole number -10 needs width 9",
+    "whole number -512 needs width 7",
+    "whole number -513 needs width 17",
+    "whole number -515 needs width 17",
+    "whole number -1024 needs width 8",
+    "whole number -16777217 needs width 33",
+    "whole number -36028797018963968 needs width 7",
+    "whole number -36028797018963969 is refused 4",
+    "whole number -4611686018427387904 needs width 10",
+    "whole number -9223372036854775807 is refused 4",
+    "whole number -9223372036854775296 needs width 63",
+    // 2^63, which is too large for a whole number, is 0 1 110 000000, so 0 1 11. The negation of that is 1 0 01.
+    "whole number -9223372036854775808 needs width 4",
 ];

@@ -18,6 +18,7 @@ mod own_bits;
 mod patterns;
 mod reading;
 mod sayings;
+mod shortest;
 mod whole;
 mod writing;
 mod written;
@@ -42,6 +43,7 @@ pub fn check_numbers() {
     patterns::check();
     binary64::check();
     midpoints::check();
+    shortest::check();
 }
 
 /// What its sheets stand on besides.

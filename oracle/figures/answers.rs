@@ -1,6 +1,7 @@
 //! The answer to a question of docs/FIGURES.md, in its line of text; written from the papers alone.
 
 use crate::numbers::binary64::{binary64_in, binary64_out, Binary64, NAN};
+use crate::numbers::shortest::shortest_width;
 use crate::numbers::whole::{whole_in, whole_out_nearest, whole_out_strict};
 use crate::words::reading::{read, Kind};
 use crate::words::refusals::{make_width, Refusal};
@@ -41,6 +42,7 @@ fn answer_of(question: &str) -> Result<String, Refusal> {
             Binary64::Number(bits) => format!(" is {bits:x}"),
             Binary64::NoReading => " is no reading".to_string(),
         }),
+        ["whole", "number", x] => Ok(format!(" needs width {}", shortest_width(decimal(x))?)),
         _ => panic!("no question has this form: {question}"),
     }
 }

@@ -34,7 +34,7 @@ pub fn exact_count_limit(width: u32) -> Result<u64, Refusal> {
 }
 
 /// The greatest whole number whose power of two is not above the given number.
-fn floor_log2(number: i64) -> i64 {
+pub fn floor_log2(number: i64) -> i64 {
     let mut exponent = 0;
     while small_power_of_two(exponent + 1) <= number {
         exponent += 1;

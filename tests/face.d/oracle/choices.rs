@@ -132,6 +132,37 @@ impl Choices {
         }
     }
 
+    /// A whole number to find the shortest width of: any, a power of two, a small tally, or one with zeros at its end, half of these so long that they
+    /// need about 64 bits. Of either sign.
+    pub fn whole_to_fit(&mut self) -> i64 {
+        let size = match self.below(8) {
+            0 | 1 => self.whole(),
+            2 => 1 << self.below(64),
+            3 => self.below(2050) as i64,
+            4 | 5 => {
+                let length = 1 + self.below(63);
+                let zeros = self.below(length);
+                self.ending_in_zeros(length, zeros)
+            }
+            _ => {
+                let (length, zeros) = (55 + self.below(9), self.below(10));
+                self.ending_in_zeros(length, zeros)
+            }
+        };
+        if self.once_in(2) {
+            size
+        } else {
+            size.wrapping_neg()
+        }
+    }
+
+    /// A positive number of `length` bits, of which the last `zeros` are zero and the one before them isn't.
+    fn ending_in_zeros(&mut self, length: u64, zeros: u64) -> i64 {
+        let any = self.number() >> (64 - length);
+        let ends = 1 << (length - 1) | 1 << zeros;
+        ((any | ends) >> zeros << zeros) as i64
+    }
+
     /// The midpoint between two neighbouring positive words, held times 2^400.
     fn midpoint(&mut self, width: u32) -> Whole {
         let largest = largest_word(width).unwrap();

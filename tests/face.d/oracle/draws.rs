@@ -3,6 +3,7 @@ use crate::answers::{binary64, reading, sign, text, word, word_said};
 use crate::choices::Choices;
 use crate::lent::{column, sheet_block};
 use crate::numbers::binary64::{binary64_in, binary64_out};
+use crate::numbers::shortest::shortest_width;
 use crate::numbers::whole::{whole_in, whole_out_nearest, whole_out_strict};
 use crate::words::reading::{compare, negate, read};
 use crate::words::widths::{exact_count_limit, largest_word, nar_word, smallest_word};
@@ -11,7 +12,7 @@ use crate::writing::moving::move_word;
 use crate::written::block_to_write;
 
 pub fn case(choices: &mut Choices) -> String {
-    match choices.below(65) {
+    match choices.below(69) {
         0..=3 => of_width(choices),
         4..=8 => of_reading(choices),
         9..=12 => of_comparing(choices),
@@ -24,7 +25,8 @@ pub fn case(choices: &mut Choices) -> String {
         52..=56 => of_binary64_out(choices),
         57..=62 => column(choices),
         63 => sheet_block(choices),
-        _ => block_to_write(choices),
+        64 => block_to_write(choices),
+        _ => of_shortest_width(choices),
     }
 }
 
@@ -109,4 +111,9 @@ fn of_binary64_out(choices: &mut Choices) -> String {
     let n = choices.width();
     let x = choices.word(n);
     format!("take_binary64 {n} {x:#x} = {}", binary64(binary64_out(n, x)))
+}
+
+fn of_shortest_width(choices: &mut Choices) -> String {
+    let whole = choices.whole_to_fit();
+    format!("shortest_width {whole} = {}", text(shortest_width(whole), |width| format!("width {width}")))
 }

@@ -1,4 +1,7 @@
 // The figure of docs/tallies.svg, drawn from the library's own answers: which whole numbers up to 4,096 have a word, and what 515 does.
+mod drawing;
+
+use drawing::{begin, bold, end, text};
 use ledusprig::{Refusal, Rule, Taking, Takum, Width};
 
 const WIDTHS: [u32; 4] = [8, 12, 16, 32];
@@ -21,16 +24,10 @@ const BELOW: f64 = 540.0;
 const END: f64 = BELOW + 4.0 * CELL;
 
 fn main() -> Result<(), Refusal> {
-    let height = END + 66.0;
-    print!("<svg xmlns=\"http://www.w3.org/2000/svg\" viewBox=\"0 0 920 {height}\" font-family=\"sans-serif\" font-size=\"13\"");
-    println!(" role=\"img\" aria-labelledby=\"tallies-title tallies-desc\">");
-    println!("<!-- made by docs/picture from the library's answers -->");
-    println!("<title id=\"tallies-title\">{TITLE}</title>");
-    println!("<desc id=\"tallies-desc\">{}</desc>", description()?);
-    println!("<rect width=\"100%\" height=\"100%\" fill=\"white\"/>");
+    begin("tallies", END + 66.0, TITLE, &description()?);
     draw_shares_of_all()?;
     draw_strips()?;
-    println!("</svg>");
+    end();
     Ok(())
 }
 
@@ -43,14 +40,6 @@ fn description() -> Result<String, Refusal> {
     }
     let [halfway, even] = why()?;
     Ok(format!("{said} {halfway} {even}"))
-}
-
-fn text(x: f64, y: f64, anchor: &str, size: u32, words: &str) {
-    println!("<text x=\"{x:.2}\" y=\"{y:.2}\" text-anchor=\"{anchor}\" font-size=\"{size}\">{words}</text>");
-}
-
-fn bold(x: f64, y: f64, words: &str) {
-    println!("<text x=\"{x:.2}\" y=\"{y:.2}\" text-anchor=\"middle\" font-size=\"13\" font-weight=\"bold\">{words}</text>");
 }
 
 fn has_word(width: Width, x: i64) -> bool {

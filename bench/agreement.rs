@@ -1,7 +1,7 @@
 // Both sides hand over the same at every width, the narrow and the refused ones too, and refuse by the same number; asked before anything is timed.
 use crate::calls::{
-    on_block, on_column, on_content, Move, One, Write, MOVE, MOVE_COLUMN, READ, READ_BLOCK, TAKE_BINARY64, TAKE_WHOLE, WRITE, WRITE_BINARY64, WRITE_BLOCK,
-    WRITE_WHOLE,
+    on_block, on_column, on_content, Move, One, Write, MOVE, MOVE_COLUMN, READ, READ_BLOCK, SHORTEST_WIDTH, TAKE_BINARY64, TAKE_WHOLE, WRITE,
+    WRITE_BINARY64, WRITE_BLOCK, WRITE_WHOLE,
 };
 use crate::handed::Parts;
 use crate::values::{self, Block, Offer, COUNT};
@@ -51,6 +51,17 @@ fn agree_on<'a, T: Parts + 'a, R: Parts>(name: &str, calls: [impl One<T, R>; 3],
         let [ours, theirs] = [0, 1].map(|i| calls[i].on(n, strict, *x).parts());
         if ours != theirs {
             differ(&format!("{} at {}, strict {}: bits {:x}", name, n, strict, x.bits()), ours, theirs);
+        }
+    }
+}
+
+// The numbers that are timed, the edges, and all beside a power of two.
+pub fn agree_on_counts(counts: &[i64]) {
+    let powers = (0..63).flat_map(|k| (-2..=2).map(move |d| (1 << k) + d));
+    for x in counts.iter().chain(&values::EDGE_WHOLES).copied().chain(powers) {
+        let [ours, theirs] = [0, 1].map(|i| unsafe { SHORTEST_WIDTH[i](x) }.parts());
+        if ours != theirs {
+            differ(&format!("the shortest width of {}", x), ours, theirs);
         }
     }
 }

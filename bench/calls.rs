@@ -1,6 +1,6 @@
 // The calls of the three sides: the library, the plain version and an empty call, which tells what the loop and the call cost by themselves.
 // All are called through a pointer, so none is inlined into the loop.
-use crate::handed::{HandedBlock, HandedColumn, HandedNumber, HandedReading, HandedSaying, HandedWhole, HandedWriting};
+use crate::handed::{HandedBlock, HandedColumn, HandedNumber, HandedReading, HandedSaying, HandedWhole, HandedWidth, HandedWriting};
 use crate::plain;
 use std::slice::{from_raw_parts, from_raw_parts_mut};
 
@@ -9,6 +9,7 @@ pub type Move = unsafe extern "C" fn(u32, u32, u32, u64) -> HandedSaying;
 // Something of one width in, or a word of it out: by a rule, or where there is none.
 pub type ByRule<T, R> = unsafe extern "C" fn(u32, u32, T) -> R;
 pub type Outright<T, R> = unsafe extern "C" fn(u32, T) -> R;
+pub type ShortestWidth = unsafe extern "C" fn(i64) -> HandedWidth;
 // A lent slice is a pointer and a length.
 pub type MoveColumn = unsafe extern "C" fn(u32, u32, u32, *const u64, usize, *mut u64, usize) -> HandedColumn;
 pub type ReadBlock = unsafe extern "C" fn(*const u8, usize, *mut u64, usize) -> HandedBlock;
@@ -21,6 +22,7 @@ extern "C" {
     fn takum_move(from: u32, to: u32, rule: u32, word: u64) -> HandedSaying;
     fn takum_write_whole(n: u32, rule: u32, x: i64) -> HandedSaying;
     fn takum_take_whole(n: u32, taking: u32, word: u64) -> HandedWhole;
+    fn takum_shortest_width(x: i64) -> HandedWidth;
     fn takum_write_binary64(n: u32, rule: u32, x: f64) -> HandedSaying;
     fn takum_take_binary64(n: u32, word: u64) -> HandedNumber;
     fn takum_move_column(from: u32, to: u32, rule: u32, words: *const u64, count: usize, results: *mut u64, room: usize) -> HandedColumn;
@@ -33,6 +35,7 @@ pub const WRITE: [Write; 3] = [takum_write, plain_write, empty_write];
 pub const MOVE: [Move; 3] = [takum_move, plain_move, empty_move];
 pub const WRITE_WHOLE: [ByRule<i64, HandedSaying>; 3] = [takum_write_whole, plain_write_whole, empty_write_whole];
 pub const TAKE_WHOLE: [ByRule<u64, HandedWhole>; 3] = [takum_take_whole, plain_take_whole, empty_take_whole];
+pub const SHORTEST_WIDTH: [ShortestWidth; 3] = [takum_shortest_width, plain_shortest_width, empty_shortest_width];
 pub const WRITE_BINARY64: [ByRule<f64, HandedSaying>; 3] = [takum_write_binary64, plain_write_binary64, empty_write_binary64];
 pub const TAKE_BINARY64: [Outright<u64, HandedNumber>; 3] = [takum_take_binary64, plain_take_binary64, empty_take_binary64];
 pub const MOVE_COLUMN: [MoveColumn; 3] = [takum_move_column, plain_move_column, empty_move_column];
@@ -57,6 +60,10 @@ extern "C" fn plain_write_whole(n: u32, rule: u32, x: i64) -> HandedSaying {
 
 extern "C" fn plain_take_whole(n: u32, rule: u32, word: u64) -> HandedWhole {
     plain::whole::take_whole(n, rule != 0, word).into()
+}
+
+extern "C" fn plain_shortest_width(x: i64) -> HandedWidth {
+    plain::whole::shortest_width(x).into()
 }
 
 extern "C" fn plain_write_binary64(n: u32, rule: u32, x: f64) -> HandedSaying {
@@ -97,6 +104,10 @@ extern "C" fn empty_write_whole(_n: u32, _rule: u32, x: i64) -> HandedSaying {
 
 extern "C" fn empty_take_whole(_n: u32, _rule: u32, word: u64) -> HandedWhole {
     HandedWhole { refusal: 0, whole: word as i64 }
+}
+
+extern "C" fn empty_shortest_width(x: i64) -> HandedWidth {
+    HandedWidth { refusal: 0, width: x as u32 }
 }
 
 extern "C" fn empty_write_binary64(_n: u32, _rule: u32, x: f64) -> HandedSaying {

@@ -33,6 +33,13 @@ pub struct HandedWhole {
 
 #[repr(C)]
 #[derive(Clone, Copy)]
+pub struct HandedWidth {
+    pub refusal: u32,
+    pub width: u32,
+}
+
+#[repr(C)]
+#[derive(Clone, Copy)]
 pub struct HandedNumber {
     pub refusal: u32,
     pub real: bool,
@@ -93,6 +100,16 @@ impl From<Result<i64, u32>> for HandedWhole {
         match answer {
             Ok(whole) => HandedWhole { refusal: 0, whole },
             Err(refusal) => HandedWhole { refusal, whole: 0 },
+        }
+    }
+}
+
+impl From<Result<u32, u32>> for HandedWidth {
+    #[inline(always)]
+    fn from(answer: Result<u32, u32>) -> Self {
+        match answer {
+            Ok(width) => HandedWidth { refusal: 0, width },
+            Err(refusal) => HandedWidth { refusal, width: 0 },
         }
     }
 }
@@ -197,6 +214,13 @@ impl Parts for HandedWhole {
     #[inline(always)]
     fn parts(self) -> [u64; 4] {
         [self.refusal as u64, self.whole as u64, 0, 0]
+    }
+}
+
+impl Parts for HandedWidth {
+    #[inline(always)]
+    fn parts(self) -> [u64; 4] {
+        [self.refusal as u64, self.width as u64, 0, 0]
     }
 }
 

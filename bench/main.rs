@@ -7,7 +7,8 @@ mod timing;
 mod values;
 
 use calls::{
-    on_block, on_column, on_content, One, MOVE, MOVE_COLUMN, READ, READ_BLOCK, TAKE_BINARY64, TAKE_WHOLE, WRITE, WRITE_BINARY64, WRITE_BLOCK, WRITE_WHOLE,
+    on_block, on_column, on_content, One, MOVE, MOVE_COLUMN, READ, READ_BLOCK, SHORTEST_WIDTH, TAKE_BINARY64, TAKE_WHOLE, WRITE, WRITE_BINARY64, WRITE_BLOCK,
+    WRITE_WHOLE,
 };
 use handed::Parts;
 use timing::compare;
@@ -28,6 +29,11 @@ fn sum(answers: impl Iterator<Item = u64>) -> u64 {
 fn compare_one<T: Copy, R: Parts>(name: &str, calls: [impl One<T, R>; 3], n: u32, given: &[T]) -> bool {
     let side = |i: usize| { let call = hidden(&calls[i]); move || sum(given.iter().map(|&x| call.on(n, false, x).bits())) };
     compare(&format!("{} {}", name, n), COUNT, [&mut side(0), &mut side(1), &mut side(2)])
+}
+
+fn compare_shortest(counts: &[i64]) -> bool {
+    let side = |i: usize| { let call = hidden(&SHORTEST_WIDTH[i]); move || sum(counts.iter().map(|&x| unsafe { call(x) }.bits())) };
+    compare("shortest width", COUNT, [&mut side(0), &mut side(1), &mut side(2)])
 }
 
 // A round is one call. All results are compared before (`agreement.rs`); here one stands for them.
@@ -65,9 +71,11 @@ fn main() {
     let wide = values::wide_words();
     let narrow = values::narrow_words();
     let wholes = values::wholes();
+    let counts = values::counts();
     let floats = values::floats();
     let blocks = values::blocks();
     agreement::agree_everywhere(&offers, &wide, &wholes, &floats);
+    agreement::agree_on_counts(&counts);
     agreement::agree_on_columns(&wide, &narrow);
     agreement::agree_on_blocks(&blocks);
     agreement::agree_on_written(&wide, &narrow);
@@ -90,6 +98,7 @@ fn main() {
     for n in [16, 64] {
         within &= compare_one("whole number out", TAKE_WHOLE, n, &values::words_of_wholes(n));
     }
+    within &= compare_shortest(&counts);
     for n in [16, 64] {
         within &= compare_one("binary64 in", WRITE_BINARY64, n, &floats);
     }

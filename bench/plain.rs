@@ -1,5 +1,5 @@
 // The plain Rust that the library is timed against: reading, writing and moving, rounded and strict, whole numbers and binary64 in and out, every
-// width from 2 to 64, the same refusals and sayings; columns and sheet blocks. No table, and no loop for one word. The paper's letters: n the width, r
+// width from 2 to 64, the same refusals and sayings; the width that a whole number needs; columns and sheet blocks. No table, and no loop for one word. The paper's letters: n the width, r
 // the regime, c the characteristic.
 #![allow(dead_code)] // main.rs and lister.rs each use a part
 

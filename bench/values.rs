@@ -56,6 +56,22 @@ pub fn wholes() -> Vec<i64> {
         .collect()
 }
 
+// Whole numbers of every length and both signs, one in four a power of two and one in four with zeros at its end.
+pub fn counts() -> Vec<i64> {
+    let mut next = numbers(5);
+    (0..COUNT)
+        .map(|_| {
+            let (size, zeros) = (next() >> 1 >> (next() % 64), next() % 63);
+            let size = match next() % 4 {
+                0 => 1 << zeros,
+                1 => size >> zeros << zeros,
+                _ => size,
+            } as i64;
+            if next() % 2 == 1 { -size } else { size }
+        })
+        .collect()
+}
+
 // Finite binary64 numbers from 2^-260 to 2^261, a little past both ends of the words.
 pub fn floats() -> Vec<f64> {
     let mut next = numbers(2);

@@ -1,4 +1,4 @@
-// Whole numbers in and out.
+// Whole numbers in and out, and the least width for one.
 use super::{read, string_of, write, Written, INEXACT, NAR, OVER, TOP};
 
 // A whole number as a word.
@@ -31,4 +31,20 @@ pub fn take_whole(n: u32, strict: bool, word: u64) -> Result<i64, u32> {
     // Up past half, and at half from an odd number. Neither this nor the sign becomes a branch, since nobody can foretell them.
     let size = (whole + (below > TOP - (whole & 1)) as u64) as i64;
     Ok(if negative { -size } else { size })
+}
+
+// The least width at which a whole number has a word, from its bits and the zeros that they end in.
+#[inline]
+pub fn shortest_width(x: i64) -> Result<u32, u32> {
+    if x == 0 {
+        return Ok(2);
+    }
+    let size = x.unsigned_abs();
+    let (bits, zeros) = (64 - size.leading_zeros(), size.trailing_zeros());
+    let regime = bits.ilog2();
+    // Neither of these becomes a branch, since nobody can foretell them.
+    let first = if size.is_power_of_two() { bits.trailing_zeros() } else { 0 };
+    let last = if size.is_power_of_two() & bits.is_power_of_two() { (8 + regime).trailing_zeros() } else { 0 };
+    let width = 4 + bits + regime - zeros - first - last;
+    if width > 64 { Err(INEXACT) } else { Ok(width) }
 }

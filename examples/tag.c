@@ -27,6 +27,16 @@ static const char *way_of(uint32_t saying) {
     return saying == TAKUM_ABOVE ? "up" : saying == TAKUM_BELOW ? "down" : "past the end";
 }
 
+/* How wide a tag the tally needs: 515 needs one of 17 bits. */
+static void say_needed(int64_t tally) {
+    takum_width_answer needed = takum_shortest_width(tally);
+    if (needed.refusal == TAKUM_OK) {
+        fprintf(stderr, "tag: it needs a tag of %" PRIu32 " bits\n", needed.width);
+    } else {
+        fprintf(stderr, "tag: no tag of up to %d bits has a word for it\n", TAKUM_GREATEST_WIDTH);
+    }
+}
+
 /* Why the tag stays empty, and what a tag by the rounded rule would have said instead: 515 would have gone up, to 516. */
 static void say_refused(int64_t tally, uint32_t refusal) {
     fprintf(stderr, "tag: %" PRId64 " is refused with %" PRIu32 " (%s), and nothing goes onto the tag\n", tally, refusal, takum_refusal_name(refusal));
@@ -37,6 +47,7 @@ static void say_refused(int64_t tally, uint32_t refusal) {
         fprintf(stderr, "tag: rounded it would go %s and be read as %" PRId64 "; at %d bits every whole number up to %" PRIu64 " has a word\n",
                 way_of(rounded.saying), misread.whole, TAG_WIDTH, limit.limit);
     }
+    say_needed(tally);
 }
 
 int main(int argc, char **argv) {

@@ -30,7 +30,9 @@ fn length(size: u64) -> u32
     let v = 64 - u64::leading_zeros(size);
     let w = u64::trailing_zeros(size);
     let log = 31 - u32::leading_zeros(v);
-    4 + v + log - w - first_reduction(v, w, log) - last_reduction(v, w, log)
+    let first = first_reduction(v, w, log);
+    let last = last_reduction(v, w, log);
+    4 + v + log - w - first - last
 }
 
 // A power of two (w = v - 1) has no fraction bits, so the zeros go that its characteristic bits, v - 2^log, end in. They are log at most; v ends in as many,

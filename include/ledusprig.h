@@ -77,7 +77,7 @@ enum takum_refusal {
     TAKUM_WIDTH = 1,   /* a width isn't 2 to 64, or a block's isn't 8, 16, 32 or 64 */
     TAKUM_STRAY = 2,   /* a word has a bit set at or above its width */
     TAKUM_NAR = 3,     /* a whole number is wanted of NaR */
-    TAKUM_INEXACT = 4, /* strict, and no word, or no whole number, has the value; or no width from 2 to 64 has a word for it */
+    TAKUM_INEXACT = 4, /* strict, and no word, or no whole number, has the value; or no width from 2 to 64 has a word with it */
     TAKUM_OVER = 5,    /* the whole number falls outside signed 64 bits */
     TAKUM_ROOM = 6,    /* the result slice is too short */
     TAKUM_SIZE = 7,    /* a block, or the buffer for one, isn't 512 bytes */
@@ -270,8 +270,8 @@ TAKUM_MUST_USE takum_saying_answer takum_write_whole(uint32_t n, takum_rule rule
 TAKUM_MUST_USE takum_whole_answer takum_take_whole(uint32_t n, takum_taking taking, uint64_t word) TAKUM_NOEXCEPT;
 
 /* How wide a word a whole number needs: the least width, from 2 to 64, at which one has exactly the value x. Every greater width up to 64 has one too,
- * so takum_write_whole(n, TAKUM_STRICT, x) gives a word from this width on, and refuses below it. A power of two needs far less than its neighbours:
- * 512 needs 7, 513 needs 17. Zero and one need 2, and -x needs as much as x. INEXACT where no width up to 64 has one. */
+ * so takum_write_whole(n, TAKUM_STRICT, x) gives a word from this width on, and refuses below it. From 8 on a power of two needs far less than its
+ * neighbours: 512 needs 7, 513 needs 17. Zero and one need 2, and -x needs as much as x. INEXACT where no width up to 64 has one. */
 TAKUM_MUST_USE takum_width_answer takum_shortest_width(int64_t x) TAKUM_NOEXCEPT;
 
 /* The word for a double (binary64), and which way it went: NaN and both infinities give NaR, both zeros give zero, and these are exact. INEXACT by the

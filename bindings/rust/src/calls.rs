@@ -98,7 +98,7 @@ pub fn take_whole(n: u32, taking: Taking, word: u64) -> Result<i64, Refusal> {
 /// ```
 /// use ledusprig::{calls, Refusal};
 ///
-/// // a power of two needs far less than its neighbours
+/// // 512 is a power of two, and needs far less than its neighbours
 /// assert_eq!([512, 513, 515, -515].map(calls::shortest_width), [Ok(7), Ok(17), Ok(17), Ok(17)]);
 /// assert_eq!(calls::shortest_width(i64::MAX), Err(Refusal::Inexact));
 /// ```

@@ -104,7 +104,7 @@ refusals! {
     Width = 1, "WIDTH", "a width isn't 2 to 64, or a block's isn't 8, 16, 32 or 64";
     Stray = 2, "STRAY", "a word has a bit set at or above its width";
     Nar = 3, "NAR", "a whole number is wanted of NaR";
-    Inexact = 4, "INEXACT", "strict, and no word, or no whole number, has the value; or no width from 2 to 64 has a word for it";
+    Inexact = 4, "INEXACT", "strict, and no word, or no whole number, has the value; or no width from 2 to 64 has a word with it";
     Over = 5, "OVER", "the whole number falls outside signed 64 bits";
     Room = 6, "ROOM", "the result slice is too short";
     Size = 7, "SIZE", "a block, or the buffer for one, isn't 512 bytes";

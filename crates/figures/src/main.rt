@@ -364,7 +364,7 @@ fn print_shortest_of_few() {
     print_shortest(10);
 }
 
-// A power of two needs far less than its neighbours.
+// From 8 on a power of two needs far less than its neighbours.
 fn print_shortest_of_counts() {
     print_shortest(16);
     print_shortest(17);

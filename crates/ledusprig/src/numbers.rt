@@ -1,4 +1,5 @@
-// Whole numbers and binary64 numbers, in and out, and how wide a word a whole number needs. The rule's number is asked first, so that each rule's call is compiled by itself.
+// Whole numbers and binary64 numbers, in and out, and how wide a word a whole number needs. The rule's number is asked first, so that each rule's call is
+// compiled by itself.
 use crate::handed::numbers::HandedNumber;
 use crate::handed::numbers::HandedWhole;
 use crate::handed::numbers::hand_number;

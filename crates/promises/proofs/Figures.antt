@@ -3,7 +3,7 @@ use mathlib.Core.Path.{_≡_, refl, sym, ap, _∙_, subst}
 use mathlib.Core.Bool.{Bool, true, false, _&&_, _||_, cond}
 use mathlib.Core.List.{List, [], _∷_}
 use mathlib.Core.Logic.{_⊎_, inl, inr, ⊎-elim}
-use Prim.Native.Nat.{ℕ, zero, suc, _+_, _-_, _*_, _%_, _^_, _≤_, _<_}
+use Prim.Native.Nat.{ℕ, zero, suc, _+_, _-_, _*_, _%_, _^_, _<_}
 use native.Mathlib.Nat.{mul-one, zero-lt-suc, le-of-eq, lt-of-le-of-lt, lt-of-lt-of-le}
 use native.Mathlib.Omega.{arith}
 use lib.Count.{leadingZeros, trailingZeros}
@@ -44,7 +44,7 @@ use Rattle.promises.specs.Shortest.{bits, ZeroNeeds2}
 use Rattle.promises.proofs.Tests.{size-of, same, same-is, either, is-word, word-is, has, has-is}
 use Rattle.promises.proofs.Settled.{size-at, is-positive, past-half, before-half, is-rounded, went, size-settled, settled, positive-is, size-has, rounded-is, answered-so}
 use Rattle.promises.proofs.Demands.{reading-is-the-definition}
-use Rattle.promises.proofs.Shortest.{lengthOf, by-counting, zero-needs-2}
+use Rattle.promises.proofs.Shortest.{lengthOf, is-width, is-refused, by-counting, zero-needs-2}
 
 -- ---- reading: the size is the one that is said, and the sign too
 said : Said → Takum → Bool
@@ -192,11 +192,7 @@ within-holds x n some t = λ a y.
     let m = natAbs x in
     let u = both (ltb m (2 ^ 64)) (eqb n (lengthOf m) && leb (lengthOf m) 64) t in
     let v = both (eqb n (lengthOf m)) (leb (lengthOf m) 64) (u .1) in
-    ⊎-elim (λ l. l .1 ∙ ap bits (sym (eqb→eq n (lengthOf m) (v .0)))) (λ l. absurd (not-past (lengthOf m) (leb→le (lengthOf m) 64 (v .1)) (l .0)))
-    (by-counting x a some (ltb→lt m (2 ^ 64) (u .0)) y)
-  where
-    not-past : (l : ℕ) → l ≤ 64 → 64 < l → ⊥
-    not-past l h past = omega (arith, h, past)
+    is-width (lengthOf m) a (by-counting x a some (ltb→lt m (2 ^ 64) (u .0)) y) (leb→le (lengthOf m) 64 (v .1)) ∙ ap bits (sym (eqb→eq n (lengthOf m) (v .0)))
 
 needed-holds : (x : ℤ) (n : ℕ) → T (needed x n) → (a : Made) → GivesShortest x a → a ≡ bits n
 unfolding needed ZeroNeeds2
@@ -212,10 +208,7 @@ needed-more-holds x number t = λ a y.
     let inside = both (ltb 0 m) (ltb m (2 ^ 64)) (u .0) in
     let past = both (ltb 64 (lengthOf m)) (eqb number 4) (u .1) in
     subst (λ (k : ℕ). RefusedAs Made Made.Refused k a) (sym (eqb→eq number 4 (past .1)))
-    (⊎-elim (λ l. absurd (not-within (lengthOf m) (ltb→lt 64 (lengthOf m) (past .0)) (l .0))) (λ l. l .1) (by-counting x a (ltb→lt 0 m (inside .0)) (ltb→lt m (2 ^ 64) (inside .1)) y))
-  where
-    not-within : (l : ℕ) → 64 < l → l ≤ 64 → ⊥
-    not-within l past h = omega (arith, h, past)
+    (is-refused (lengthOf m) a (by-counting x a (ltb→lt 0 m (inside .0)) (ltb→lt m (2 ^ 64) (inside .1)) y) (ltb→lt 64 (lengthOf m) (past .0)))
 
 -- a whole number is offered as the value is
 as-value : (n : ℕ) (rule : Rule) (M : ℕ) (a : Answer) → WritesWhole n rule (pos M) a → Writes n rule (whole M) a

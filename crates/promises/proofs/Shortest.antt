@@ -4,12 +4,13 @@ use mathlib.Core.Bool.{_&&_}
 use mathlib.Core.Logic.{_⊎_, inl, inr}
 use Prim.Native.Nat.{ℕ, zero, suc, _+_, _-_, _*_, _^_, _≤_, _<_}
 use native.Mathlib.Decide.{decLt}
-use native.Mathlib.Nat.{lt-of-le-of-lt, lt-of-not-le, zero-lt-suc}
+use native.Mathlib.Nat.{lt-of-le-of-lt, lt-of-not-le, mul-pos, zero-lt-suc}
 use native.Mathlib.Omega.{arith}
 use lib.Count.{leadingZeros, trailingZeros}
 use borrow.Author.Tests.{ltb-true, leb-true}
 use lib.Dec.{eqb, leb, ltb, lit<, lit≤}
-use lib.IntN.{ℤ, pos, negsuc, negℤ, natAbs}
+use lib.IntN.{ℤ, pos, negsuc, natAbs}
+use lib.Pow.{pow-pos}
 use Rattle.bounds.specs.declared.answer.Answer.{Answer}
 use Rattle.bounds.specs.declared.refusal.Refusal.{Refusal}
 use Rattle.bounds.specs.declared.refusal.Verdict.{Verdict}
@@ -18,17 +19,18 @@ use Rattle.bounds.proofs.Limits.{exponent-lt}
 use Rattle.bounds.proofs.Powers.{not-more}
 use Rattle.bounds.proofs.Verdicts.{open-when}
 use Rattle.nearest.specs.Nearest.{HasValue}
+use Rattle.nearest.proofs.Places.{wordOf, has-value, place-of}
 use Rattle.write.specs.Writes.{isNegative}
 use Rattle.whole.specs.Wholes.{overTest}
 use Rattle.whole.specs.Limits.{EveryWholeNumberUpToTheLimitHasAWord, TheLimitPlusOneHasNoWord}
 use Rattle.whole.specs.Shortest.{HasWord, GivesShortest}
-use Rattle.whole.specs.Lengths.{IsLog, IsMax, N0, upTo, when, powerOfTwo, bitsArePowerOfTwo, reducedOnce, printedLength, correctedLength, IsLength}
-use Rattle.whole.specs.Parts.{IsFirstReduction, IsLastReduction}
+use Rattle.whole.specs.Lengths.{IsLog, IsMax, N0, upTo, when, reducedOnce, printedLength, correctedLength}
+use Rattle.whole.specs.Parts.{IsFirstReduction, IsLastReduction, IsLength}
 use Rattle.whole.proofs.LimitLarge.{wider}
 use Rattle.whole.proofs.LimitWords.{every-whole-number-up-to-the-limit-has-a-word, the-limit-plus-one-has-no-word}
 use Rattle.whole.proofs.OddParts.{one-greatest, greatest-of-all, greatest-up-to, first-zeros, last-zeros}
 use Rattle.whole.proofs.Lengths.{BeginsAt, counted, length-counted, a-length, begins-at}
-use Rattle.whole.proofs.ShortestWidths.{given-for-zero, given-at, refused-past}
+use Rattle.whole.proofs.ShortestWidths.{some, given-for-zero, given-at, refused-past}
 use Rattle.whole.proofs.OneOutcome.{gives-shortest-one}
 use Rattle.promises.specs.Demands.{RefusedAs}
 use Rattle.promises.specs.Numbers as numbers
@@ -63,7 +65,7 @@ refused-so x q y = record { q = Refusal.Inexact; is = ap Made.Refused (y .0); kn
 
 pub a-number-is-refused-exactly-where-no-width-has-a-word : promise.ANumberIsRefusedExactlyWhereNoWidthHasAWord
 unfolding promise.ANumberIsRefusedExactlyWhereNoWidthHasAWord GivesShortest HasWord IsWhole
-a-number-is-refused-exactly-where-no-width-has-a-word x (Made.Width n) y = inl (n .bits, refl)
+a-number-is-refused-exactly-where-no-width-has-a-word x (Made.Width n) y = inl (n .bits, y .has .0, refl, y .least, y .most, y .has .1)
 a-number-is-refused-exactly-where-no-width-has-a-word x (Made.Refused q) y = inr (refused-so x q y, λ n w lo hi v. y .1 n lo hi (w, v))
 
 pub strict-writing-begins-at-the-answered-width : promise.StrictWritingBeginsAtTheAnsweredWidth
@@ -87,7 +89,7 @@ lengthOf m =
     let log = 31 - leadingZeros 32 v in
     4 + v + log - w - when (eqb (w + 1) v) (trailingZeros 32 v) - when (eqb (w + 1) v && eqb v (2 ^ log)) (trailingZeros 32 (8 + log))
 
-pub length-of : (m : ℕ) → zero < m → m < 2 ^ 64 → IsLength m (lengthOf m)
+length-of : (m : ℕ) → zero < m → m < 2 ^ 64 → IsLength m (lengthOf m)
 unfolding lengthOf IsFirstReduction IsLastReduction
 length-of m some fits = let k = counted m some fits in
     length-counted m _ _ _ _ _ k (_, first-zeros _ _ (k .log-is) (omega (arith, k .most)), refl) (_, last-zeros _ (k .short), refl)
@@ -98,11 +100,6 @@ unfolding overTest
 fits (pos i) h = omega (arith, ltb-true i (2 ^ 63) (open-when (ltb i (2 ^ 63)) Refusal.Over h))
 fits (negsuc i) h = omega (arith, leb-true (suc i) (2 ^ 63) (open-when (leb (suc i) (2 ^ 63)) Refusal.Over h))
 
-some : (x : ℤ) → (x ≡ pos 0 → ⊥) → zero < natAbs x
-some (pos zero) f = absurd (f refl)
-some (pos (suc i)) f = zero-lt-suc i
-some (negsuc i) f = zero-lt-suc i
-
 pub every-number-has-its-letters : promise.EveryNumberHasItsLetters
 unfolding promise.EveryNumberHasItsLetters IsLength
 every-number-has-its-letters x inside not-zero = length-of (natAbs x) (some x not-zero) (fits x inside) .0
@@ -111,12 +108,20 @@ every-number-has-its-letters x inside not-zero = length-of (natAbs x) (some x no
 abbrev pub ByLength : ℕ → Made → Type 0
 ByLength l a = ((l ≤ 64) × (a ≡ bits l)) ⊎ ((64 < l) × RefusedAs Made Made.Refused 4 a)
 
-pub by-length : (x : ℤ) (l : ℕ) (a : Made) → BeginsAt (natAbs x) l → GivesShortest x a → ByLength l a
+by-length : (x : ℤ) (l : ℕ) (a : Made) → BeginsAt (natAbs x) l → GivesShortest x a → ByLength l a
 by-length x l a begins y = by (decLt 64 l)
   where
     by : Dec (64 < l) → ByLength l a
     by (yes past) = inr (past, record { q = Refusal.Inexact; is = gives-shortest-one x a (Made.Refused Refusal.Inexact) y (refused-past x l begins past); known = refl })
     by (no f) = inl (not-more f, gives-shortest-one x a (bits l) y (given-at x l begins (not-more f)))
+
+pub is-width : (l : ℕ) (a : Made) → ByLength l a → l ≤ 64 → a ≡ bits l
+is-width l a (inl (le, is)) h = is
+is-width l a (inr (past, r)) h = absurd (omega (arith, past, h))
+
+pub is-refused : (l : ℕ) (a : Made) → ByLength l a → 64 < l → RefusedAs Made Made.Refused 4 a
+is-refused l a (inl (le, is)) h = absurd (omega (arith, le, h))
+is-refused l a (inr (past, r)) h = r
 
 -- which is the length as it is counted
 pub by-counting : (x : ℤ) (a : Made) → zero < natAbs x → natAbs x < 2 ^ 64 → GivesShortest x a → ByLength (lengthOf (natAbs x)) a
@@ -129,28 +134,30 @@ the-answer-is-the-corrected-length x a t inside y =
     let l = a-length (natAbs x) t (fits x inside) in
     (l .0, l .1, by-length x (l .0) a (begins-at (natAbs x) (l .0) t (fits x inside) (l .1)) y)
 
--- the letters of a number and of its negation are the same
-opposite : (x : ℤ) → natAbs (negℤ x) ≡ natAbs x
-opposite (pos zero) = refl
-opposite (pos (suc i)) = refl
-opposite (negsuc i) = refl
+-- ---- either sign
+-- at a width a size has words of both signs, or of neither
+either-sign : (x y : ℤ) (n : ℕ) → natAbs x ≡ natAbs y → zero < natAbs x → 2 ≤ n → n ≤ 64 → HasWord n x → HasWord n y
+unfolding HasWord
+either-sign x y n q some lo hi w =
+    let s = isNegative y in
+    let t = place-of n lo hi (isNegative x) (natAbs x * 2 ^ 307) (w .0) (mul-pos {m = natAbs x} {n = 2 ^ 307} some (pow-pos 307)) (w .1) in
+    (wordOf n s (t .v), subst (λ (z : ℕ). HasValue n s z (wordOf n s (t .v))) (sym (t .size-is) ∙ ap (λ (i : ℕ). i * 2 ^ 307) q) (has-value n lo hi s (t .v) (t .first) (t .last)))
 
-same : (x : ℤ) (a b : Made) → overTest x ≡ Verdict.Through → zero < natAbs x → GivesShortest x a → GivesShortest (negℤ x) b → a ≡ b
-unfolding IsLength
-same x a b inside some y z =
-    let t = length-of (natAbs x) some (fits x inside) in
-    let begins = begins-at (natAbs x) (lengthOf (natAbs x)) (t .0) (fits x inside) (t .1) in
-    by (lengthOf (natAbs x)) begins (subst (λ (m : ℕ). BeginsAt m (lengthOf (natAbs x))) (sym (opposite x)) begins) (decLt 64 (lengthOf (natAbs x)))
-  where
-    by : (l : ℕ) → BeginsAt (natAbs x) l → BeginsAt (natAbs (negℤ x)) l → Dec (64 < l) → a ≡ b
-    by l p q (yes past) = gives-shortest-one x a (Made.Refused Refusal.Inexact) y (refused-past x l p past) ∙ gives-shortest-one (negℤ x) (Made.Refused Refusal.Inexact) b (refused-past (negℤ x) l q past) z
-    by l p q (no f) = gives-shortest-one x a (bits l) y (given-at x l p (not-more f)) ∙ gives-shortest-one (negℤ x) (bits l) b (given-at (negℤ x) l q (not-more f)) z
+same : (x y : ℤ) (a : Made) → natAbs x ≡ natAbs y → zero < natAbs x → GivesShortest x a → GivesShortest y a
+unfolding GivesShortest
+same x y (Made.Width n) q some g = record {
+  least = g .least;
+  most = g .most;
+  has = either-sign x y (n .bits) q some (g .least) (g .most) (g .has);
+  none-shorter = λ k lo less w. g .none-shorter k lo less (either-sign y x k (sym q) (subst (λ (i : ℕ). zero < i) q some) lo (omega (arith, less, g .most)) w);
+}
+same x y (Made.Refused r) q some g = (g .0, λ n lo hi w. g .1 n lo hi (either-sign y x n (sym q) (subst (λ (i : ℕ). zero < i) q some) lo hi w))
 
 pub the-negated-number-needs-as-much : promise.TheNegatedNumberNeedsAsMuch
 unfolding promise.TheNegatedNumberNeedsAsMuch
-the-negated-number-needs-as-much (pos zero) a b inside y z = gives-shortest-one (pos 0) a b y z
-the-negated-number-needs-as-much (pos (suc i)) a b inside y z = same (pos (suc i)) a b inside (zero-lt-suc i) y z
-the-negated-number-needs-as-much (negsuc i) a b inside y z = same (negsuc i) a b inside (zero-lt-suc i) y z
+the-negated-number-needs-as-much (pos zero) a b y z = gives-shortest-one (pos 0) a b y z
+the-negated-number-needs-as-much (pos (suc i)) a b y z = gives-shortest-one (negsuc i) a b (same (pos (suc i)) (negsuc i) a refl (zero-lt-suc i) y) z
+the-negated-number-needs-as-much (negsuc i) a b y z = gives-shortest-one (pos (suc i)) a b (same (negsuc i) (pos (suc i)) a refl (zero-lt-suc i) y) z
 
 -- ---- as it is printed
 -- a number has one logarithm
@@ -158,7 +165,7 @@ one-log : (a k j : ℕ) → IsLog a k → IsLog a j → k ≡ j
 one-log a k j x y = omega (arith, exponent-lt k (j + 1) (lt-of-le-of-lt (x .low) (y .high)), exponent-lt j (k + 1) (lt-of-le-of-lt (y .low) (x .high)))
 
 pub as-printed-the-length-of-9-is-9 : promise.AsPrintedTheLengthOf9Is9
-unfolding promise.AsPrintedTheLengthOf9Is9 printedLength correctedLength reducedOnce powerOfTwo bitsArePowerOfTwo
+unfolding promise.AsPrintedTheLengthOf9Is9 printedLength correctedLength reducedOnce
 as-printed-the-length-of-9-is-9 t = (rw (v, w, log, last), rw (v, w, log))
   where
     v : t .v ≡ 4

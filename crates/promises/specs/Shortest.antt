@@ -35,7 +35,7 @@ EveryGreaterWidthHasAWord = (x : ℤ) (n : ℕ) → GivesShortest x (bits n) →
 -- a number is refused, as INEXACT, exactly where no width up to 64 has one
 unfoldable pub ANumberIsRefusedExactlyWhereNoWidthHasAWord : Type 0
 ANumberIsRefusedExactlyWhereNoWidthHasAWord = (x : ℤ) (a : Made) → GivesShortest x a
-    → ((n : ℕ) × (a ≡ bits n)) ⊎ (RefusedAs Made Made.Refused 4 a × ((n w : ℕ) → 2 ≤ n → n ≤ 64 → IsWhole n x w → ⊥))
+    → ((n w : ℕ) × (a ≡ bits n) × (2 ≤ n) × (n ≤ 64) × IsWhole n x w) ⊎ (RefusedAs Made Made.Refused 4 a × ((n w : ℕ) → 2 ≤ n → n ≤ 64 → IsWhole n x w → ⊥))
 
 -- so strict writing of the number gives a word from that width on, and refuses it below
 unfoldable pub StrictWritingBeginsAtTheAnsweredWidth : Type 0
@@ -47,7 +47,7 @@ ZeroNeeds2 = (a : Made) → GivesShortest (pos 0) a → a ≡ bits 2
 
 -- the sign takes no more and no fewer bits
 unfoldable pub TheNegatedNumberNeedsAsMuch : Type 0
-TheNegatedNumberNeedsAsMuch = (x : ℤ) (a b : Made) → overTest x ≡ Verdict.Through → GivesShortest x a → GivesShortest (negℤ x) b → a ≡ b
+TheNegatedNumberNeedsAsMuch = (x : ℤ) (a b : Made) → GivesShortest x a → GivesShortest (negℤ x) b → a ≡ b
 
 -- ---- document 004, Proposition 4 (crates/whole/specs/Lengths.antt has it in its letters)
 -- every number inside signed 64 bits but 0 has its letters v and w

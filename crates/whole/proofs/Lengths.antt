@@ -15,8 +15,8 @@ use Rattle.bounds.proofs.Powers.{Log, leading-log, pow-sum}
 use Rattle.bounds.proofs.Limits.{exponent-lt}
 use Rattle.word.proofs.Signed.{difference}
 use Rattle.nearest.specs.Nearest.{HasValue}
-use Rattle.whole.specs.Lengths.{IsLog, IsMax, N0, upTo, Letters, powerOfTwo, bitsArePowerOfTwo, reducedOnce, correctedLength, when, IsLength}
-use Rattle.whole.specs.Parts.{IsFirstReduction, IsLastReduction}
+use Rattle.whole.specs.Lengths.{IsLog, IsMax, N0, upTo, Letters, powerOfTwo, bitsArePowerOfTwo, reducedOnce, correctedLength, when}
+use Rattle.whole.specs.Parts.{IsFirstReduction, IsLastReduction, IsLength}
 use Rattle.whole.proofs.LimitBinades.{beginning}
 use Rattle.whole.proofs.LimitStrings.{wholeBits}
 use Rattle.whole.proofs.LimitBeyond.{odd-ends-in-one}
@@ -103,7 +103,7 @@ module _ (m : ℕ) (t : Letters m) (small : m < 2 ^ 64) where
     fine : g + ρ ≤ 59 + z → g + ρ ≤ 59
 
   -- what the two conditions make of the formula
-  length-of : (p b : Bool) (r : ℕ) → powerOfTwo t ≡ p → bitsArePowerOfTwo t ≡ b → r + t .w + when p (t .first) + when (p && b) (t .last) ≡ 4 + t .v + ρ → correctedLength t ≡ pos r
+  length-of : (p b : Bool) (r : ℕ) → powerOfTwo (t .v) (t .w) ≡ p → bitsArePowerOfTwo (t .v) ρ ≡ b → r + t .w + when p (t .first) + when (p && b) (t .last) ≡ 4 + t .v + ρ → correctedLength t ≡ pos r
   unfolding correctedLength reducedOnce
   length-of p b r q q' sum =
       ap₂ (λ (p b : Bool). pos (4 + t .v + ρ) -ℤ pos (t .w) -ℤ pos (when p (t .first)) -ℤ pos (when (p && b) (t .last))) q q'
@@ -111,7 +111,7 @@ module _ (m : ℕ) (t : Letters m) (small : m < 2 ^ 64) where
 
   -- not a power of two: the last bit of o is 1
   long : (k : ℕ) → g ≡ suc k → Ends
-  unfolding powerOfTwo bitsArePowerOfTwo g o part
+  unfolding g o part
   long k q = record {
     z = 0;
     part = record { q = wholeBits ρ h g o; is = sym (mul-one (wholeBits ρ h g o)); odd = subst (λ (x : ℕ). wholeBits ρ h x o % 2 ≡ 1) (sym q) (odd-ends-in-one ρ h k o (subst (λ (x : ℕ). 2 ^ x ≤ o) q low) (part .odd)) };
@@ -135,7 +135,7 @@ module _ (m : ℕ) (t : Letters m) (small : m < 2 ^ 64) where
 
     -- v is a power of two: the characteristic bits are all zeros, and those before them are 8 + ρ
     even : t .v ≡ 2 ^ ρ → Ends
-    unfolding powerOfTwo bitsArePowerOfTwo upTo beginning
+    unfolding upTo beginning
     even e =
         let first : t .first ≡ ρ = le-antisymm (t .first-is .in-range) (t .first-is .greatest ρ (le-of-eq refl) (ap (λ (a : ℕ). a % 2 ^ ρ) none ∙ zero-mod (2 ^ ρ))) in
         let x = odd-up-to 3 ρ (t .last) (omega (arith, regime)) (t .last-is) in
@@ -152,7 +152,7 @@ module _ (m : ℕ) (t : Letters m) (small : m < 2 ^ 64) where
 
     -- v isn't one: the characteristic bits have a 1
     uneven : (t .v ≡ 2 ^ ρ → ⊥) → Ends
-    unfolding powerOfTwo bitsArePowerOfTwo upTo beginning
+    unfolding upTo beginning
     uneven ne =
         record {
           z = t .first;
@@ -269,7 +269,7 @@ unfolding IsLastReduction upTo
 last-few v w log r x = omega (arith, x .2, at-most (eqb (w + 1) v && eqb v (2 ^ log)) (x .0) 3 (x .1 .in-range))
 
 pub length-counted : (m v w log r r' : ℕ) → Counted m v w log → IsFirstReduction v w log r → IsLastReduction v w log r' → IsLength m (4 + v + log - w - r - r')
-unfolding IsLength IsFirstReduction IsLastReduction upTo correctedLength reducedOnce powerOfTwo bitsArePowerOfTwo
+unfolding IsLength IsFirstReduction IsLastReduction upTo correctedLength reducedOnce
 length-counted m v w log r r' k x y = (
   record { top = k .top; v = v; top-is = k .top-is; v-is = k .v-is; w = w; w-is = k .w-is; log = log; log-is = k .log-is; first = x .0; first-is = x .1; last = y .0; last-is = y .1 },
   sym (differences (4 + v + log) w r r' (omega (arith, k .few, first-few v w log r x, last-few v w log r' y))) ∙ ap₂ (λ (a b : ℕ). pos (4 + v + log) -ℤ pos w -ℤ pos a -ℤ pos b) (x .2) (y .2),

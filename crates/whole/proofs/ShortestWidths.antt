@@ -1,17 +1,23 @@
--- The shortest width from where a number's words begin, and what the contract says of every answer. Assumes nothing.
-use mathlib.Core.Path.{refl}
-use Prim.Native.Nat.{ℕ, _≤_, _<_, _^_}
-use native.Mathlib.Nat.{le-of-eq}
+-- The shortest width, from where a number's words begin. Assumes nothing.
+use mathlib.Core.Path.{_≡_, refl}
+use Prim.Native.Nat.{ℕ, zero, suc, _≤_, _<_, _^_}
+use native.Mathlib.Nat.{le-of-eq, zero-lt-suc}
 use native.Mathlib.Omega.{arith}
 use lib.Dec.{lit≤}
-use lib.IntN.{ℤ, pos, natAbs}
+use lib.IntN.{ℤ, pos, negsuc, natAbs}
 use Rattle.bounds.specs.declared.refusal.Refusal.{Refusal}
 use Rattle.bounds.specs.declared.width.Made.{Made}
 use Rattle.write.specs.Writes.{isNegative}
 use Rattle.round.proofs.Rules.{zero-value}
 use Rattle.whole.specs.Shortest.{HasWord, IsShortest, GivesShortest}
-use Rattle.whole.specs.Lengths.{IsLength}
+use Rattle.whole.specs.Parts.{IsLength}
 use Rattle.whole.proofs.Lengths.{BeginsAt, begins-at}
+
+-- a number but 0 has a size
+pub some : (x : ℤ) → (x ≡ pos 0 → ⊥) → zero < natAbs x
+some (pos zero) f = absurd (f refl)
+some (pos (suc i)) f = zero-lt-suc i
+some (negsuc i) f = zero-lt-suc i
 
 pub given-for-zero : GivesShortest (pos 0) (Made.Width (record { bits = 2 }))
 unfolding GivesShortest HasWord
@@ -19,15 +25,15 @@ given-for-zero = record { least = lit≤ tt; most = lit≤ tt; has = (0, zero-va
 
 -- ---- a number whose words begin at l
 module _ (x : ℤ) (l : ℕ) (begins : BeginsAt (natAbs x) l) where
-  pub has-from : (n : ℕ) → 2 ≤ n → n ≤ 64 → l ≤ n → HasWord n x
+  has-from : (n : ℕ) → 2 ≤ n → n ≤ 64 → l ≤ n → HasWord n x
   unfolding HasWord
   has-from n lo hi le = begins .has n lo hi le (isNegative x)
 
-  pub none-below : (n : ℕ) → 2 ≤ n → n ≤ 64 → HasWord n x → l ≤ n
+  none-below : (n : ℕ) → 2 ≤ n → n ≤ 64 → HasWord n x → l ≤ n
   unfolding HasWord
   none-below n lo hi w = begins .none n lo hi (isNegative x) (w .0) (w .1)
 
-  pub shortest-at : l ≤ 64 → IsShortest x l
+  shortest-at : l ≤ 64 → IsShortest x l
   shortest-at hi = record { least = begins .least; most = hi; has = has-from l (begins .least) hi (le-of-eq refl); none-shorter = λ k lo less w. omega (arith, less, none-below k lo (omega (arith, less, hi)) w) }
 
   -- so l is the answer, and where it is past 64 there is none

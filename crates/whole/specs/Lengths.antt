@@ -47,27 +47,23 @@ pub record Letters (m : ℕ) : Type 0 where
 abbrev pub when : Bool → ℕ → ℕ
 when condition a = cond condition a 0
 
+-- the two conditions. w = v - 1: the number is a power of two
+abbrev pub powerOfTwo : ℕ → ℕ → Bool
+powerOfTwo v w = eqb (w + 1) v
+
+-- v is in 2^N0, one of 2^0, 2^1 and so on: it is 2^floor(log2 v), by (47)
+abbrev pub bitsArePowerOfTwo : ℕ → ℕ → Bool
+bitsArePowerOfTwo v log = eqb v (2 ^ log)
+
 module _ {m : ℕ} (t : Letters m) where
-  -- w = v - 1: m is a power of two
-  unfoldable pub powerOfTwo : Bool
-  powerOfTwo = eqb (t .w + 1) (t .v)
-
-  -- v is one, of 2^0, 2^1 and so on
-  unfoldable pub bitsArePowerOfTwo : Bool
-  bitsArePowerOfTwo = eqb (t .v) (2 ^ t .log)
-
   -- (11) up to its first reduction. floor(4 + v + log2 v - w) is 4 + v + floor(log2 v) - w, all but the logarithm being whole.
   unfoldable pub reducedOnce : ℤ
-  reducedOnce = pos (4 + t .v + t .log) -ℤ pos (t .w) -ℤ pos (when powerOfTwo (t .first))
+  reducedOnce = pos (4 + t .v + t .log) -ℤ pos (t .w) -ℤ pos (when (powerOfTwo (t .v) (t .w)) (t .first))
 
   -- (11) as it is printed
   unfoldable pub printedLength : ℤ
-  printedLength = reducedOnce -ℤ pos (when bitsArePowerOfTwo (t .last))
+  printedLength = reducedOnce -ℤ pos (when (bitsArePowerOfTwo (t .v) (t .log)) (t .last))
 
   -- and corrected: the last reduction is made only where w = v - 1
   unfoldable pub correctedLength : ℤ
-  correctedLength = reducedOnce -ℤ pos (when (powerOfTwo && bitsArePowerOfTwo) (t .last))
-
--- l is that
-unfoldable pub IsLength : ℕ → ℕ → Type 0
-IsLength m l = (t : Letters m) × (pos l ≡ correctedLength t)
+  correctedLength = reducedOnce -ℤ pos (when (powerOfTwo (t .v) (t .w) && bitsArePowerOfTwo (t .v) (t .log)) (t .last))

@@ -1,9 +1,8 @@
--- Serves private functions only: what the parts of taking out answer, from the whole number nearest to a size to what the rule makes of it; and the two
--- reductions of a length.
+-- Serves private functions only: what the parts of taking out answer, from the whole number nearest to a size to what the rule makes of it; and the length
+-- of a word with its two reductions.
 use mathlib.Core.Path.{_≡_}
 use mathlib.Core.Bool.{Bool, cond, _&&_}
 use Prim.Native.Nat.{ℕ, _+_, _-_, _*_, _%_, _^_, _≤_}
-use lib.Dec.{eqb}
 use lib.IntN.{ℤ, pos, _-ℤ_}
 use Rattle.bounds.specs.declared.refusal.Refusal.{Refusal}
 use Rattle.word.specs.Takum.{Takum, real}
@@ -11,7 +10,7 @@ use Rattle.word.specs.Reads.{IsSize, signedSize}
 use Rattle.whole.specs.declared.taking.Taking.{Taking}
 use Rattle.whole.specs.declared.taking.Whole.{Whole}
 use Rattle.whole.specs.Wholes.{IsTakenWhole}
-use Rattle.whole.specs.Lengths.{IsMax, upTo, when}
+use Rattle.whole.specs.Lengths.{IsMax, upTo, when, powerOfTwo, bitsArePowerOfTwo, Letters, correctedLength}
 
 -- i is the whole number nearest to the size a, u being one: it is at most a half off, and where it is a half off, even
 pub record NearestSize (u a i : ℕ) : Type 0 where
@@ -39,7 +38,11 @@ WholeWhereLarge h m = (v : ℕ) → IsSize m (h -ℤ pos 63) v → 2 ^ 55 * 2 ^ 
 
 -- what a reduction of (11) takes off, by the letters v, w and floor(log2 v)
 unfoldable pub IsFirstReduction : ℕ → ℕ → ℕ → ℕ → Type 0
-IsFirstReduction v w log r = (first : ℕ) × IsMax (upTo log) (v - 2 ^ log) first × (r ≡ when (eqb (w + 1) v) first)
+IsFirstReduction v w log r = (first : ℕ) × IsMax (upTo log) (v - 2 ^ log) first × (r ≡ when (powerOfTwo v w) first)
 
 unfoldable pub IsLastReduction : ℕ → ℕ → ℕ → ℕ → Type 0
-IsLastReduction v w log r = (last : ℕ) × IsMax (upTo 3) log last × (r ≡ when (eqb (w + 1) v && eqb v (2 ^ log)) last)
+IsLastReduction v w log r = (last : ℕ) × IsMax (upTo 3) log last × (r ≡ when (powerOfTwo v w && bitsArePowerOfTwo v log) last)
+
+-- l is the corrected length of m
+unfoldable pub IsLength : ℕ → ℕ → Type 0
+IsLength m l = (t : Letters m) × (pos l ≡ correctedLength t)

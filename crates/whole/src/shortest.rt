@@ -5,8 +5,8 @@ use bounds::width::Made;
 use bounds::width::Width;
 ghost use Prim.Native.Nat.{_+_, _≤_, _<_};
 ghost use Rattle.whole.specs.Shortest.{GivesShortest};
-ghost use Rattle.whole.specs.Lengths.{IsLog, IsLength};
-ghost use Rattle.whole.specs.Parts.{IsFirstReduction, IsLastReduction};
+ghost use Rattle.whole.specs.Lengths.{IsLog};
+ghost use Rattle.whole.specs.Parts.{IsFirstReduction, IsLastReduction, IsLength};
 
 // The least width from 2 to 64 at which x has a word, or INEXACT where none has one.
 pub fn shortest_width(x: i64) -> Made
@@ -35,8 +35,8 @@ fn length(size: u64) -> u32
     4 + v + log - w - first - last
 }
 
-// A power of two (w = v - 1) has no fraction bits, so the zeros go that its characteristic bits, v - 2^log, end in. They are log at most; v ends in as many,
-// since it has a 1 before those bits.
+// A power of two (w = v - 1) has no fraction bits, so the zeros go that its characteristic bits, v - 2^log, end in. They are log at most; v ends in as
+// many, since it has a 1 before those bits.
 fn first_reduction(v: u32, w: u32, log: u32) -> u32
     requires { ⌜ (w + 1 ≤ v) × IsLog v log ⌝ }
     ensures { λ r. ⌜ IsFirstReduction v w log r ⌝ }
@@ -47,8 +47,8 @@ fn first_reduction(v: u32, w: u32, log: u32) -> u32
     u32::trailing_zeros(v)
 }
 
-// Where the characteristic bits are all zeros (v = 2^log), the zeros go too that the regime bits, log, end in. They are 3 at most; 8 + log ends in as many,
-// since it has the 1 of the direction bit before them.
+// Where the characteristic bits are all zeros (v = 2^log), the zeros go too that the regime bits, log, end in. They are 3 at most; 8 + log ends in as
+// many, since it has the 1 of the direction bit before them.
 fn last_reduction(v: u32, w: u32, log: u32) -> u32
     requires { ⌜ (w + 1 ≤ v) × IsLog v log × (log < 8) ⌝ }
     ensures { λ r. ⌜ IsLastReduction v w log r ⌝ }

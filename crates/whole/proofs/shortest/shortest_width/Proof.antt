@@ -1,7 +1,6 @@
 -- `shortest_width` meets its contract: zero has a word at width 2, and the words of every other number begin at its length. Assumes nothing.
-use mathlib.Core.Path.{_≡_, refl, sym, ap, _∙_, subst}
-use Prim.Native.Nat.{ℕ, zero, suc, _^_, _<_}
-use native.Mathlib.Nat.{zero-lt-suc}
+use mathlib.Core.Path.{sym, ap, _∙_, subst}
+use Prim.Native.Nat.{ℕ, zero, _^_, _<_}
 use native.Mathlib.Omega.{arith}
 use borrow.Author.Needs.{needs}
 use lib.IntN.{ℤ, pos, negsuc, natAbs}
@@ -10,18 +9,13 @@ use mir.Syntax.{w64}
 use mir.Val.{SFits, toZ, ofZ}
 use Rattle.bounds.specs.declared.width.Made.{Made}
 use Rattle.whole.specs.Shortest.{GivesShortest}
-use Rattle.whole.specs.Lengths.{IsLength}
+use Rattle.whole.specs.Parts.{IsLength}
 use Rattle.whole.proofs.Lengths.{BeginsAt}
-use Rattle.whole.proofs.ShortestWidths.{given-for-zero, given-at, refused-past, begins}
+use Rattle.whole.proofs.ShortestWidths.{some, given-for-zero, given-at, refused-past, begins}
 use Rattle.whole.proofs.shortest.shortest_width.Statement.{statement}
 use Rattle.whole.proofs.shortest.shortest_width.Tie as tie
 
--- a number but 0 has a size, and it fits in 64 bits
-some : (x : ℤ) → (x ≡ pos 0 → ⊥) → zero < natAbs x
-some (pos zero) f = absurd (f refl)
-some (pos (suc i)) f = zero-lt-suc i
-some (negsuc i) f = zero-lt-suc i
-
+-- a size fits in 64 bits
 fits : (x : ℤ) → SFits w64 x → natAbs x < 2 ^ 64
 fits (pos i) h = omega (arith, h .sfits)
 fits (negsuc i) h = omega (arith, h .sfits)

@@ -27,6 +27,18 @@ fn zero_and_nar_are_told_apart_from_all_others() {
     }
 }
 
+#[test]
+fn a_number_past_the_limit_needs_a_wider_word() {
+    for bits in 2..=64 {
+        let width = Width::new(bits).unwrap();
+        let limit = i64::try_from(width.limit()).unwrap();
+        for sign in [1, -1] {
+            assert!(Width::shortest(sign * limit).unwrap() <= width);
+            assert!(Width::shortest(sign * (limit + 1)).map_or(true, |needed| needed > width));
+        }
+    }
+}
+
 /// 1 has the regime 0, and the largest word, from 5 bits on, the regime 7. Five bits stand before those of the regime.
 #[test]
 fn zeros_that_are_appended_are_no_fraction_bits_of_a_word() {

@@ -37,7 +37,7 @@ pub record Letters (m : ℕ) : Type 0 where
   -- floor(log2 v)
   pub log : ℕ
   pub log-is : IsLog v log
-  -- what the two reductions take off: zeros that the characteristic bits end in, and the regime bits
+  -- what the two reductions take off: the zeros that the characteristic bits end in, and those that the regime bits end in
   pub first : ℕ
   pub first-is : IsMax (upTo log) (v - 2 ^ log) first
   pub last : ℕ

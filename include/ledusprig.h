@@ -271,7 +271,7 @@ TAKUM_MUST_USE takum_whole_answer takum_take_whole(uint32_t n, takum_taking taki
 
 /* How wide a word a whole number needs: the least width, from 2 to 64, at which one has exactly the value x. Every greater width up to 64 has one too,
  * so takum_write_whole(n, TAKUM_STRICT, x) gives a word from this width on, and refuses below it. From 8 on a power of two needs far less than its
- * neighbours: 512 needs 7, 513 needs 17. Zero and one need 2, and -x needs as much as x. INEXACT where no width up to 64 has one. */
+ * neighbours: 512 needs 7, 513 needs 17. Zero and one need 2; a number and its negation need the same. INEXACT where no width up to 64 has one. */
 TAKUM_MUST_USE takum_width_answer takum_shortest_width(int64_t x) TAKUM_NOEXCEPT;
 
 /* The word for a double (binary64), and which way it went: NaN and both infinities give NaR, both zeros give zero, and these are exact. INEXACT by the

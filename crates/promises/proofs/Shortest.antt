@@ -30,7 +30,7 @@ use Rattle.whole.proofs.LimitLarge.{wider}
 use Rattle.whole.proofs.LimitWords.{every-whole-number-up-to-the-limit-has-a-word, the-limit-plus-one-has-no-word}
 use Rattle.whole.proofs.OddParts.{one-greatest, greatest-of-all, greatest-up-to, first-zeros, last-zeros}
 use Rattle.whole.proofs.Lengths.{BeginsAt, counted, length-counted, a-length, begins-at}
-use Rattle.whole.proofs.ShortestWidths.{some, given-for-zero, given-at, refused-past}
+use Rattle.whole.proofs.ShortestWidths.{has-size, given-for-zero, given-at, refused-past}
 use Rattle.whole.proofs.OneOutcome.{gives-shortest-one}
 use Rattle.promises.specs.Demands.{RefusedAs}
 use Rattle.promises.specs.Numbers as numbers
@@ -102,7 +102,7 @@ fits (negsuc i) h = omega (arith, leb-true (suc i) (2 ^ 63) (open-when (leb (suc
 
 pub every-number-has-its-letters : promise.EveryNumberHasItsLetters
 unfolding promise.EveryNumberHasItsLetters IsLength
-every-number-has-its-letters x inside not-zero = length-of (natAbs x) (some x not-zero) (fits x inside) .0
+every-number-has-its-letters x inside not-zero = length-of (natAbs x) (has-size x not-zero) (fits x inside) .0
 
 -- ---- what is answered for a number whose words begin at l
 abbrev pub ByLength : ℕ → Made → Type 0
@@ -143,21 +143,22 @@ either-sign x y n q some lo hi w =
     let t = place-of n lo hi (isNegative x) (natAbs x * 2 ^ 307) (w .0) (mul-pos {m = natAbs x} {n = 2 ^ 307} some (pow-pos 307)) (w .1) in
     (wordOf n s (t .v), subst (λ (z : ℕ). HasValue n s z (wordOf n s (t .v))) (sym (t .size-is) ∙ ap (λ (i : ℕ). i * 2 ^ 307) q) (has-value n lo hi s (t .v) (t .first) (t .last)))
 
-same : (x y : ℤ) (a : Made) → natAbs x ≡ natAbs y → zero < natAbs x → GivesShortest x a → GivesShortest y a
+-- so numbers of one size have one answer
+by-size : (x y : ℤ) (a : Made) → natAbs x ≡ natAbs y → zero < natAbs x → GivesShortest x a → GivesShortest y a
 unfolding GivesShortest
-same x y (Made.Width n) q some g = record {
+by-size x y (Made.Width n) q some g = record {
   least = g .least;
   most = g .most;
   has = either-sign x y (n .bits) q some (g .least) (g .most) (g .has);
   none-shorter = λ k lo less w. g .none-shorter k lo less (either-sign y x k (sym q) (subst (λ (i : ℕ). zero < i) q some) lo (omega (arith, less, g .most)) w);
 }
-same x y (Made.Refused r) q some g = (g .0, λ n lo hi w. g .1 n lo hi (either-sign y x n (sym q) (subst (λ (i : ℕ). zero < i) q some) lo hi w))
+by-size x y (Made.Refused r) q some g = (g .0, λ n lo hi w. g .1 n lo hi (either-sign y x n (sym q) (subst (λ (i : ℕ). zero < i) q some) lo hi w))
 
 pub the-negated-number-needs-as-much : promise.TheNegatedNumberNeedsAsMuch
 unfolding promise.TheNegatedNumberNeedsAsMuch
 the-negated-number-needs-as-much (pos zero) a b y z = gives-shortest-one (pos 0) a b y z
-the-negated-number-needs-as-much (pos (suc i)) a b y z = gives-shortest-one (negsuc i) a b (same (pos (suc i)) (negsuc i) a refl (zero-lt-suc i) y) z
-the-negated-number-needs-as-much (negsuc i) a b y z = gives-shortest-one (pos (suc i)) a b (same (negsuc i) (pos (suc i)) a refl (zero-lt-suc i) y) z
+the-negated-number-needs-as-much (pos (suc i)) a b y z = gives-shortest-one (negsuc i) a b (by-size (pos (suc i)) (negsuc i) a refl (zero-lt-suc i) y) z
+the-negated-number-needs-as-much (negsuc i) a b y z = gives-shortest-one (pos (suc i)) a b (by-size (negsuc i) (pos (suc i)) a refl (zero-lt-suc i) y) z
 
 -- ---- as it is printed
 -- a number has one logarithm

@@ -14,10 +14,10 @@ use Rattle.whole.specs.Parts.{IsLength}
 use Rattle.whole.proofs.Lengths.{BeginsAt, begins-at}
 
 -- a number but 0 has a size
-pub some : (x : ℤ) → (x ≡ pos 0 → ⊥) → zero < natAbs x
-some (pos zero) f = absurd (f refl)
-some (pos (suc i)) f = zero-lt-suc i
-some (negsuc i) f = zero-lt-suc i
+pub has-size : (x : ℤ) → (x ≡ pos 0 → ⊥) → zero < natAbs x
+has-size (pos zero) f = absurd (f refl)
+has-size (pos (suc i)) f = zero-lt-suc i
+has-size (negsuc i) f = zero-lt-suc i
 
 pub given-for-zero : GivesShortest (pos 0) (Made.Width (record { bits = 2 }))
 unfolding GivesShortest HasWord

@@ -1,6 +1,6 @@
 -- `last_reduction` meets its contract: the zeros that 8 + log ends in, where number and v are powers of two, and else nothing. Assumes nothing.
-use mathlib.Core.Path.{_≡_, sym, ap, ap₂}
-use mathlib.Core.Bool.{Bool, true, _&&_}
+use mathlib.Core.Path.{_≡_, refl, sym, ap, ap₂, _∙_}
+use mathlib.Core.Bool.{Bool, true, false, _&&_}
 use mathlib.Core.Logic.{⊎-elim}
 use Prim.Native.Nat.{ℕ, _+_, _*_, _%_, _^_, _≤_}
 use native.Mathlib.Omega.{arith}
@@ -17,6 +17,11 @@ use Rattle.whole.proofs.shortest.last_reduction.Tie as tie
 
 abbrev zeros : tie.Start → ℕ
 zeros s = trailingZeros 32 (8 + s .args .log)
+
+-- where v is no power of two nothing is taken off, whatever the number is
+nothing : (p : Bool) (a : ℕ) → when (p && false) a ≡ 0
+nothing true a = refl
+nothing false a = refl
 
 -- the number is a power of two
 one-bit : (s : tie.Start) → s .args .v ≤ s .args .w + 1 → eqb (s .args .w + 1) (s .args .v) ≡ true
@@ -40,7 +45,7 @@ returns c = let s = c .before in (
   _,
   last-zeros (s .args .log) (s .pre .2),
   sym (⊎-elim (λ t. ap (λ (b : Bool). when (b && eqb (s .args .v) (2 ^ s .args .log)) (zeros s)) (ne-eqb (s .args .w + 1) (s .args .v) (λ e. omega (arith, e, t .taken))))
-      (λ t. ap₂ (λ (p b : Bool). when (p && b) (zeros s)) (one-bit s (t .0 .left)) (ne-eqb (s .args .v) (2 ^ s .args .log) (λ e. omega (arith, e, ltb-true (1 * 2 ^ s .args .log % 2 ^ 32) (s .args .v) (t .1 .taken), shifted s)))) (c .if1 .came)),
+      (λ t. ap (λ (b : Bool). when (eqb (s .args .w + 1) (s .args .v) && b) (zeros s)) (ne-eqb (s .args .v) (2 ^ s .args .log) (λ e. omega (arith, e, ltb-true (1 * 2 ^ s .args .log % 2 ^ 32) (s .args .v) (t .1 .taken), shifted s))) ∙ nothing (eqb (s .args .w + 1) (s .args .v)) (zeros s)) (c .if1 .came)),
 )
 
 returns-2 : tie.Need-returns-2

@@ -11,7 +11,7 @@ use Rattle.bounds.specs.declared.width.Made.{Made}
 use Rattle.whole.specs.Shortest.{GivesShortest}
 use Rattle.whole.specs.Parts.{IsLength}
 use Rattle.whole.proofs.Lengths.{BeginsAt}
-use Rattle.whole.proofs.ShortestWidths.{some, given-for-zero, given-at, refused-past, begins}
+use Rattle.whole.proofs.ShortestWidths.{has-size, given-for-zero, given-at, refused-past, begins}
 use Rattle.whole.proofs.shortest.shortest_width.Statement.{statement}
 use Rattle.whole.proofs.shortest.shortest_width.Tie as tie
 
@@ -33,7 +33,7 @@ size-requires c κs = search needs
 
 length-requires : tie.Need-length-requires
 length-requires c κs = let s = c .before .before in
-    subst (λ (m : ℕ). zero < m) (sym (c .size .ensures ∙ ap natAbs (toZ-ofZ (s .fits .x)))) (some (s .args .x) (λ e. c .before .if1 .left (ap (ofZ w64) e)))
+    subst (λ (m : ℕ). zero < m) (sym (c .size .ensures ∙ ap natAbs (toZ-ofZ (s .fits .x)))) (has-size (s .args .x) (λ e. c .before .if1 .left (ap (ofZ w64) e)))
 
 returns-2 : tie.Need-returns-2
 returns-2 c = refused-past _ _ (counted (c .before)) (c .if2 .taken)

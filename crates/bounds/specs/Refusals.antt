@@ -1,10 +1,10 @@
--- When a call is refused: the refusal numbers of paper 01 as one table, and the tests that come first in the paper's order.
+-- When a call is refused: the refusal numbers of papers 01 and 02 as one table, and the tests that come first in the paper's order.
 use mathlib.Core.Path.{_≡_}
 use mathlib.Core.Bool.{Bool, cond, _&&_}
 use Prim.Native.Nat.{ℕ, _^_, _≤_, _<_}
 use lib.Dec.{leb, ltb}
 use Rattle.bounds.specs.declared.refusal.Refusal.{Refusal}
-use Rattle.bounds.specs.declared.refusal.Refusal.the-variants.{Width, Stray, Nar, Inexact, Over, Room, Size, Mark, Check, Count, Fill}
+use Rattle.bounds.specs.declared.refusal.Refusal.the-variants.{Width, Stray, Nar, Inexact, Over, Room, Size, Mark, Check, Count, Fill, Retired}
 use Rattle.bounds.specs.declared.refusal.Verdict.{Verdict}
 use Rattle.bounds.specs.declared.refusal.Verdict.the-variants.{Through, Refused}
 
@@ -20,6 +20,8 @@ numberOf Mark = 8
 numberOf Check = 9
 numberOf Count = 10
 numberOf Fill = 11
+-- paper 02, Wish 10; 12, 14 and 15 are for requests to come
+numberOf Retired = 13
 
 -- Of tests in a row, the first that refuses decides.
 infixl 30 _then_

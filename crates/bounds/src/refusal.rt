@@ -1,4 +1,4 @@
-// Why a call is refused: the eleven refusals of paper 01 by name, and the verdict of a test.
+// Why a call is refused: the eleven refusals of paper 01 and Wish 10's RETIRED by name, and the verdict of a test.
 ghost use mathlib.Core.Path.{_≡_};
 ghost use Rattle.bounds.specs.Refusals.{numberOf, _then_};
 
@@ -14,6 +14,7 @@ pub enum Refusal {
     Check,
     Count,
     Fill,
+    Retired,
 }
 
 // A test lets the input through or refuses it.
@@ -39,6 +40,7 @@ impl Refusal {
             Refusal::Check => 9,
             Refusal::Count => 10,
             Refusal::Fill => 11,
+            Refusal::Retired => 13,
         }
     }
 }

@@ -1,4 +1,4 @@
--- The text of a line (paper 01, "The lister"; its whole number by paper 02, Wish 2, its last field by Wish 3), as a list of bytes.
+-- The text of a line (paper 01, "The lister"; its whole number by paper 02, Wish 2, its last field by Wish 3, ` old` by Wish 10), as a list of bytes.
 use mathlib.Core.Path.{_≡_}
 use mathlib.Core.Bool.{cond}
 use mathlib.Core.List.{List, [], _∷_, _++_}
@@ -13,6 +13,7 @@ use Rattle.word.specs.Reads.{Reads}
 use Rattle.whole.specs.declared.taking.Taking.{Taking}
 use Rattle.whole.specs.declared.taking.Whole.{Whole}
 use Rattle.whole.specs.Wholes.{TakesWhole}
+use Rattle.sheet.specs.Writes.{isRetired}
 
 -- the bytes of `-`, of a space and of the end of a line
 unfoldable pub minus : ℕ
@@ -65,9 +66,16 @@ IsWholeText n w t = (a : Whole) × (d : List ℕ) × TakesWhole n Taking.Nearest
 unfoldable pub IsOwnText : ℕ → ℕ → List ℕ → Type 0
 IsOwnText n w t = (a : Reading) × (d : List ℕ) × Reads n w a × IsDecimal (a .own) d × (t ≡ (space ∷ []) ++ d)
 
--- a line: block number, position, word, whole number and own fraction bits, one space between
+-- ` old`, which ends the lines of a block whose width is no longer written
+unfoldable pub old : List ℕ
+old = space ∷ 0x6f ∷ 0x6c ∷ 0x64 ∷ []
+
+unfoldable pub oldText : ℕ → List ℕ
+oldText n = cond (isRetired n) old []
+
+-- a line: block number, position, word, whole number and own fraction bits, one space between, and ` old` where the block is old
 unfoldable pub IsLine : ℕ → ℕ → ℕ → ℕ → List ℕ → Type 0
-IsLine number position n w t = (b p x o : List ℕ) × IsField number b × IsField position p × IsWholeText n w x × IsOwnText n w o × (t ≡ b ++ p ++ hexOf n w ++ x ++ o ++ (newline ∷ []))
+IsLine number position n w t = (b p x o : List ℕ) × IsField number b × IsField position p × IsWholeText n w x × IsOwnText n w o × (t ≡ b ++ p ++ hexOf n w ++ x ++ o ++ oldText n ++ (newline ∷ []))
 
 -- the lines of words, the first of them at a position
 unfoldable pub AreLines : ℕ → ℕ → ℕ → List ℕ → List ℕ → Type 0

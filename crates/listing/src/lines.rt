@@ -1,4 +1,4 @@
-// A line of the listing: block number, position, the word in hex, its whole number, and its own fraction bits.
+// A line of the listing: block number, position, the word in hex, its whole number, its own fraction bits, and ` old` of an old block.
 use crate::text::put_byte;
 use crate::text::put_decimal;
 use crate::text::put_digits;
@@ -6,6 +6,7 @@ use crate::text::put_signed;
 use crate::text::put_text;
 use bounds::refusal::Refusal;
 use bounds::width::Width;
+use sheet::writing::RETIRED;
 use whole::taking::Taking;
 use whole::taking::Whole;
 use whole::taking::take_whole;
@@ -13,7 +14,7 @@ use word::reading::read;
 ghost use Prim.Native.Nat.{_+_, _≤_};
 ghost use lib.ListN.{length};
 ghost use Rattle.listing.specs.Puts.{Puts, PutsSome};
-ghost use Rattle.listing.specs.Text.{hexOf, refusalText, IsShown, IsField, IsWholeText, IsOwnText, IsLine};
+ghost use Rattle.listing.specs.Text.{hexOf, refusalText, oldText, IsShown, IsField, IsWholeText, IsOwnText, IsLine};
 
 // The line of one word.
 pub(crate) fn put_line(
@@ -32,7 +33,8 @@ pub(crate) fn put_line(
     let hex = put_hex(out, place, width, word);
     let whole = put_whole(out, hex, width, word);
     let own = put_own(out, whole, width, word);
-    put_byte(out, own, 0x0a)
+    let old = put_old(out, own, width);
+    put_byte(out, old, 0x0a)
 }
 
 // A number and a space. Of 32 bits it has no more than ten digits.
@@ -70,6 +72,17 @@ fn put_own(out: &mut [u8], at: usize, width: u32, word: u64) -> usize
     let reading = read(Width { bits: width }, word);
     let next = put_byte(out, at, 0x20);
     put_decimal(out, next, reading.own as u64)
+}
+
+// ` old` for a block whose width is no longer written.
+fn put_old(out: &mut [u8], at: usize, width: u32) -> usize
+    requires { ⌜ at + 4 ≤ length (now out) ⌝ }
+    ensures { λ r. ⌜ Puts (now (out .entry)) at (oldText width) (now (out .exit)) r × (r ≤ at + 4) ⌝ }
+{
+    if width == RETIRED {
+        return put_text(out, at, b" old");
+    }
+    at
 }
 
 // The whole number, `nar` or `over`.

@@ -1,5 +1,5 @@
 -- The tests of a content in the paper's order, what is known of one that they let through, and its words, tried in order. Assumes nothing.
-use mathlib.Core.Path.{_≡_, sym, subst}
+use mathlib.Core.Path.{_≡_, sym, ap, _∙_, subst}
 use mathlib.Core.Bool.{Bool, true, false, not, false≢true}
 use mathlib.Core.List.{List}
 use Prim.Native.Nat.{ℕ, _+_, _-_, _*_, _/_, _^_, _≤_, _<_}
@@ -16,7 +16,7 @@ use Rattle.bounds.proofs.Verdicts.{open-when, then-through, stray-through, stra
 use Rattle.sheet.specs.declared.writing.Writing.{Writing}
 use Rattle.sheet.specs.Puts.{AreOfBytes, IsFirstStray}
 use Rattle.sheet.specs.Reads.{isBlockWidth, sizeTest}
-use Rattle.sheet.specs.Writes.{hasRoomFor, contentTest, FitUpTo, IsTried}
+use Rattle.sheet.specs.Writes.{isRetired, hasRoomFor, contentTest, FitUpTo, IsTried}
 use Rattle.sheet.proofs.Rooms.{has-room, has-no-room}
 use Rattle.sheet.proofs.Sizes.{whole-bytes}
 use Rattle.sheet.proofs.Tests.{OneOfFour, each-width, is-width}
@@ -37,33 +37,41 @@ module _ (n count : ℕ) (buffer : List ℕ) where
   other-width h = rw h
 
   module _ (wide : isBlockWidth n ≡ true) where
-    pub too-many : 496 / (n / 8) < count → contentTest n count buffer ≡ Verdict.Refused Refusal.Count
-    unfolding contentTest
-    too-many h = rw (wide, has-no-room n count (is-width n wide) h)
+    pub old-width : n ≡ 8 → contentTest n count buffer ≡ Verdict.Refused Refusal.Retired
+    unfolding contentTest isRetired
+    old-width h = rw (wide, eq-eqb n 8 h)
 
-    module _ (room : count ≤ 496 / (n / 8)) where
-      pub other-buffer : (length buffer ≡ 512 → ⊥) → contentTest n count buffer ≡ Verdict.Refused Refusal.Size
-      unfolding contentTest sizeTest
-      other-buffer h = rw (wide, has-room n count (is-width n wide) room, ne-eqb (length buffer) 512 h)
+    module _ (made : n ≡ 8 → ⊥) where
+      pub too-many : 496 / (n / 8) < count → contentTest n count buffer ≡ Verdict.Refused Refusal.Count
+      unfolding contentTest isRetired
+      too-many h = rw (wide, ne-eqb n 8 made, has-no-room n count (is-width n wide) h)
 
-      pub content-passes : length buffer ≡ 512 → contentTest n count buffer ≡ Verdict.Through
-      unfolding contentTest sizeTest
-      content-passes h = rw (wide, has-room n count (is-width n wide) room, eq-eqb (length buffer) 512 h)
+      module _ (room : count ≤ 496 / (n / 8)) where
+        pub other-buffer : (length buffer ≡ 512 → ⊥) → contentTest n count buffer ≡ Verdict.Refused Refusal.Size
+        unfolding contentTest isRetired sizeTest
+        other-buffer h = rw (wide, ne-eqb n 8 made, has-room n count (is-width n wide) room, ne-eqb (length buffer) 512 h)
+
+        pub content-passes : length buffer ≡ 512 → contentTest n count buffer ≡ Verdict.Through
+        unfolding contentTest isRetired sizeTest
+        content-passes h = rw (wide, ne-eqb n 8 made, has-room n count (is-width n wide) room, eq-eqb (length buffer) 512 h)
 
 -- ---- a content that is let through
 pub record Fitting (n count : ℕ) (buffer : List ℕ) : Type 0 where
   pub wide : OneOfFour n
+  pub made : n ≡ 8 → ⊥
   pub inside : 8 + n / 8 * count ≤ 504
   pub size : length buffer ≡ 512
 
 pub fitting : (n count : ℕ) (buffer : List ℕ) → contentTest n count buffer ≡ Verdict.Through → Fitting n count buffer
-unfolding contentTest hasRoomFor sizeTest
+unfolding contentTest isRetired hasRoomFor sizeTest
 fitting n count buffer h =
-    let to-count = then-through (unless Refusal.Width (isBlockWidth n) then unless Refusal.Count (hasRoomFor n count)) (sizeTest buffer) h in
-    let to-width = then-through (unless Refusal.Width (isBlockWidth n)) (unless Refusal.Count (hasRoomFor n count)) (to-count .0) in
+    let to-count = then-through (unless Refusal.Width (isBlockWidth n) then unless Refusal.Retired (not (isRetired n)) then unless Refusal.Count (hasRoomFor n count)) (sizeTest buffer) h in
+    let to-retired = then-through (unless Refusal.Width (isBlockWidth n) then unless Refusal.Retired (not (isRetired n))) (unless Refusal.Count (hasRoomFor n count)) (to-count .0) in
+    let to-width = then-through (unless Refusal.Width (isBlockWidth n)) (unless Refusal.Retired (not (isRetired n))) (to-retired .0) in
     record {
       wide = is-width n (open-when _ Refusal.Width (to-width .0));
-      inside = leb-true _ _ (open-when _ Refusal.Count (to-width .1));
+      made = λ e. false≢true (sym (ap not (eq-eqb n 8 e)) ∙ open-when _ Refusal.Retired (to-width .1));
+      inside = leb-true _ _ (open-when _ Refusal.Count (to-retired .1));
       size = eqb-true _ _ (open-when _ Refusal.Size (to-count .1));
     }
 

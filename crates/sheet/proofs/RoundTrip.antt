@@ -2,7 +2,7 @@
 use mathlib.Core.Path.{_≡_, refl, sym, ap, ap₂, _∙_, subst}
 use mathlib.Core.List.{List, _++_}
 use Prim.Native.Nat.{ℕ, _+_, _*_, _/_, _^_, _≤_, _<_}
-use borrow.Author.Tests.{eq-eqb, le-leb}
+use borrow.Author.Tests.{eq-eqb, ne-eqb, le-leb}
 use lib.ListN.{length, getD, drop}
 use Rattle.bounds.specs.declared.refusal.Refusal.{Refusal}
 use Rattle.bounds.specs.declared.refusal.Verdict.{Verdict}
@@ -12,7 +12,7 @@ use Rattle.sheet.specs.declared.block.Block.{Block}
 use Rattle.sheet.specs.declared.writing.Writing.{Writing}
 use Rattle.sheet.specs.Layout.{AreBytes, packed, width, count, blockNumber, wordBytes, words, end}
 use Rattle.sheet.specs.Reads.{sizeTest, blockWidthTest, countTest, blockTest, ReadsBlock, FillsResults}
-use Rattle.sheet.specs.Writes.{IsBlockOf, hasRoomFor, contentTest, FitUpTo, IsTried, WritesBlock}
+use Rattle.sheet.specs.Writes.{IsBlockOf, isRetired, hasRoomFor, contentTest, FitUpTo, IsTried, WritesBlock}
 use Rattle.sheet.proofs.Contents.{Fitting}
 use Rattle.sheet.proofs.LittleEndian.{numberAt-below}
 use Rattle.sheet.proofs.Packing.{packed-length, words-at}
@@ -69,15 +69,16 @@ module _ (block : List ℕ) (places : ℕ) (bytes : AreBytes block) (h : blockTe
       let small : getD (packed (width block / 8) (count block) (drop 8 block)) j 0 < 2 ^ (8 * (width block / 8)) = subst (λ (x : ℕ). x < 2 ^ (8 * (width block / 8))) (sym (words-at (width block / 8) (count block) block j (subst (λ (k : ℕ). j < k) (packed-length (width block / 8) (count block) (drop 8 block)) l))) (numberAt-below (width block / 8) (8 + width block / 8 * j) block bytes) in
       stray-fits (width block) _ (subst (λ (k : ℕ). getD (packed (width block / 8) (count block) (drop 8 block)) j 0 < 2 ^ k) (whole-bytes (width block) four) small)
 
-  pub is-written : (buffer : List ℕ) (a : Writing) → length buffer ≡ 512 → WritesBlock (width block) (words block) buffer a → a ≡ Writing.Written
-  unfolding WritesBlock IsTried FitUpTo contentTest hasRoomFor sizeTest end wordBytes
-  is-written buffer a size x = by a (answered all x)
+  -- at a width that is still written
+  pub is-written : (width block ≡ 8 → ⊥) → (buffer : List ℕ) (a : Writing) → length buffer ≡ 512 → WritesBlock (width block) (words block) buffer a → a ≡ Writing.Written
+  unfolding WritesBlock IsTried FitUpTo contentTest isRetired hasRoomFor sizeTest end wordBytes
+  is-written made buffer a size x = by a (answered all x)
     where
       all : contentTest (width block) (length (words block)) buffer ≡ Verdict.Through
       all =
           let p = passes block places h in
           let room : 8 + width block / 8 * length (words block) ≤ 504 = subst (λ (c : ℕ). 8 + width block / 8 * c ≤ 504) (sym (words-length block)) (p .inside) in
-          rw (width-is (width block) (p .wide), le-leb (8 + width block / 8 * length (words block)) 504 room, eq-eqb (length buffer) 512 size)
+          rw (width-is (width block) (p .wide), ne-eqb (width block) 8 made, le-leb (8 + width block / 8 * length (words block)) 504 room, eq-eqb (length buffer) 512 size)
 
       by : (a : Writing) → IsTried (width block) (words block) a → a ≡ Writing.Written
       by Writing.Written t = refl

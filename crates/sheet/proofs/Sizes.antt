@@ -1,9 +1,9 @@
 -- The bytes that a block's words have: 1, 2, 4 or 8, all of them within the block. Assumes nothing.
 use mathlib.Core.Path.{_≡_, refl, sym, ap₂, _∙_, subst, subst₂}
 use mathlib.Core.List.{List, _++_}
-use Prim.Native.Nat.{ℕ, _+_, _*_, _/_, _≤_}
+use Prim.Native.Nat.{ℕ, _+_, _*_, _/_, _≤_, _<_}
 use native.Mathlib.Omega.{arith}
-use lib.Dec.{lit≤}
+use lib.Dec.{lit≤, lit<}
 use lib.ListN.{length, drop}
 use Rattle.sheet.specs.Layout.{IsWordBytes, one, two, four, eight, packed, width, count, wordBytes, words, end}
 use Rattle.sheet.proofs.Passing.{Passes}
@@ -11,6 +11,10 @@ use Rattle.sheet.proofs.Tests.{OneOfFour, each-width}
 
 pub sized : (n : ℕ) → OneOfFour n → IsWordBytes (n / 8)
 sized = each-width (λ n. IsWordBytes (n / 8)) one two four eight
+
+-- where 8 bits are shut out, a word has more than one byte
+pub more-than-one : (n : ℕ) → OneOfFour n → (n ≡ 8 → ⊥) → 1 < n / 8
+more-than-one = each-width (λ n. (n ≡ 8 → ⊥) → 1 < n / 8) (λ f. absurd (f refl)) (λ f. lit< tt) (λ f. lit< tt) (λ f. lit< tt)
 
 pub whole-bytes : (n : ℕ) → OneOfFour n → 8 * (n / 8) ≡ n
 whole-bytes = each-width (λ n. 8 * (n / 8) ≡ n) refl refl refl refl

@@ -1,11 +1,11 @@
--- What writing a block answers, and what it leaves in the lent buffer (paper 02, Wish 1).
+-- What writing a block answers, and what it leaves in the lent buffer (paper 02, Wish 1; no more blocks of width 8 by Wish 10).
 use mathlib.Core.Path.{_≡_}
-use mathlib.Core.Bool.{Bool}
+use mathlib.Core.Bool.{Bool, not}
 use mathlib.Core.List.{List}
 use Prim.Native.Nat.{ℕ, _+_, _*_, _/_, _<_}
-use lib.Dec.{leb}
+use lib.Dec.{eqb, leb}
 use lib.ListN.{length, getD}
-use Rattle.bounds.specs.declared.refusal.Refusal.the-variants.{Width, Count}
+use Rattle.bounds.specs.declared.refusal.Refusal.the-variants.{Width, Count, Retired}
 use Rattle.bounds.specs.declared.refusal.Verdict.{Verdict}
 use Rattle.bounds.specs.declared.refusal.Verdict.the-variants.{Through, Refused}
 use Rattle.bounds.specs.Refusals.{unless, strayTest, _then_, Decided}
@@ -30,13 +30,18 @@ pub record IsBlockOf (n number : ℕ) (words block : List ℕ) : Type 0 where
   pub checked : checkTest block ≡ Through
 
 -- ---- the refusals
+-- the width that blocks were written with once and are no more; old ones are still read
+unfoldable pub isRetired : ℕ → Bool
+isRetired n = eqb n 8
+
 -- so many words of the width end at byte 503 or before it
 unfoldable pub hasRoomFor : ℕ → ℕ → Bool
 hasRoomFor n count = leb (8 + n / 8 * count) 504
 
--- 1 WIDTH: a block's width isn't one of its four; 10 COUNT: more words than the width has room for; 7 SIZE: the buffer isn't 512 bytes
+-- 1 WIDTH: a block's width isn't one of its four; 13 RETIRED: it is 8; 10 COUNT: more words than the width has room for; 7 SIZE: the buffer isn't 512
+-- bytes
 unfoldable pub contentTest : ℕ → ℕ → List ℕ → Verdict
-contentTest n count buffer = unless Width (isBlockWidth n) then unless Count (hasRoomFor n count) then sizeTest buffer
+contentTest n count buffer = unless Width (isBlockWidth n) then unless Retired (not (isRetired n)) then unless Count (hasRoomFor n count) then sizeTest buffer
 
 -- the words before the position have no stray bit
 unfoldable pub FitUpTo : ℕ → List ℕ → ℕ → Type 0

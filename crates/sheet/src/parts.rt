@@ -22,7 +22,7 @@ pub(crate) fn put_header(width: u32, count: u32, number: u32, buffer: &mut [u8])
 
 // The words from byte 8 on.
 pub(crate) fn pack(size: usize, words: &[u64], buffer: &mut [u8])
-    requires { ⌜ IsWordBytes size × (8 + size * length (now words) ≤ length (now buffer)) × AreOfBytes size (now words) ⌝ }
+    requires { ⌜ IsWordBytes size × (1 < size) × (8 + size * length (now words) ≤ length (now buffer)) × AreOfBytes size (now words) ⌝ }
     ensures { λ _. ⌜ Packs size (now (words .entry)) (length (now (words .entry))) (now (buffer .entry)) (now (buffer .exit)) ⌝ }
 {
     let mut i = 0;
@@ -32,13 +32,12 @@ pub(crate) fn pack(size: usize, words: &[u64], buffer: &mut [u8])
     }
 }
 
-// The size is the same in every turn, so the compiler takes the choice out of the loop.
+// The size is the same in every turn, so the compiler takes the choice out of the loop. No word that is written has one byte.
 fn put_word(buffer: &mut [u8], size: usize, at: usize, word: u64)
-    requires { ⌜ IsWordBytes size × (at + size ≤ length (now buffer)) × (word < 2 ^ (8 * size)) ⌝ }
+    requires { ⌜ IsWordBytes size × (1 < size) × (at + size ≤ length (now buffer)) × (word < 2 ^ (8 * size)) ⌝ }
     ensures { λ _. ⌜ Puts size at word (now (buffer .entry)) (now (buffer .exit)) ⌝ }
 {
     match size {
-        1 => put_one(buffer, at, word as u32),
         2 => put_two(buffer, at, word as u32),
         4 => put_four(buffer, at, word as u32),
         _ => put_eight(buffer, at, word),

@@ -13,6 +13,9 @@ ghost use Rattle.bounds.specs.declared.refusal.Verdict.{Verdict};
 ghost use Rattle.sheet.specs.Puts.{IsFirstStray};
 ghost use Rattle.sheet.specs.Writes.{IsBlockOf, contentTest, FitUpTo, WritesBlock, FillsBuffer};
 
+// The width that no block is written with any more; old blocks of it are still read.
+pub const RETIRED: u32 = 8;
+
 // The block was written, or why not: a refusal of the whole, or of the word at a position.
 pub enum Writing {
     Written,
@@ -27,6 +30,9 @@ pub fn write_block(width: Width, number: u32, words: &[u64], buffer: &mut [u8]) 
 {
     if !is_block_width(width.bits) {
         return Writing::Refused(Refusal::Width);
+    }
+    if width.bits == RETIRED {
+        return Writing::Refused(Refusal::Retired);
     }
     // a word has bits / 8 bytes, and 496 bytes are there for the words
     if words.len() > (496 / (width.bits / 8)) as usize {

@@ -23,6 +23,9 @@ put-whole-requires c κs = search needs
 put-own-requires : tie.Need-put-own-requires
 put-own-requires c κs = search needs
 
+put-old-requires : tie.Need-put-old-requires
+put-old-requires c κs = search needs
+
 put-byte-requires : tie.Need-put-byte-requires
 put-byte-requires c κs = search needs
 
@@ -32,17 +35,19 @@ same-length c = search needs
 returns : tie.Need-returns
 unfolding PutsSome IsLine newline
 returns c =
-    let b = c .before .before .before .before .before .before .before .before .before .before .before .before .before .before .before .before .before .before .before .before .before .before .put-field .ensures in
-    let p = c .before .before .before .before .before .before .before .before .before .before .before .before .before .before .before .before .before .before .put-field2 .ensures in
-    let h = c .before .before .before .before .before .before .before .before .before .before .before .before .before .before .put-hex .ensures in
-    let x = c .before .before .before .before .before .before .before .before .before .before .put-whole .ensures in
-    let o = c .before .before .before .before .before .before .put-own .ensures in
+    let b = c .before .before .before .before .before .before .before .before .before .before .before .before .before .before .before .before .before .before .before .before .before .before .before .before .before .before .put-field .ensures in
+    let p = c .before .before .before .before .before .before .before .before .before .before .before .before .before .before .before .before .before .before .before .before .before .before .put-field2 .ensures in
+    let h = c .before .before .before .before .before .before .before .before .before .before .before .before .before .before .before .before .before .before .put-hex .ensures in
+    let x = c .before .before .before .before .before .before .before .before .before .before .before .before .before .before .put-whole .ensures in
+    let o = c .before .before .before .before .before .before .before .before .before .before .put-own .ensures in
+    let l = c .before .before .before .before .before .before .put-old .ensures in
     let e = c .before .before .put-byte .ensures in
     let fields = joined _ _ _ _ _ _ _ _ (b .0 .2) (p .0 .2) in
     let word = joined _ _ _ _ _ _ _ _ fields (h .0) in
-    let whole = joined _ _ _ _ _ _ _ _ word (x .0 .2) in (
-      (_, (_, _, _, _, b .0 .1, p .0 .1, x .0 .1, o .0 .1, refl), joined _ _ _ _ _ _ _ _ (joined _ _ _ _ _ _ _ _ whole (o .0 .2)) e),
-      omega (arith, b .1, p .1, h .1, x .1, o .1, e .place),
+    let whole = joined _ _ _ _ _ _ _ _ word (x .0 .2) in
+    let own = joined _ _ _ _ _ _ _ _ whole (o .0 .2) in (
+      (_, (_, _, _, _, b .0 .1, p .0 .1, x .0 .1, o .0 .1, refl), joined _ _ _ _ _ _ _ _ (joined _ _ _ _ _ _ _ _ own (l .0)) e),
+      omega (arith, b .1, p .1, h .1, x .1, o .1, l .1, e .place),
     )
 
 pub put-line-spec : {M : Type 1} → statement M
@@ -54,6 +59,7 @@ put-line-spec =
     put-hex-requires
     put-whole-requires
     put-own-requires
+    put-old-requires
     put-byte-requires
     same-length
     returns)

@@ -39,7 +39,7 @@ unfolding AreOfBytes
 put-word-requires c κs =
     let in-loop = c .before .before in
     let start = in-loop .before .before .before .before in
-    (start .pre .0, omega (arith, inside in-loop, in-loop .before .loop .inv .1 .within .size), start .pre .2 _ (in-loop .loop-test .taken))
+    (start .pre .0, start .pre .1, omega (arith, inside in-loop, in-loop .before .loop .inv .1 .within .size), start .pre .3 _ (in-loop .loop-test .taken))
 
 add-i : tie.Need-add-i Inv-loop μ-loop
 add-i c = omega arith

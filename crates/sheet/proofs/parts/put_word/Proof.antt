@@ -1,4 +1,4 @@
--- `put_word` meets its contract, for each of the four sizes. Assumes nothing.
+-- `put_word` meets its contract, for each of the three sizes. Assumes nothing.
 use mathlib.Core.Path.{_≡_}
 use Prim.Native.Nat.{_^_, _<_}
 use native.Mathlib.Omega.{arith}
@@ -9,30 +9,21 @@ use Rattle.sheet.proofs.parts.put_word.Statement.{statement}
 use Rattle.sheet.proofs.parts.put_word.Tie as tie
 
 -- what the size says of the word
-one-byte : (c : tie.At-match-keys1) → c .before .before .args .word < 2 ^ 8
-one-byte c = below-of-size 1 _ _ (c .match .keys1) (c .before .before .pre .2)
+two-bytes : (c : tie.At-match-keys1) → c .before .before .args .word < 2 ^ 16
+two-bytes c = below-of-size 2 _ _ (c .match .keys1) (c .before .before .pre .3)
 
-two-bytes : (c : tie.At-match-keys2) → c .before .before .args .word < 2 ^ 16
-two-bytes c = below-of-size 2 _ _ (c .match .keys2) (c .before .before .pre .2)
-
-four-bytes : (c : tie.At-match-keys3) → c .before .before .args .word < 2 ^ 32
-four-bytes c = below-of-size 4 _ _ (c .match .keys3) (c .before .before .pre .2)
+four-bytes : (c : tie.At-match-keys2) → c .before .before .args .word < 2 ^ 32
+four-bytes c = below-of-size 4 _ _ (c .match .keys2) (c .before .before .pre .3)
 
 -- what is left where the size is not 1, 2 or 4
 last : (c : tie.At-match-rest) → c .before .before .args .size ≡ 8
-last c = eight-left _ (c .before .before .pre .0) (c .match .rest .0 .0 .1) (c .match .rest .0 .1) (c .match .rest .1)
-
-cast-put-one : tie.Need-cast-put-one
-cast-put-one c = omega (arith, one-byte (c .before))
-
-put-one-requires : tie.Need-put-one-requires
-put-one-requires c κs = (omega (arith, c .before .match .keys1), one-byte (c .before))
+last c = eight-left _ (c .before .before .pre .0) (λ e. omega (arith, e, c .before .before .pre .1)) (c .match .rest .0 .1) (c .match .rest .1)
 
 cast-put-two : tie.Need-cast-put-two
 cast-put-two c = omega (arith, two-bytes (c .before))
 
 put-two-requires : tie.Need-put-two-requires
-put-two-requires c κs = (omega (arith, c .before .match .keys2), two-bytes (c .before))
+put-two-requires c κs = (omega (arith, c .before .match .keys1), two-bytes (c .before))
 
 cast-put-four : tie.Need-cast-put-four
 cast-put-four c = omega (arith, four-bytes (c .before))
@@ -48,35 +39,26 @@ same-length c = search needs
 
 returns : tie.Need-returns
 returns c = let t = c .before .before in
-    puts-of-size 1 _ _ _ (t .before .before .match .keys1) (t .put-one .ensures)
+    puts-of-size 2 _ _ _ (t .before .before .match .keys1) (t .put-two .ensures)
 
 same-length-2 : tie.Need-same-length-2
 same-length-2 c = search needs
 
 returns-2 : tie.Need-returns-2
 returns-2 c = let t = c .before .before in
-    puts-of-size 2 _ _ _ (t .before .before .match .keys2) (t .put-two .ensures)
+    puts-of-size 4 _ _ _ (t .before .before .match .keys2) (t .put-four .ensures)
 
 same-length-3 : tie.Need-same-length-3
 same-length-3 c = search needs
 
 returns-3 : tie.Need-returns-3
 returns-3 c = let t = c .before .before in
-    puts-of-size 4 _ _ _ (t .before .before .match .keys3) (t .put-four .ensures)
-
-same-length-4 : tie.Need-same-length-4
-same-length-4 c = search needs
-
-returns-4 : tie.Need-returns-4
-returns-4 c = let t = c .before .before in
     puts-of-size 8 _ _ _ (last (t .before .before)) (t .put-eight .ensures)
 
 pub put-word-spec : {M : Type 1} → statement M
 put-word-spec =
     tie.close
     (tie.spec
-    cast-put-one
-    put-one-requires
     cast-put-two
     put-two-requires
     cast-put-four
@@ -87,6 +69,4 @@ put-word-spec =
     same-length-2
     returns-2
     same-length-3
-    returns-3
-    same-length-4
-    returns-4)
+    returns-3)

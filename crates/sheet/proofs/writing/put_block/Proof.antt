@@ -7,7 +7,7 @@ use lib.ListN.{length}
 use Rattle.sheet.specs.Layout.{AreBytes}
 use Rattle.sheet.proofs.Contents.{Fitting, fitting, small-count, fit-bytes}
 use Rattle.sheet.proofs.Making.{is-block-of}
-use Rattle.sheet.proofs.Sizes.{sized, width-of-words}
+use Rattle.sheet.proofs.Sizes.{sized, more-than-one, width-of-words}
 use Rattle.sheet.proofs.writing.put_block.Statement.{statement}
 use Rattle.sheet.proofs.writing.put_block.Tie as tie
 
@@ -33,7 +33,7 @@ pack-requires : tie.Need-pack-requires
 pack-requires c κs =
     let header = c .before .before .before in
     let start = header .before .before .before .before in
-    (sized _ (fits start .wide), omega (arith, fits start .inside, fits start .size, header .put-header .ensures .within .size), fit-bytes _ _ (fits start .wide) (start .pre .1))
+    (sized _ (fits start .wide), more-than-one _ (fits start .wide) (fits start .made), omega (arith, fits start .inside, fits start .size, header .put-header .ensures .within .size), fit-bytes _ _ (fits start .wide) (start .pre .1))
 
 mul-clear : tie.Need-mul-clear
 mul-clear c = let start = c .before .before .before .before .before .before .before .before .before .before in

@@ -55,7 +55,7 @@ use Rattle.ledusprig.specs.declared.handed.columns.HandedWriting.{HandedWriting
 use Rattle.ledusprig.specs.Handed.{kindHanded}
 use Rattle.promises.specs.Nearest.{OneNumberIsTheNearest}
 use Rattle.promises.specs.Numbers.{IsWhole}
-use Rattle.promises.specs.Refusals.{Line, line, width, stray, nar, over, noWidth, room, size, mark, check, blockWidth, count, fill, writtenWidth, writtenCount}
+use Rattle.promises.specs.Refusals.{Line, line, width, stray, nar, over, noWidth, room, size, mark, check, blockWidth, count, fill, writtenWidth, retired, writtenCount}
 use Rattle.promises.specs.Face.{FieldFollows, NoneHolds, HandsWord, HandsSaid, inexact, IsGiven, IsNaR, IsLargest, IsSmallest, CountsUpTo, HandsLargest, HandsSmallest, HandsNaR, HandsLimit, NoNumber, IsToldBy, HandsReading, HandsComparison, HandsNegated, HandsValue, HandsWritten, HandsWholeWritten, HandsBinary64Written, HandsWhole, HandsNumber, HandsShortest, wordLines, IsMovedTo, HandsMoved, MovedAll, RefusedAtPosition, HandsColumn, HandsBlock, WrittenAll, StrayAtPosition, HandsBlockWritten}
 use Rattle.promises.proofs.Nearest.{one-number-is-the-nearest}
 
@@ -312,7 +312,7 @@ module _ (n number : ℕ) (words before : List ℕ) where
 
   pub block-written-called-one : (after after' : List ℕ) (r s : HandedWriting) → HandsBlockWritten n number words before after r → HandsBlockWritten n number words before after' s → (r ≡ s) × (after ≡ after')
   unfolding HandsBlockWritten
-  block-written-called-one after after' r s = follows-one (writtenWidth n ∷ writtenCount n (length words) ∷ size before ∷ []) (λ e (f, a) (f', b). (same e (both f f'), both a b)) (λ none. by)
+  block-written-called-one after after' r s = follows-one (writtenWidth n ∷ retired n ∷ writtenCount n (length words) ∷ size before ∷ []) (λ e (f, a) (f', b). (same e (both f f'), both a b)) (λ none. by)
     where
       same : r .refusal ≡ s .refusal → r .position ≡ s .position → r ≡ s
       same e f = λ i. record { refusal = e i; position = f i }

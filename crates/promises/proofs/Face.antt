@@ -1,31 +1,32 @@
 -- The promises that specs/Face.antt states of refusal numbers, lent memory and positions. Assumes nothing.
-use mathlib.Core.Path.{_≡_}
+use mathlib.Core.Path.{_≡_, refl}
 use mathlib.Core.Bool.{Bool}
 use mathlib.Core.List.{List, [], _∷_}
 use mathlib.Core.Logic.{_⊎_, inl, inr}
 use Prim.Native.Nat.{ℕ, _<_}
 use native.Mathlib.Omega.{arith}
 use lib.ListN.{length, getD}
-use Rattle.bounds.specs.declared.refusal.Refusal.the-variants.{Width, Stray, Nar, Inexact, Over, Room, Size, Mark, Check, Count, Fill}
+use Rattle.bounds.specs.declared.refusal.Refusal.the-variants.{Width, Stray, Nar, Inexact, Over, Room, Size, Mark, Check, Count, Fill, Retired}
 use Rattle.ledusprig.specs.declared.handed.columns.HandedColumn.{HandedColumn}
 use Rattle.ledusprig.specs.declared.handed.columns.HandedWriting.{HandedWriting}
 use Rattle.promises.specs.Refusals.{Line, line, stray}
 use Rattle.promises.specs.Face as promise
 use Rattle.promises.specs.Face.{FieldFollows, wordLines, MovedAll, RefusedAtPosition, HandsColumn, HandsBlock, WrittenAll, StrayAtPosition, HandsBlockWritten}
 
-pub refusal-numbers-are-1-to-11 : promise.RefusalNumbersAre1To11
-unfolding promise.RefusalNumbersAre1To11
-refusal-numbers-are-1-to-11 Width = (omega arith, omega arith)
-refusal-numbers-are-1-to-11 Stray = (omega arith, omega arith)
-refusal-numbers-are-1-to-11 Nar = (omega arith, omega arith)
-refusal-numbers-are-1-to-11 Inexact = (omega arith, omega arith)
-refusal-numbers-are-1-to-11 Over = (omega arith, omega arith)
-refusal-numbers-are-1-to-11 Room = (omega arith, omega arith)
-refusal-numbers-are-1-to-11 Size = (omega arith, omega arith)
-refusal-numbers-are-1-to-11 Mark = (omega arith, omega arith)
-refusal-numbers-are-1-to-11 Check = (omega arith, omega arith)
-refusal-numbers-are-1-to-11 Count = (omega arith, omega arith)
-refusal-numbers-are-1-to-11 Fill = (omega arith, omega arith)
+pub refusal-numbers-are-1-to-11-or-13 : promise.RefusalNumbersAre1To11Or13
+unfolding promise.RefusalNumbersAre1To11Or13
+refusal-numbers-are-1-to-11-or-13 Width = inl (omega arith, omega arith)
+refusal-numbers-are-1-to-11-or-13 Stray = inl (omega arith, omega arith)
+refusal-numbers-are-1-to-11-or-13 Nar = inl (omega arith, omega arith)
+refusal-numbers-are-1-to-11-or-13 Inexact = inl (omega arith, omega arith)
+refusal-numbers-are-1-to-11-or-13 Over = inl (omega arith, omega arith)
+refusal-numbers-are-1-to-11-or-13 Room = inl (omega arith, omega arith)
+refusal-numbers-are-1-to-11-or-13 Size = inl (omega arith, omega arith)
+refusal-numbers-are-1-to-11-or-13 Mark = inl (omega arith, omega arith)
+refusal-numbers-are-1-to-11-or-13 Check = inl (omega arith, omega arith)
+refusal-numbers-are-1-to-11-or-13 Count = inl (omega arith, omega arith)
+refusal-numbers-are-1-to-11-or-13 Fill = inl (omega arith, omega arith)
+refusal-numbers-are-1-to-11-or-13 Retired = inr refl
 
 -- whatever the first line that holds is, Refused is so; where none holds, Then is
 either : (refusal : ℕ) (lines : List Line) (Refused Then : Type 0) → FieldFollows refusal lines Refused Then → Refused ⊎ Then

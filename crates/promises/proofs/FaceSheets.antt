@@ -13,7 +13,7 @@ use Rattle.sheet.specs.declared.writing.Writing.{Writing}
 use Rattle.sheet.specs.Writes.{FitUpTo, IsTried, WritesBlock, FillsBuffer}
 use Rattle.ledusprig.specs.declared.handed.columns.HandedWriting.{HandedWriting}
 use Rattle.ledusprig.specs.Handed.{HandsOver, WritesTheBlock, writingHanded}
-use Rattle.promises.specs.Refusals.{stray, size, writtenWidth, writtenCount}
+use Rattle.promises.specs.Refusals.{stray, size, writtenWidth, retired, writtenCount}
 use Rattle.promises.specs.Face.{NoneHolds, WrittenAll, StrayAtPosition, HandsBlockWritten}
 use Rattle.promises.proofs.FaceLaws.{handed-so, hands, unrefused}
 use Rattle.promises.proofs.Refusals.{refusals-follow-the-table}
@@ -44,4 +44,4 @@ module _ (n number : ℕ) (words before after : List ℕ) where
 
   pub written-hands : (r : HandedWriting) → HandsOver writingHanded (WritesTheBlock n number words before after) r → HandsBlockWritten n number words before after r
   unfolding HandsBlockWritten WritesTheBlock WritesBlock FillsBuffer Tried
-  written-hands = hands Writing.Refused (λ r. r .refusal) (λ r. (r .position ≡ 0) × (after ≡ before)) Tried (writtenWidth n ∷ writtenCount n (length words) ∷ size before ∷ []) (λ q x. (refl, (refl, x .1))) (λ a x none. tried a (x .0) (unrefused none (x .0) .1) (x .1)) (λ a x. refusals-follow-the-table .write-block n words before a (x .0))
+  written-hands = hands Writing.Refused (λ r. r .refusal) (λ r. (r .position ≡ 0) × (after ≡ before)) Tried (writtenWidth n ∷ retired n ∷ writtenCount n (length words) ∷ size before ∷ []) (λ q x. (refl, (refl, x .1))) (λ a x none. tried a (x .0) (unrefused none (x .0) .1) (x .1)) (λ a x. refusals-follow-the-table .write-block n words before a (x .0))

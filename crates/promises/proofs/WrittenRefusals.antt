@@ -11,18 +11,19 @@ use Rattle.bounds.specs.Refusals.{strayTest, through, refused}
 use Rattle.bounds.proofs.Powers.{not-more}
 use Rattle.sheet.specs.declared.writing.Writing.{Writing}
 use Rattle.sheet.specs.Writes.{contentTest, FitUpTo, IsTried, WritesBlock}
-use Rattle.promises.specs.Refusals.{FollowsUpTo, Follows, stray, size, writtenWidth, writtenCount}
+use Rattle.promises.specs.Refusals.{FollowsUpTo, Follows, stray, size, writtenWidth, retired, writtenCount}
 use Rattle.promises.proofs.Lines.{stray-tells, parts, follow, carry, verdict-decided}
 use Rattle.promises.proofs.SliceRefusals.{four-tells, many-tells, size-tells}
 use Rattle.promises.proofs.WordRefusals.{verdict-none}
 
 module _ (n : ℕ) (words buffer : List ℕ) where
-  pub written-follows : (a : Writing) → WritesBlock n words buffer a → Follows Writing.Refused a (writtenWidth n ∷ writtenCount n (length words) ∷ size buffer ∷ [])
+  pub written-follows : (a : Writing) → WritesBlock n words buffer a → Follows Writing.Refused a (writtenWidth n ∷ retired n ∷ writtenCount n (length words) ∷ size buffer ∷ [])
   unfolding Follows FollowsUpTo WritesBlock contentTest IsTried
   written-follows a x =
-      follow Refusal.Width (four-tells n) (parts (parts x))
-      (λ e₁ y₁. follow Refusal.Count (many-tells n (length words) e₁) y₁
-      (λ e₂ y₂. follow Refusal.Size (size-tells buffer) y₂ (λ e t q h. subst (IsTried n words) h t)))
+      follow Refusal.Width (four-tells n) (parts (parts (parts x)))
+      (λ e₁ y₁. follow Refusal.Retired (retired-tells n) y₁
+      (λ e₂ y₂. follow Refusal.Count (many-tells n (length words) e₁) y₂
+      (λ e₃ y₃. follow Refusal.Size (size-tells buffer) y₃ (λ e t q h. subst (IsTried n words) h t))))
 
   -- a position that is reached has the line of its word
   module _ (i : ℕ) (inside : i < length words) where

@@ -39,7 +39,7 @@ use Rattle.ledusprig.specs.declared.handed.columns.HandedColumn.{HandedColumn}
 use Rattle.ledusprig.specs.declared.handed.columns.HandedBlock.{HandedBlock}
 use Rattle.ledusprig.specs.declared.handed.columns.HandedWriting.{HandedWriting}
 use Rattle.promises.specs.Numbers.{IsWhole}
-use Rattle.promises.specs.Refusals.{Line, line, width, stray, nar, over, noWidth, room, size, mark, check, blockWidth, count, fill, writtenWidth, writtenCount}
+use Rattle.promises.specs.Refusals.{Line, line, width, stray, nar, over, noWidth, room, size, mark, check, blockWidth, count, fill, writtenWidth, retired, writtenCount}
 
 -- ---- how a struct follows the table
 -- The first line that holds gives the field `refusal` its number, and Refused is so; where none holds, Then is so.
@@ -64,9 +64,9 @@ HandsWord lines Is r = Hands (r .refusal) lines (r .word ≡ 0) (Is (r .word))
 abbrev pub HandsSaid : List Line → (ℕ → Type 0) → (ℕ → Saying → Type 0) → HandedSaying → Type 0
 HandsSaid lines Is SaysOf r = Hands (r .refusal) lines ((r .saying ≡ 0) × (r .word ≡ 0)) (Is (r .word) × ((s : Saying) × (r .saying ≡ sayingNumber s) × SaysOf (r .word) s))
 
--- no refusal has number 0, so that 0 says "not refused"; they are 1 to 11
-unfoldable pub RefusalNumbersAre1To11 : Type 0
-RefusalNumbersAre1To11 = (q : Refusal) → (1 ≤ numberOf q) × (numberOf q ≤ 11)
+-- no refusal has number 0, so that 0 says "not refused"; they are 1 to 11, and 13
+unfoldable pub RefusalNumbersAre1To11Or13 : Type 0
+RefusalNumbersAre1To11Or13 = (q : Refusal) → ((1 ≤ numberOf q) × (numberOf q ≤ 11)) ⊎ (numberOf q ≡ 13)
 
 -- ---- the rule
 -- a rule's number: 0 rounds, and every other number is strict
@@ -229,7 +229,7 @@ pub record StrayAtPosition (n : ℕ) (words before after : List ℕ) (r : Handed
   pub is : FieldFollows (r .refusal) (stray n (getD words (r .position) 0) ∷ []) (after ≡ before) ⊥
 
 unfoldable pub HandsBlockWritten : ℕ → ℕ → List ℕ → List ℕ → List ℕ → HandedWriting → Type 0
-HandsBlockWritten n number words before after r = FieldFollows (r .refusal) (writtenWidth n ∷ writtenCount n (length words) ∷ size before ∷ []) ((r .position ≡ 0) × (after ≡ before)) (WrittenAll n number words after r ⊎ StrayAtPosition n words before after r)
+HandsBlockWritten n number words before after r = FieldFollows (r .refusal) (writtenWidth n ∷ retired n ∷ writtenCount n (length words) ∷ size before ∷ []) ((r .position ≡ 0) × (after ≡ before)) (WrittenAll n number words after r ⊎ StrayAtPosition n words before after r)
 
 -- ---- lent memory and positions
 -- where the refusal isn't 0, lent memory is as it came

@@ -28,6 +28,10 @@ pub mod Sayings
 pub mod Slices
 -- written blocks
 pub mod Sheets
+-- no more blocks of width 8, and the old ones
+pub mod OldBlocks
+-- what is printed of the old ones
+pub mod OldLines
 -- the P figures
 pub mod Figures
 -- the exported calls, by the fields of their structs

@@ -1,4 +1,4 @@
--- Demand 1: the refusal numbers of paper 01's table, each given exactly when its line says. A call tries the lines that concern it in the paper's
+-- Demand 1: the refusal numbers of paper 01's table and those of paper 02, each given exactly when its line says. A call tries the lines that concern it in the paper's
 -- order, and each call's lines stand below in that order.
 use mathlib.Core.Path.{_≡_}
 use mathlib.Core.Bool.{Bool}
@@ -118,6 +118,10 @@ fill b = line 11 ((i : ℕ) × (8 + block.width b / 8 * block.count b ≤ i) × 
 abbrev pub writtenWidth : ℕ → Line
 writtenWidth n = line 1 ((n ≡ 8 → ⊥) × (n ≡ 16 → ⊥) × (n ≡ 32 → ⊥) × (n ≡ 64 → ⊥))
 
+-- 13 RETIRED, of a block that is to be written (paper 02, Wish 10): its width is 8
+abbrev pub retired : ℕ → Line
+retired n = line 13 (n ≡ 8)
+
 -- 10 COUNT, of a block that is to be written: more words than its width has room for
 abbrev pub writtenCount : ℕ → ℕ → Line
 writtenCount n count = line 10 (496 / (n / 8) < count)
@@ -188,7 +192,7 @@ pub record RefusalsFollowTheTable : Type 0 where
   pub inside : (n n' : ℕ) (rule : Rule) (words : List ℕ) (places : ℕ) (a : Column) → MovesColumn n n' rule words places a → (i : ℕ) (q : Refusal) → a ≡ Column.RefusedAt i q → i < length words
   pub read-block : (b : List ℕ) (places : ℕ) (a : Block) → ReadsBlock b places a → Follows Block.Refused a (size b ∷ mark b ∷ check b ∷ blockWidth b ∷ count b ∷ fill b ∷ room (block.count b) places ∷ [])
   -- SIZE is asked of the buffer
-  pub write-block : (n : ℕ) (words buffer : List ℕ) (a : Writing) → WritesBlock n words buffer a → Follows Writing.Refused a (writtenWidth n ∷ writtenCount n (length words) ∷ size buffer ∷ [])
+  pub write-block : (n : ℕ) (words buffer : List ℕ) (a : Writing) → WritesBlock n words buffer a → Follows Writing.Refused a (writtenWidth n ∷ retired n ∷ writtenCount n (length words) ∷ size buffer ∷ [])
   -- and then each position that is reached, as in a column
   pub write-position : (n : ℕ) (words buffer : List ℕ) (a : Writing) → WritesBlock n words buffer a → ((q : Refusal) → a ≡ Writing.Refused q → ⊥)
       → (i : ℕ) → i < length words → ((j : ℕ) (q : Refusal) → j < i → a ≡ Writing.RefusedAt j q → ⊥) → Follows (Writing.RefusedAt i) a (stray n (getD words i 0) ∷ [])

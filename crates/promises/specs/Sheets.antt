@@ -1,6 +1,7 @@
 -- What Wish 1 of paper 02 promises of a written block: it reads back, and a block that is read is what writing makes of its content.
 use mathlib.Core.Path.{_≡_}
 use mathlib.Core.List.{List, _++_}
+use mathlib.Core.Logic.{_⊎_}
 use Prim.Native.Nat.{ℕ, _≤_}
 use lib.ListN.{length, take, drop}
 use Rattle.bounds.specs.declared.refusal.Refusal.{Refusal}
@@ -39,18 +40,18 @@ AWrittenBlockReadsBack = (n number : ℕ) (words before block : List ℕ) → Bl
     → (a ≡ Block.Read n number (length words)) × (filled ≡ words ++ drop (length words) results)
 
 -- and any block that the reader accepts is what the writer makes of its content."
--- (all of its bytes, in whatever buffer of 512 bytes)
+-- (all of its bytes, in whatever buffer of 512 bytes; by Wish 10 of widths 16, 32 and 64, and OldBlocks.antt has what is answered at width 8)
 unfoldable pub AnAcceptedBlockIsWhatTheWriterMakes : Type 0
-AnAcceptedBlockIsWhatTheWriterMakes = (block : List ℕ) (n number : ℕ) (words : List ℕ) → AreBytes block → BlockIsRead block n number words
+AnAcceptedBlockIsWhatTheWriterMakes = (block : List ℕ) (n number : ℕ) (words : List ℕ) → AreBytes block → BlockIsRead block n number words → (n ≡ 16) ⊎ ((n ≡ 32) ⊎ (n ≡ 64))
     → (before after : List ℕ) (a : Writing) → length before ≡ 512 → WritesBlock n words before a → FillsBuffer n number words before a after
     → (a ≡ Writing.Written) × (after ≡ block)
 
--- so two blocks with the same content are the same bytes
+-- two blocks with the same content are the same bytes, at width 8 too
 unfoldable pub TheSameContentIsTheSameBytes : Type 0
 TheSameContentIsTheSameBytes = (one other : List ℕ) (n number : ℕ) (words : List ℕ) → AreBytes one → AreBytes other → BlockIsRead one n number words → BlockIsRead other n number words → one ≡ other
 
 -- ---- demand 3 through a sheet: a column that is moved strictly, written, read back and moved back strictly is the first column. None of its words is
--- stray, so the write is refused only as a whole: for the width, the count or the buffer.
+-- stray, so the write is refused only as a whole: for the width, also where it is retired, the count or the buffer.
 unfoldable pub StrictColumnsComeHomeThroughASheet : Type 0
 StrictColumnsComeHomeThroughASheet = (n n' : ℕ) (words before moved : List ℕ) (count : ℕ) → MovesColumn n n' Rule.Strict words (length before) (Column.Moved count) → Holds n n' Rule.Strict words before (Column.Moved count) moved
     → (number : ℕ) (buffer block : List ℕ) (w : Writing) → WritesBlock n' (take count moved) buffer w → FillsBuffer n' number (take count moved) buffer w block → ((q : Refusal) → w ≡ Writing.Refused q → ⊥)

@@ -43,6 +43,8 @@ pub mod Nearest
 pub mod Slices
 -- a written block reads back, and a block that is read is what writing makes of its content
 pub mod Sheets
+-- no block of width 8 is written any more, and old ones are still read
+pub mod OldBlocks
 -- of the sizes between two neighbouring multiples the same is said
 pub mod Jammed
 -- which way it went: each law once, of whatever is written

@@ -1,6 +1,7 @@
 -- The promises that specs/Sheets.antt states, from the laws of blocks and of columns. Assumes nothing.
 use mathlib.Core.Path.{_≡_, refl, sym, ap, ap₂, _∙_, subst, subst₂}
 use mathlib.Core.List.{List, _++_}
+use mathlib.Core.Logic.{_⊎_, inl, inr}
 use Prim.Native.Nat.{ℕ, _^_, _≤_, _<_}
 use native.Mathlib.Omega.{arith}
 use lib.ListN.{length, getD, take, drop}
@@ -62,10 +63,15 @@ is-block-of-read block n number content bytes r =
 
 pub an-accepted-block-is-what-the-writer-makes : promise.AnAcceptedBlockIsWhatTheWriterMakes
 unfolding promise.AnAcceptedBlockIsWhatTheWriterMakes FillsBuffer
-an-accepted-block-is-what-the-writer-makes block n number content bytes r before after a size x y =
+an-accepted-block-is-what-the-writer-makes block n number content bytes r wide before after a size x y =
     let t = read-content block n number content r in
-    let written : a ≡ Writing.Written = is-written block (t .0) bytes (t .1) before a size (subst₂ (λ (w : ℕ) (l : List ℕ). WritesBlock w l before a) (t .2) (t .4) x) in
+    let written : a ≡ Writing.Written = is-written block (t .0) bytes (t .1) (λ e. not-8 wide (t .2 ∙ e)) before a size (subst₂ (λ (w : ℕ) (l : List ℕ). WritesBlock w l before a) (t .2) (t .4) x) in
     (written, same-bytes n number content after block (subst (λ (b : Writing). FillsBuffer n number content before b after) written y) (is-block-of-read block n number content bytes r))
+  where
+    not-8 : (n ≡ 16) ⊎ ((n ≡ 32) ⊎ (n ≡ 64)) → n ≡ 8 → ⊥
+    not-8 (inl e) h = omega (arith, e, h)
+    not-8 (inr (inl e)) h = omega (arith, e, h)
+    not-8 (inr (inr e)) h = omega (arith, e, h)
 
 pub the-same-content-is-the-same-bytes : promise.TheSameContentIsTheSameBytes
 unfolding promise.TheSameContentIsTheSameBytes

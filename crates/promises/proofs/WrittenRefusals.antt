@@ -1,20 +1,32 @@
 -- The refusals of a block that is to be written follow the table. Assumes nothing.
 use mathlib.Core.Path.{_≡_, refl, sym, subst}
+use mathlib.Core.Bool.{Bool, true, false, not}
 use mathlib.Core.List.{List, [], _∷_}
 use Prim.Native.Nat.{ℕ, _<_}
 use native.Mathlib.Decide.{decLt}
 use native.Mathlib.Omega.{arith}
+use borrow.Author.Tests.{eqb-true, eqb-false}
+use lib.Dec.{eqb}
 use lib.ListN.{length, getD}
 use Rattle.bounds.specs.declared.refusal.Refusal.{Refusal}
 use Rattle.bounds.specs.declared.refusal.Verdict.{Verdict}
-use Rattle.bounds.specs.Refusals.{strayTest, through, refused}
+use Rattle.bounds.specs.Refusals.{strayTest, unless, through, refused}
 use Rattle.bounds.proofs.Powers.{not-more}
 use Rattle.sheet.specs.declared.writing.Writing.{Writing}
-use Rattle.sheet.specs.Writes.{contentTest, FitUpTo, IsTried, WritesBlock}
+use Rattle.sheet.specs.Writes.{isRetired, contentTest, FitUpTo, IsTried, WritesBlock}
 use Rattle.promises.specs.Refusals.{FollowsUpTo, Follows, stray, size, writtenWidth, retired, writtenCount}
-use Rattle.promises.proofs.Lines.{stray-tells, parts, follow, carry, verdict-decided}
+use Rattle.promises.proofs.Lines.{Tells, holds, fails, stray-tells, parts, follow, carry, verdict-decided}
 use Rattle.promises.proofs.SliceRefusals.{four-tells, many-tells, size-tells}
 use Rattle.promises.proofs.WordRefusals.{verdict-none}
+
+-- a width that is written no more
+retired-tells : (n : ℕ) → Tells (unless Refusal.Retired (not (isRetired n))) Refusal.Retired (n ≡ 8)
+unfolding isRetired
+retired-tells n = by (eqb n 8) refl
+  where
+    by : (b : Bool) → eqb n 8 ≡ b → Tells (unless Refusal.Retired (not b)) Refusal.Retired (n ≡ 8)
+    by true e = holds refl (eqb-true n 8 e)
+    by false e = fails refl (eqb-false n 8 e)
 
 module _ (n : ℕ) (words buffer : List ℕ) where
   pub written-follows : (a : Writing) → WritesBlock n words buffer a → Follows Writing.Refused a (writtenWidth n ∷ retired n ∷ writtenCount n (length words) ∷ size buffer ∷ [])

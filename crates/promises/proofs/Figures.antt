@@ -37,10 +37,12 @@ use Rattle.whole.proofs.Answers.{inside, taken-inside}
 use Rattle.whole.proofs.NearestWholes.{nearest-whole}
 use Rattle.whole.proofs.Refused.{meaning-taken}
 use Rattle.whole.proofs.OneOutcome.{taken-one, writes-whole-and-says-one}
-use Rattle.promises.specs.Figures.{Said, plus, minus, nar, IsSaid, Figure, reads, hasOwn, writes, refuses, writesWhole, refusesWhole, takes, says, saysWhole, needs, needsMore, whole, positive, negative, below, figures, FigureHolds, AllHold}
+use Rattle.sheet.specs.declared.writing.Writing.{Writing}
+use Rattle.promises.specs.Figures.{Said, plus, minus, nar, IsSaid, Figure, reads, hasOwn, writes, refuses, writesWhole, refusesWhole, takes, says, saysWhole, needs, needsMore, refusesBlocks, whole, positive, negative, below, figures, FigureHolds, AllHold}
 use Rattle.promises.specs.Demands.{RefusedAs, ReadingIsTheDefinition}
 use Rattle.promises.specs.Writing.{numerator, denominator}
 use Rattle.promises.specs.Shortest.{bits, ZeroNeeds2}
+use Rattle.promises.proofs.OldBlocks.{is-retired}
 use Rattle.promises.proofs.Tests.{size-of, same, same-is, either, is-word, word-is, has, has-is}
 use Rattle.promises.proofs.Settled.{size-at, is-positive, past-half, before-half, is-rounded, went, size-settled, settled, positive-is, size-has, rounded-is, answered-so}
 use Rattle.promises.proofs.Demands.{reading-is-the-definition}
@@ -119,6 +121,7 @@ passes (says n v w s) = settled n (v .negative) (numerator v) (denominator v) w 
 passes (saysWhole n x w s) = settled n (isNegative x) (scaled (natAbs x)) 1 w s
 passes (needs x n) = needed x n
 passes (needsMore x number) = needed-more x number
+passes (refusesBlocks n number) = eqb n 8 && eqb number 13
 
 all-pass : List Figure → Bool
 all-pass [] = true
@@ -233,6 +236,9 @@ holds (says n v w s) ok = λ a x. writes-and-says-one n Rule.Rounded v a (Writte
 holds (saysWhole n x w s) ok = λ a y. writes-whole-and-says-one n Rule.Rounded x a (Written.Word w s) y (answered-so n (isNegative x) (scaled (natAbs x)) 1 w s (zero-lt-suc 0) ok)
 holds (needs x n) ok = needed-holds x n ok
 holds (needsMore x number) ok = needed-more-holds x number ok
+holds (refusesBlocks n number) ok = λ words buffer a x.
+    let y = both (eqb n 8) (eqb number 13) ok in
+    subst (λ (k : ℕ). RefusedAs Writing Writing.Refused k a) (sym (eqb→eq number 13 (y .1))) (is-retired n words buffer a (eqb→eq n 8 (y .0)) x)
 
 all-hold : (fs : List Figure) → T (all-pass fs) → AllHold fs
 unfolding all-pass AllHold

@@ -33,11 +33,14 @@ use Rattle.promises.specs.Refusals.{Follows, FollowsUpTo, size, writtenW
 use Rattle.promises.proofs.WrittenRefusals.{written-follows}
 
 -- ---- written no more
+pub is-retired : (n : ℕ) (words before : List ℕ) (a : Writing) → n ≡ 8 → WritesBlock n words before a → RefusedAs Writing Writing.Refused 13 a
+unfolding WritesBlock
+is-retired n words before a e x = record { q = Refusal.Retired; is = refused-as Refusal.Retired (old-width n (length words) before (width-is n (inl e)) e) x; known = refl }
+
 pub no-block-of-width-8-is-written : promise.NoBlockOfWidth8IsWritten
-unfolding promise.NoBlockOfWidth8IsWritten WritesBlock FillsBuffer
-no-block-of-width-8-is-written number words before after a x y =
-    let e : a ≡ Writing.Refused Refusal.Retired = refused-as Refusal.Retired (old-width 8 (length words) before (width-is 8 (inl refl)) refl) x in
-    (record { q = Refusal.Retired; is = e; known = refl }, subst (λ (b : Writing). FillsBuffer 8 number words before b after) e y)
+unfolding promise.NoBlockOfWidth8IsWritten FillsBuffer
+no-block-of-width-8-is-written number words before after a x y = let r = is-retired 8 words before a refl x in
+    (r, subst (λ (b : Writing). FillsBuffer 8 number words before b after) (r .is) y)
 
 -- an answer is refused with one number
 one-number : (i j : ℕ) (a : Writing) → RefusedAs Writing Writing.Refused i a → RefusedAs Writing Writing.Refused j a → i ≡ j

@@ -22,6 +22,8 @@ use Rattle.whole.specs.declared.taking.Whole.{Whole}
 use Rattle.whole.specs.Wholes.{WritesWhole, TakesWhole}
 use Rattle.whole.specs.Sayings.{WritesWholeAndSays}
 use Rattle.whole.specs.Shortest.{GivesShortest}
+use Rattle.sheet.specs.declared.writing.Writing.{Writing}
+use Rattle.sheet.specs.Writes.{WritesBlock}
 use Rattle.promises.specs.Demands.{RefusedAs}
 use Rattle.promises.specs.Shortest.{bits}
 
@@ -45,7 +47,8 @@ IsSaid nar t = t ≡ NaR
 -- is the word w; refuses n rule M number: it is the refusal with this number; writesWhole and refusesWhole: the same of M as a whole number, which is the
 -- call a tally goes through; takes n rule w x: the word w of n bits goes out as the whole number x by the rule; says n v w s: the value v, written rounded
 -- in n bits, is the word w and this is said of it; saysWhole n x w s: the same of x as a whole number; needs x n: the whole number x needs n bits;
--- needsMore x number: it has a word at no width, and is refused with this number
+-- needsMore x number: it has a word at no width, and is refused with this number; refusesBlocks n number: a block that is to be written with n bits is
+-- refused with this number, whatever words and buffer there are
 pub data Figure : Type 0 where
   reads : ℕ → ℕ → Said → Figure
   hasOwn : ℕ → ℕ → ℕ → Figure
@@ -58,6 +61,7 @@ pub data Figure : Type 0 where
   saysWhole : ℕ → ℤ → ℕ → Saying → Figure
   needs : ℤ → ℕ → Figure
   needsMore : ℤ → ℕ → Figure
+  refusesBlocks : ℕ → ℕ → Figure
 
 unfoldable pub whole : ℕ → Value
 whole M = record { negative = false; m = M; k = pos 0 }
@@ -169,6 +173,8 @@ figures =
     ∷ needs (pos (2 ^ 62)) 10
     ∷ needs (below (2 ^ 63)) 4
     ∷ needsMore (pos (2 ^ 63 - 1)) 4
+    -- paper 02, Wish 10: 13 RETIRED
+    ∷ refusesBlocks 8 13
     ∷ []
 
 -- whatever reading or answer the contract allows is the figure's
@@ -184,6 +190,7 @@ FigureHolds (says n v w s) = (a : Written) → WritesAndSays n Rule.Rounded v a 
 FigureHolds (saysWhole n x w s) = (a : Written) → WritesWholeAndSays n Rule.Rounded x a → a ≡ Written.Word w s
 FigureHolds (needs x n) = (a : Made) → GivesShortest x a → a ≡ bits n
 FigureHolds (needsMore x number) = (a : Made) → GivesShortest x a → RefusedAs Made Made.Refused number a
+FigureHolds (refusesBlocks n number) = (words buffer : List ℕ) (a : Writing) → WritesBlock n words buffer a → RefusedAs Writing Writing.Refused number a
 
 -- every figure of a list holds
 unfoldable pub AllHold : List Figure → Type 0

@@ -36,12 +36,12 @@ unfolding old space
 returns c =
     let s = c .before .before .before .before .before .before .before in
     let p = c .before .before .put-text in
-    (subst (λ (t : List ℕ). Puts (s .args .out .now) (s .args .at) t (p .last .0) (p .result)) (sym (is-old _ (c .before .before .before .before .before .if1 .taken))) (p .ensures), omega (arith, p .ensures .place))
+    (subst (λ (t : List ℕ). Puts (s .args .out .now) (s .args .at) t (p .last .0) (p .result)) (sym (is-old _ (omega (arith, c .before .before .before .before .before .if1 .taken)))) (p .ensures), omega (arith, p .ensures .place))
 
 returns-2 : tie.Need-returns-2
 returns-2 c =
     let s = c .before .before in
-    (subst (λ (t : List ℕ). Puts (s .args .out .now) (s .args .at) t (s .args .out .now) (s .args .at)) (sym (isn't-old _ (c .if1 .left))) (nothing-put _ _ (omega arith)), omega arith)
+    (subst (λ (t : List ℕ). Puts (s .args .out .now) (s .args .at) t (s .args .out .now) (s .args .at)) (sym (isn't-old _ (λ e. omega (arith, e, c .if1 .left)))) (nothing-put _ _ (omega arith)), omega arith)
 
 pub put-old-spec : {M : Type 1} → statement M
 put-old-spec = tie.close (tie.spec slice-aggregate-put-text put-text-requires same-length returns returns-2)

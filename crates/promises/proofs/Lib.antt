@@ -45,6 +45,8 @@ pub mod Slices
 pub mod Sheets
 -- no block of width 8 is written any more, and old ones are still read
 pub mod OldBlocks
+-- the lines of an old block end in ` old`, and no other line does
+pub mod OldLines
 -- of the sizes between two neighbouring multiples the same is said
 pub mod Jammed
 -- which way it went: each law once, of whatever is written

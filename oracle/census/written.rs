@@ -19,7 +19,7 @@ pub fn push(lines: &mut Vec<String>) {
 }
 
 /// Part 45: contents with few words and with many, and buffers that are too short, too long and just right; what is
-/// written is read.
+/// written is read. At width 8 nothing is written, and the sentinels are read.
 fn written_lines(lines: &mut Vec<String>) {
     for width in BLOCK_WIDTHS {
         let mut sequence = Sequence::new(47_000 + width);
@@ -108,7 +108,8 @@ fn unwritten_lines(lines: &mut Vec<String>) {
 }
 
 /// A content with a set of faults, and how many bytes its buffer has. The set is the sum of 1 for WIDTH, 2 for COUNT,
-/// 4 for SIZE, 8 for STRAY: the refusals in their order. One word more was drawn than there is room for.
+/// 4 for SIZE, 8 for STRAY: the refusals in their order, but for RETIRED, which is in no set. One word more was drawn
+/// than there is room for.
 pub fn with_faults(drawn: &Content, faults: u64) -> (Content, usize) {
     let has = |fault: u64| (faults / fault) % 2 == 1;
     let mut content = drawn.clone();
@@ -154,7 +155,7 @@ fn written_number_lines(lines: &mut Vec<String>) {
     }
 }
 
-/// Part 50: blocks of every count are read, and written again from what was read.
+/// Part 50: blocks of every count are read, and written again from what was read, or refused at width 8.
 fn again_lines(lines: &mut Vec<String>) {
     for width in BLOCK_WIDTHS {
         let mut sequence = Sequence::new(51_000 + width);

@@ -17,6 +17,7 @@ mod offers;
 mod own_bits;
 mod patterns;
 mod reading;
+mod retired;
 mod sayings;
 mod shortest;
 mod whole;
@@ -51,6 +52,7 @@ pub fn check_sheets() {
     columns::check();
     blocks::check();
     written::check();
+    retired::check();
 }
 
 /// The lines of the figures.

@@ -15,6 +15,7 @@ pub fn check() {
     check_case();
     check_layout();
     check_read_back();
+    check_every_count();
     check_changed();
     check_sheets();
     check_faults();
@@ -23,9 +24,12 @@ pub fn check() {
     check_positions();
 }
 
+/// The widths that are written. "The writer refuses width 8 in blocks" (paper 02, Wish 10).
+pub const WRITTEN_WIDTHS: [u32; 3] = [16, 32, 64];
+
 /// Writes into a buffer of that size. After a refusal the buffer must be as it came, and what is written must not depend
 /// on what was there.
-fn written(content: &Content, size: usize) -> Result<Vec<u8>, ColumnRefusal> {
+pub fn written(content: &Content, size: usize) -> Result<Vec<u8>, ColumnRefusal> {
     let [one, other] = [0x00, 0xA5].map(|byte| {
         let mut buffer = vec![byte; size];
         let answer = write_block(content, &mut buffer);
@@ -37,7 +41,7 @@ fn written(content: &Content, size: usize) -> Result<Vec<u8>, ColumnRefusal> {
 }
 
 /// The same with a buffer that has the size of a block.
-fn written_block(content: &Content) -> Result<Vec<u8>, ColumnRefusal> {
+pub fn written_block(content: &Content) -> Result<Vec<u8>, ColumnRefusal> {
     written(content, BLOCK_SIZE)
 }
 
@@ -55,7 +59,7 @@ fn counts(width: u32) -> [usize; 6] {
 
 /// The block another way: its bytes one after the other, and its sums with the first number taken 126 times, the next
 /// 125 times, and so on.
-fn laid_out(content: &Content) -> Vec<u8> {
+pub fn laid_out(content: &Content) -> Vec<u8> {
     let mut bytes = vec![0x54, content.width as u8];
     bytes.extend((content.words.len() as u16).to_le_bytes());
     bytes.extend(content.number.to_le_bytes());
@@ -75,7 +79,7 @@ fn laid_out(content: &Content) -> Vec<u8> {
 }
 
 fn check_layout() {
-    for width in BLOCK_WIDTHS {
+    for width in WRITTEN_WIDTHS {
         let mut sequence = Sequence::new(3);
         for count in counts(width) {
             let content = next_content(&mut sequence, width, count);
@@ -86,7 +90,7 @@ fn check_layout() {
 
 /// "A written block reads back as the same width, number and words."
 fn check_read_back() {
-    for width in BLOCK_WIDTHS {
+    for width in WRITTEN_WIDTHS {
         let mut sequence = Sequence::new(4);
         for count in counts(width) {
             for number in [0, 1, 0x0102_0304, u32::MAX] {
@@ -98,13 +102,29 @@ fn check_read_back() {
     }
 }
 
-/// "Any block that the reader accepts is what the writer makes of its content." Says whether the reader accepts it.
-fn is_what_is_made(block: &[u8]) -> bool {
+/// Whether the reader accepts the block. "Any block that the reader accepts is what the writer makes of its content", a
+/// claim that "now speaks of widths 16, 32 and 64" (paper 02, Wish 10): of an old block's content the writer makes none.
+fn is_accepted(block: &[u8]) -> bool {
     let content = Content::of(block);
     if let Ok(content) = &content {
-        assert!(written_block(content).as_deref() == Ok(block));
+        let expected = match content.width {
+            8 => Err(ColumnRefusal::OfAll(Refusal::Retired)),
+            16 | 32 | 64 => Ok(block.to_vec()),
+            width => panic!("{width} is no block's width"),
+        };
+        assert!(written_block(content) == expected);
     }
     content.is_ok()
+}
+
+/// Blocks of every width with every count of words.
+fn check_every_count() {
+    let mut sequence = Sequence::new(8);
+    for width in BLOCK_WIDTHS {
+        for count in 0..=room_of(width) {
+            assert!(is_accepted(&laid_out(&next_content(&mut sequence, width, count))));
+        }
+    }
 }
 
 /// Blocks as they were drawn, blocks with one byte changed and the sums made good again, and blocks changed so that
@@ -114,16 +134,16 @@ fn check_changed() {
     for width in BLOCK_WIDTHS {
         for count in [room_of(width) / 2, room_of(width)] {
             let block = next_block(&mut sequence, width, count);
-            assert!(is_what_is_made(&block));
+            assert!(is_accepted(&block));
             let changed = (0..BLOCK_SIZE).map(|place| sealed_with_change(&block, place, sequence.next_number()));
-            let accepted = changed.filter(|changed| is_what_is_made(changed)).count();
+            let accepted = changed.filter(|changed| is_accepted(changed)).count();
             // The bytes of the number, those of the words, and the eight of the sums, which are made good.
             assert!(accepted >= 4 + count * (width as usize / 8) + 8 && accepted < BLOCK_SIZE);
             // Three of the 126 numbers are changed, from a place on: the block number, which is at place 1, or words.
             let last = count * (width as usize / 8) / 4 - 1;
             for place in 1..=last {
                 let d = 1 + sequence.next_number() % (TWO_TO_32 - 1);
-                assert!(is_what_is_made(&change_of_kind(&block, 4, place, d)));
+                assert!(is_accepted(&change_of_kind(&block, 4, place, d)));
             }
         }
     }
@@ -140,7 +160,7 @@ fn sealed_with_change(block: &Block, place: usize, chosen: u64) -> Block {
 /// The blocks of two sheets: the paper's refusals are among them.
 fn check_sheets() {
     for sheet in [rack_sheet(), stack_sheet()] {
-        let accepted = sheet.chunks(BLOCK_SIZE).filter(|block| is_what_is_made(block)).count();
+        let accepted = sheet.chunks(BLOCK_SIZE).filter(|block| is_accepted(block)).count();
         let blocks = sheet.chunks(BLOCK_SIZE).count();
         assert!(accepted > blocks / 2 && accepted < blocks);
     }
@@ -151,7 +171,7 @@ fn check_faults() {
     use ColumnRefusal::{At, OfAll};
     use Refusal::{Count, Size, Stray, Width};
     let mut sequence = Sequence::new(6);
-    for width in BLOCK_WIDTHS {
+    for width in WRITTEN_WIDTHS {
         let drawn = next_content(&mut sequence, width, room_of(width) + 1);
         for faults in 0..16_u64 {
             let (content, size) = with_faults(&drawn, faults);
@@ -166,15 +186,16 @@ fn check_faults() {
     }
 }
 
-/// "Or a block's isn't one of its four": the widths of single words are refused too, also where there is no word.
+/// "Or a block's isn't one of its four": the widths of single words are refused too, also where there is no word. Of the
+/// four, 8 is retired; a longer width that ends in the byte 8 is none of them.
 fn check_widths() {
     for width in (0..=300).chain(BAD_WIDTHS).chain(BLOCK_WIDTHS.map(|width| (1 << 31) + width)) {
         for words in [vec![], vec![1]] {
             let answer = written_block(&Content { width, number: 5, words });
-            if [8, 16, 32, 64].contains(&width) {
-                assert!(answer.is_ok());
-            } else {
-                assert!(answer == Err(ColumnRefusal::OfAll(Refusal::Width)));
+            match width {
+                8 => assert!(answer == Err(ColumnRefusal::OfAll(Refusal::Retired))),
+                16 | 32 | 64 => assert!(answer.is_ok()),
+                _ => assert!(answer == Err(ColumnRefusal::OfAll(Refusal::Width))),
             }
         }
     }
@@ -191,7 +212,7 @@ fn check_sizes() {
 /// STRAY carries "the lowest position that has one": of one stray word its own, and of two the lower one.
 fn check_positions() {
     let mut sequence = Sequence::new(7);
-    for width in [8, 16, 32] {
+    for width in [16, 32] {
         let content = next_content(&mut sequence, width, room_of(width));
         for (position, stray) in (0..room_of(width)).zip(stray_words(width).into_iter().cycle()) {
             let mut strayed = content.clone();
@@ -204,7 +225,7 @@ fn check_positions() {
         }
     }
     // The greatest word of each width is not stray.
-    for width in BLOCK_WIDTHS {
+    for width in WRITTEN_WIDTHS {
         let content = Content { width, number: 0, words: vec![u64::MAX >> (64 - width); room_of(width)] };
         assert!(written_block(&content).is_ok_and(|block| block[8..504].iter().all(|&byte| byte == 0xFF)));
     }

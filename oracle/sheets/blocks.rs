@@ -8,6 +8,9 @@ pub const BLOCK_SIZE: usize = 512;
 
 pub const BLOCK_WIDTHS: [u32; 4] = [8, 16, 32, 64];
 
+/// "No more 8-bit sheets" (paper 02, Wish 10): blocks of this width are read and no longer written.
+pub const OLD_WIDTH: u32 = 8;
+
 /// "Byte 0: 0x54."
 pub const MARK: u8 = 0x54;
 

@@ -1,6 +1,6 @@
-//! Writing a sheet block into a lent buffer (paper 02, Wish 1); written from the papers alone.
+//! Writing a sheet block into a lent buffer (paper 02, Wishes 1 and 10); written from the papers alone.
 
-use crate::sheets::blocks::{good_block, read_block, room_of, BLOCK_SIZE, BLOCK_WIDTHS};
+use crate::sheets::blocks::{good_block, read_block, room_of, BLOCK_SIZE, BLOCK_WIDTHS, OLD_WIDTH};
 use crate::sheets::columns::ColumnRefusal;
 use crate::words::refusals::{accept_word, Refusal};
 
@@ -22,12 +22,16 @@ impl Content {
     }
 }
 
-/// "Refusals: WIDTH, COUNT, SIZE, STRAY with its position, in that order." The position is the lowest one that has a
-/// stray word. A refused call leaves the buffer as it came.
+/// "Refusals: WIDTH, COUNT, SIZE, STRAY with its position, in that order." By Wish 10 "the writer refuses width 8 in
+/// blocks", with "13 RETIRED, after WIDTH and before COUNT". The position is the lowest one that has a stray word. A
+/// refused call leaves the buffer as it came.
 pub fn write_block(content: &Content, buffer: &mut [u8]) -> Result<(), ColumnRefusal> {
     let Content { width, number, ref words } = *content;
     if !BLOCK_WIDTHS.contains(&width) {
         return Err(ColumnRefusal::OfAll(Refusal::Width));
+    }
+    if width == OLD_WIDTH {
+        return Err(ColumnRefusal::OfAll(Refusal::Retired));
     }
     if words.len() > room_of(width) {
         return Err(ColumnRefusal::OfAll(Refusal::Count));

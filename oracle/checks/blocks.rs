@@ -38,7 +38,7 @@ fn check_case() {
     assert!(read_block(&case, &mut results[..1]) == Err(Refusal::Room));
 }
 
-fn listing(input: &[u8]) -> String {
+pub fn listing(input: &[u8]) -> String {
     let mut output = Vec::new();
     list(input, &mut output).expect("a vector takes every line");
     String::from_utf8(output).expect("the lines are plain text")
@@ -72,8 +72,10 @@ fn check_lister() {
         "4294967295 5 90000000 -9223372036854775808 22",
     ];
     assert!(listing(&sheet) == expected.join("\n") + "\n");
-    // Two digits at 8 bits. "Appended zeros are no precision": 7 is 0 1 001 1 11, and 0x7F is 0 1 111 111.
-    assert!(listing(&good_block(8, 6, &[0x4F, 0x7F, 0x80])) == "6 0 4f 7 2\n6 1 7f over 0\n6 2 80 nar 0\n");
+    // Two digits at 8 bits. "Appended zeros are no precision": 7 is 0 1 001 1 11, and 0x7F is 0 1 111 111. "The lister
+    // puts ` old` at the end of their lines" (paper 02, Wish 10).
+    let lines = "6 0 4f 7 2 old\n6 1 7f over 0 old\n6 2 80 nar 0 old\n";
+    assert!(listing(&good_block(8, 6, &[0x4F, 0x7F, 0x80])) == lines);
 }
 
 /// "A refused block prints `block I refused N`, I being its place in the input from 0, and the lister goes on; a short

@@ -14,6 +14,7 @@ mod midpoints;
 mod moving;
 mod nearest;
 mod offers;
+mod old_lines;
 mod own_bits;
 mod patterns;
 mod reading;
@@ -53,6 +54,7 @@ pub fn check_sheets() {
     blocks::check();
     written::check();
     retired::check();
+    old_lines::check();
 }
 
 /// The lines of the figures.

@@ -1,7 +1,7 @@
-//! What the lister must print (paper 01, "The lister"; paper 02, Wishes 2 and 3); written from the papers alone.
+//! What the lister must print (paper 01, "The lister"; paper 02, Wishes 2, 3 and 10); written from the papers alone.
 
 use crate::numbers::whole::whole_out_nearest;
-use crate::sheets::blocks::{read_block, BLOCK_SIZE};
+use crate::sheets::blocks::{read_block, BLOCK_SIZE, OLD_WIDTH};
 use crate::words::reading::read;
 use crate::words::refusals::Refusal;
 use std::io::{Result, Write};
@@ -16,10 +16,11 @@ pub fn list(input: &[u8], output: &mut impl Write) -> Result<()> {
             Ok(heading) => {
                 // "The word in lower-case hex with all its digits": four bits make a digit.
                 let digits = heading.width as usize / 4;
+                let old = old_text(heading.width);
                 for (position, &word) in words[..heading.count].iter().enumerate() {
                     let whole = whole_text(heading.width, word);
                     let own_bits = own_fraction_bits(heading.width, word);
-                    writeln!(output, "{} {position} {word:0digits$x} {whole} {own_bits}", heading.number)?;
+                    writeln!(output, "{} {position} {word:0digits$x} {whole} {own_bits}{old}", heading.number)?;
                 }
             }
         }
@@ -38,7 +39,16 @@ fn whole_text(width: u32, word: u64) -> String {
 }
 
 /// The own fraction bits of the word's reading, also where it is `nar` or `over`; paper 02, Wish 3: "the lister adds it
-/// as a last field".
+/// as a last field". Only ` old` comes after it.
 fn own_fraction_bits(width: u32, word: u64) -> i64 {
     read(width, word).expect("a word of a block is never refused").own_fraction_bits
+}
+
+/// Paper 02, Wish 10: "Old 8-bit blocks are still read, and the lister puts ` old` at the end of their lines."
+fn old_text(width: u32) -> &'static str {
+    if width == OLD_WIDTH {
+        " old"
+    } else {
+        ""
+    }
 }

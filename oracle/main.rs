@@ -46,6 +46,7 @@ usage: oracle words                  prints the first text of the census (docs/C
        oracle figures                prints the figures (docs/FIGURES.md)
        oracle list < SHEET           prints what the lister must print
        oracle sheet > SHEET          writes the example sheet of a rack
+       oracle sheet old > SHEET      writes the example sheet of the old coils, most of it in 8 bits
        oracle sheet N > SHEET        writes a pseudo-random sheet of N blocks
        oracle sheet stack > SHEET    writes a sheet of many short blocks
        oracle --help                 prints this text";
@@ -60,6 +61,7 @@ fn main() {
         ["figures"] => write_figures(),
         ["list"] => write_listing(),
         ["sheet"] => stdout().write_all(&sheets::rack::rack_sheet()),
+        ["sheet", "old"] => stdout().write_all(&sheets::old::old_sheet()),
         ["sheet", "stack"] => stdout().write_all(&sheets::stack::stack_sheet()),
         ["sheet", count] => match count.parse() {
             Ok(count) => write_long_sheet(count),

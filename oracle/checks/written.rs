@@ -5,6 +5,7 @@ use crate::census::written::with_faults;
 use crate::checks::blocks::case;
 use crate::sheets::blocks::{room_of, seal, Block, BLOCK_SIZE, BLOCK_WIDTHS, TWO_TO_32};
 use crate::sheets::columns::ColumnRefusal;
+use crate::sheets::old::old_sheet;
 use crate::sheets::rack::rack_sheet;
 use crate::sheets::stack::stack_sheet;
 use crate::sheets::written::{write_block, Content};
@@ -157,9 +158,9 @@ fn sealed_with_change(block: &Block, place: usize, chosen: u64) -> Block {
     changed
 }
 
-/// The blocks of two sheets: the paper's refusals are among them.
+/// The blocks of three sheets: the paper's refusals are among them.
 fn check_sheets() {
-    for sheet in [rack_sheet(), stack_sheet()] {
+    for sheet in [rack_sheet(), old_sheet(), stack_sheet()] {
         let accepted = sheet.chunks(BLOCK_SIZE).filter(|block| is_accepted(block)).count();
         let blocks = sheet.chunks(BLOCK_SIZE).count();
         assert!(accepted > blocks / 2 && accepted < blocks);

@@ -1,10 +1,8 @@
 //! The example sheet of a rack (examples/rack.sheet); written from the papers alone.
 
-use crate::numbers::whole::whole_in;
 use crate::sheets::blocks::{good_block, make_block, room_of};
+use crate::sheets::chosen::{minus, plus, strict_words_of_wholes, words_of_wholes};
 use crate::words::widths::{largest_word, nar_word};
-use crate::writing::answers::write;
-use crate::writing::offers::Offer;
 
 /// The bytes of the sheet: eleven blocks and a short last piece.
 pub fn rack_sheet() -> Vec<u8> {
@@ -67,24 +65,4 @@ pub fn rack_sheet() -> Vec<u8> {
     let cut = good_block(16, 12, &words_of_wholes(16, &[40, 40, 40, 39]));
     sheet.extend(&cut[..200]);
     sheet
-}
-
-/// The words of whole numbers, rounded.
-fn words_of_wholes(width: u32, wholes: &[i64]) -> Vec<u64> {
-    wholes.iter().map(|&whole| whole_in(width, whole).rounded.unwrap().word).collect()
-}
-
-/// The words of whole numbers that all have one.
-fn strict_words_of_wholes(width: u32, wholes: &[i64]) -> Vec<u64> {
-    wholes.iter().map(|&whole| whole_in(width, whole).strict.expect("the number has a word").word).collect()
-}
-
-/// The word of M * 2^k, rounded.
-fn plus(width: u32, m: u128, k: i32) -> u64 {
-    write(width, &Offer::plus(m, k)).rounded.unwrap().word
-}
-
-/// The word of -M * 2^k, rounded.
-fn minus(width: u32, m: u128, k: i32) -> u64 {
-    write(width, &Offer::minus(m, k)).rounded.unwrap().word
 }

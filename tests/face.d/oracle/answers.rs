@@ -6,7 +6,7 @@ use crate::words::refusals::Refusal;
 use crate::writing::answers::Answer;
 use crate::writing::sayings::Saying;
 
-/// The text of a refusal: paper 01's number and name.
+/// The text of a refusal: the papers' number and name.
 pub fn refused(refusal: Refusal) -> String {
     format!("refused {} {}", refusal as u32, format!("{refusal:?}").to_uppercase())
 }

@@ -12,7 +12,7 @@ use crate::writing::moving::move_word;
 use crate::written::block_to_write;
 
 pub fn case(choices: &mut Choices) -> String {
-    match choices.below(69) {
+    match choices.below(70) {
         0..=3 => of_width(choices),
         4..=8 => of_reading(choices),
         9..=12 => of_comparing(choices),
@@ -25,7 +25,7 @@ pub fn case(choices: &mut Choices) -> String {
         52..=56 => of_binary64_out(choices),
         57..=62 => column(choices),
         63 => sheet_block(choices),
-        64 => block_to_write(choices),
+        64 | 65 => block_to_write(choices),
         _ => of_shortest_width(choices),
     }
 }

@@ -2,12 +2,12 @@
 use crate::answers::{column_refused, row};
 use crate::choices::Choices;
 use crate::lent::{count_of_words, pieces};
-use crate::sheets::blocks::{room_of, BLOCK_SIZE, BLOCK_WIDTHS};
+use crate::sheets::blocks::{room_of, BLOCK_SIZE, BLOCK_WIDTHS, OLD_WIDTH};
 use crate::sheets::written::{write_block, Content};
 
 pub fn block_to_write(choices: &mut Choices) -> String {
     let content = content(choices);
-    let size = if choices.once_in(6) { another_size(choices) } else { BLOCK_SIZE };
+    let size = if choices.once_in(rarity(content.width)) { another_size(choices) } else { BLOCK_SIZE };
     let mut buffer = vec![0; size];
     let answer = match write_block(&content, &mut buffer) {
         Ok(()) => format!("written {}", pieces(&buffer)),
@@ -16,14 +16,24 @@ pub fn block_to_write(choices: &mut Choices) -> String {
     format!("write_block {} {} {} size {size} = {answer}", content.width, content.number, row(&content.words))
 }
 
-/// What the block is to hold. Each fault is rare enough for about half of all blocks to be written.
+/// One in how many blocks has a fault. At 16, 32 and 64 bits each is rare enough for about half of all blocks to be written. At 8 bits none is (paper
+/// 02, Wish 10), so there the faults that come after RETIRED are in every second one.
+fn rarity(width: u32) -> u64 {
+    if width == OLD_WIDTH {
+        2
+    } else {
+        6
+    }
+}
+
+/// What the block is to hold, with faults or without.
 fn content(choices: &mut Choices) -> Content {
     let width = choices.one_of(&BLOCK_WIDTHS);
     let full = room_of(width);
     // Not many more than full: a case stays a line of a bounded length.
-    let count = if choices.once_in(6) { full + 1 + choices.below(16) as usize } else { count_of_words(choices, full) };
+    let count = if choices.once_in(rarity(width)) { full + 1 + choices.below(16) as usize } else { count_of_words(choices, full) };
     let mut words: Vec<u64> = (0..count).map(|_| choices.number() >> (64 - width)).collect();
-    if choices.once_in(5) && width < 64 && count > 0 {
+    if choices.once_in(rarity(width)) && width < 64 && count > 0 {
         for _ in 0..1 + choices.below(3) {
             let place = choices.below(count as u64) as usize;
             words[place] = stray_word(choices, width);

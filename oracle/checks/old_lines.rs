@@ -19,8 +19,8 @@ pub fn check() {
     check_old_sheet();
 }
 
-/// The case of paper 01, and its two words in 8 bits: 512 is 0 1 011 010, and 8 - 3 - 5 is 0. An empty block has no line,
-/// an old one neither.
+/// The case of paper 01, and its two words in 8 bits: 512 is 0 1 011 010, and 8 - 3 - 5 is 0. An empty block has no
+/// line, an old one neither.
 fn check_case() {
     let new = "1 0 5a00 512 8\n1 1 8000 nar 0\n";
     let old = "1 0 5a 512 0 old\n1 1 80 nar 0 old\n";
@@ -43,8 +43,7 @@ fn check_refused() {
     }
 }
 
-/// Sheets of all widths, with refused blocks between: ` old` is at the end of each line of an 8-bit block, after the own
-/// fraction bits, and of no other line.
+/// Sheets of several widths, with refused blocks between.
 fn check_sheets() {
     let mut long_sheet = Vec::new();
     write_long_sheet(64, &mut long_sheet).expect("a vector takes every byte");
@@ -53,30 +52,32 @@ fn check_sheets() {
         let mut lines = listing.lines();
         let (mut old, mut others, mut refused) = (0, 0, 0);
         for (place, block) in sheet.chunks(BLOCK_SIZE).enumerate() {
-            let Ok(content) = Content::of(block) else {
-                let line = lines.next().expect("a refused block has a line");
-                assert!(line.starts_with(&format!("block {place} refused ")) && line.split(' ').count() == 4);
-                refused += 1;
-                continue;
-            };
-            for (position, &word) in content.words.iter().enumerate() {
-                let line = lines.next().expect("each word has a line");
-                let fields: Vec<&str> = line.split(' ').collect();
-                let own_bits = read(content.width, word).expect("a block's word is good").own_fraction_bits;
-                assert!(fields[0] == content.number.to_string() && fields[1] == position.to_string());
-                assert!(fields[4] == own_bits.to_string());
-                if content.width == 8 {
-                    assert!(fields[5..] == ["old"]);
-                    old += 1;
-                } else {
-                    assert!(fields[5..].is_empty());
-                    others += 1;
+            let mut next_line = || lines.next().expect("there is a line for each word, and one for a refused block");
+            match Content::of(block) {
+                Ok(content) => {
+                    (0..content.words.len()).for_each(|position| check_line(next_line(), &content, position));
+                    match content.width {
+                        8 => old += content.words.len(),
+                        _ => others += content.words.len(),
+                    }
+                }
+                Err(refusal) => {
+                    assert!(next_line() == format!("block {place} refused {}", refusal as u64));
+                    refused += 1;
                 }
             }
         }
         assert!(lines.next().is_none());
         assert!(old > 0 && others > 0 && refused > 0);
     }
+}
+
+/// ` old` is at the end of a line of an 8-bit block, after the own fraction bits, and of no other line.
+fn check_line(line: &str, content: &Content, position: usize) {
+    let own_bits = read(content.width, content.words[position]).expect("a block's word is good").own_fraction_bits;
+    let end = if content.width == 8 { format!("{own_bits} old") } else { own_bits.to_string() };
+    let fields: Vec<&str> = line.splitn(5, ' ').collect();
+    assert!(fields[0] == content.number.to_string() && fields[1] == position.to_string() && fields[4] == end);
 }
 
 /// The lines of examples/old.sheet but for most of the test card, worked out by hand: S, D, R, C and F from the top.
@@ -119,7 +120,8 @@ const OLD_SHEET_LINES: [&str; 29] = [
     "2 15 b5 -4 2 old",
     "block 4 refused 9",
     "block 5 refused 10",
-    // 42 is 0 1 010 10 and F = 160 of 9 bits, 126 has F = 496 after C = 11, and 300 is 0 1 011 001 and F = 44 of 8 bits.
+    // 42 and 126 are 0 1 010 10 and 0 1 010 11 with F = 160 and F = 496 of 9 bits; 300 and 512 are 0 1 011 001 and
+    // 0 1 011 010 with F = 44 and F = 0 of 8 bits.
     "7 0 54a0 42 9",
     "7 1 57f0 126 9",
     "7 2 592c 300 8",

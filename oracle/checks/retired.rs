@@ -22,8 +22,8 @@ pub fn check() {
 
 const RETIRED: ColumnRefusal = ColumnRefusal::OfAll(Refusal::Retired);
 
-/// "Refusals: 13 RETIRED, after WIDTH and before COUNT." With Wish 1's the order is WIDTH, RETIRED, COUNT, SIZE, STRAY.
-/// Each set of these is tried on a good content; a width has WIDTH or RETIRED, never both. At 64 bits no word is stray.
+/// "Refusals: 13 RETIRED, after WIDTH and before COUNT." With Wish 1's the order is WIDTH, RETIRED, COUNT, SIZE, STRAY:
+/// each alone, and of several the first. A width has WIDTH or RETIRED, never both. At 64 bits no word is stray.
 fn check_order() {
     use ColumnRefusal::{At, OfAll};
     use Refusal::{Count, Size, Stray, Width};
@@ -32,21 +32,7 @@ fn check_order() {
     let drawn = next_content(&mut Sequence::new(9), 8, 497);
     for width in WRITTEN_WIDTHS {
         for faults in (0..32_u64).filter(|faults| faults % 4 != 3) {
-            let has = |fault: u64| (faults / fault) % 2 == 1;
-            let mut content = Content { width, ..drawn.clone() };
-            if has(1) {
-                content.width = 264;
-            }
-            if has(2) {
-                content.width = 8;
-            }
-            if !has(4) {
-                content.words.truncate(62);
-            }
-            if has(16) {
-                content.words[1] |= 1 << 63;
-            }
-            let size = if has(8) { BLOCK_SIZE - 1 } else { BLOCK_SIZE };
+            let (content, size) = with_faults_in_order(&drawn, width, faults);
             let expected = match faults.trailing_zeros() {
                 0 => Err(OfAll(Width)),
                 1 => Err(RETIRED),
@@ -58,6 +44,27 @@ fn check_order() {
             assert!(written(&content, size) == expected, "faults {faults} at width {width}");
         }
     }
+}
+
+/// A content of that width with a set of faults, and how many bytes its buffer has. The set is the sum of 1 for WIDTH,
+/// 2 for RETIRED, 4 for COUNT, 8 for SIZE, 16 for STRAY.
+fn with_faults_in_order(drawn: &Content, width: u32, faults: u64) -> (Content, usize) {
+    let has = |fault: u64| (faults / fault) % 2 == 1;
+    let mut content = Content { width, ..drawn.clone() };
+    if has(1) {
+        content.width = 264;
+    }
+    if has(2) {
+        content.width = 8;
+    }
+    if !has(4) {
+        content.words.truncate(62);
+    }
+    if has(16) {
+        content.words[1] |= 1 << 63;
+    }
+    let size = if has(8) { BLOCK_SIZE - 1 } else { BLOCK_SIZE };
+    (content, size)
 }
 
 /// The sets of docs/CENSUS.md, part 47, at width 8: it is retired, but where the set has WIDTH.

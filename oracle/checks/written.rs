@@ -104,7 +104,7 @@ fn check_read_back() {
 }
 
 /// Whether the reader accepts the block. "Any block that the reader accepts is what the writer makes of its content", a
-/// claim that "now speaks of widths 16, 32 and 64" (paper 02, Wish 10): of an old block's content the writer makes none.
+/// claim that "now speaks of widths 16, 32 and 64" (paper 02, Wish 10): the content of an old block is refused.
 fn is_accepted(block: &[u8]) -> bool {
     let content = Content::of(block);
     if let Ok(content) = &content {
@@ -187,8 +187,8 @@ fn check_faults() {
     }
 }
 
-/// "Or a block's isn't one of its four": the widths of single words are refused too, also where there is no word. Of the
-/// four, 8 is retired; a longer width that ends in the byte 8 is none of them.
+/// "Or a block's isn't one of its four": the widths of single words are refused too, also where there is no word. Of
+/// the four, 8 is retired; a longer width that ends in the byte 8 is none of them.
 fn check_widths() {
     for width in (0..=300).chain(BAD_WIDTHS).chain(BLOCK_WIDTHS.map(|width| (1 << 31) + width)) {
         for words in [vec![], vec![1]] {

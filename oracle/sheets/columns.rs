@@ -14,7 +14,8 @@ pub enum Rule {
 /// "A refusal hands back its number, a position where a column has one, and nothing else."
 #[derive(Clone, Copy, Debug, PartialEq, Eq)]
 pub enum ColumnRefusal {
-    /// WIDTH and ROOM belong to no position; nor do RETIRED, COUNT and SIZE, where the column is to be written as a block.
+    /// WIDTH and ROOM belong to no position; nor do RETIRED, COUNT and SIZE, where the column is to be written as a
+    /// block.
     OfAll(Refusal),
     /// STRAY and INEXACT belong to a position, counted from 0.
     At(Refusal, usize),

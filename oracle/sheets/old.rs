@@ -33,8 +33,8 @@ pub fn old_sheet() -> Vec<u8> {
     let full = room_of(8);
     sheet.extend(make_block(8, full as u16 + 1, 6, 8, &strict_words_of_wholes(8, &vec![5; full])));
 
-    // Block 7: the new bench's first sheet, at 16 bits: tallies, lengths in metres with their fractions, and a joint that
-    // wasn't measured.
+    // Block 7: the new bench's first sheet, at 16 bits: tallies, lengths in metres with their fractions, and a joint
+    // that wasn't measured.
     let mut words = strict_words_of_wholes(16, &[42, 126, 300, 512]);
     words.extend([plus(16, 439, -5), plus(16, 25, -1), plus(16, 55, -2), nar_word(16).unwrap()]);
     sheet.extend(good_block(16, 7, &words));

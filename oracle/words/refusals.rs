@@ -1,8 +1,8 @@
 //! Refusals, and the two that come first for every word (paper 01, "Refusal numbers"; RETIRED is of paper 02, Wish 10);
 //! written from the papers alone.
 
-/// The refusals, with their numbers in the papers. The calls of one word can give the first five only. 12 is for a later
-/// wish.
+/// The refusals, with their numbers in the papers. The calls of one word can give the first five only. 12 is for a
+/// later wish.
 #[derive(Clone, Copy, Debug, PartialEq, Eq)]
 pub enum Refusal {
     Width = 1,

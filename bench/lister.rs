@@ -36,6 +36,9 @@ fn put_block(text: &mut Vec<u8>, block: &[u8], place: u64, words: &mut [u64]) {
         Ok(header) => {
             for (position, &word) in words[..header.count].iter().enumerate() {
                 line.end();
+                if header.width == 8 {
+                    line.bytes(b" old");
+                }
                 line.decimal(own_bits(header.width, word) as u64);
                 line.byte(b' ');
                 line.whole(header.width, word);

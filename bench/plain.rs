@@ -20,6 +20,7 @@ pub const MARK: u32 = 8;
 pub const CHECK: u32 = 9;
 pub const COUNT: u32 = 10;
 pub const FILL: u32 = 11;
+pub const RETIRED: u32 = 13;
 
 // What is said of a word: where it lies from the value that it was written for.
 pub const EXACT: u32 = 0;

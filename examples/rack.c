@@ -199,7 +199,7 @@ static int list_sheet(const char *name) {
             } else {
                 fputs(whole.refusal == TAKUM_NAR ? "nar" : "over", stdout);
             }
-            printf(" %" PRIu32 "\n", takum_read(got.width, words[i]).own);
+            printf(" %" PRIu32 "%s\n", takum_read(got.width, words[i]).own, got.width == 8 ? " old" : "");
         }
     }
     if (from == NULL || ferror(from)) {
@@ -209,11 +209,11 @@ static int list_sheet(const char *name) {
     return fflush(stdout) == 0 && !ferror(stdout) ? status : fails("the listing", "can't be written");
 }
 
-/* Whether a block can have this width: the library is asked, by a block without words. */
-static bool is_block_width(int64_t width) {
+/* Why no block is written with this width, TAKUM_OK if one is: the library is asked, by a block without words. */
+static uint32_t width_refusal(int64_t width) {
     uint8_t block[TAKUM_BLOCK_SIZE] = {0};
     uint64_t none = 0;
-    return width <= UINT32_MAX && takum_write_block((uint32_t)width, 1, &none, 0, block, sizeof block).refusal == TAKUM_OK;
+    return width > UINT32_MAX ? TAKUM_WIDTH : takum_write_block((uint32_t)width, 1, &none, 0, block, sizeof block).refusal;
 }
 
 int main(int argc, char **argv) {
@@ -221,8 +221,11 @@ int main(int argc, char **argv) {
     if (argc == 3 && strcmp(argv[1], "--list") == 0) {
         return list_sheet(argv[2]);
     }
-    if (argc < 3 || argc > 4 || argv[1][0] == '-' || (argc == 4 && (!is_whole(argv[3], &width) || !is_block_width(width)))) {
-        fputs("usage: rack LENGTHS SHEET [WIDTH]   put the lengths of a text onto a new sheet, as words of WIDTH bits: 8, 16, 32 (the usual) or 64\n"
+    if (argc < 3 || argc > 4 || argv[1][0] == '-' || (argc == 4 && !is_whole(argv[3], &width)) || width_refusal(width) != TAKUM_OK) {
+        if (width_refusal(width) == TAKUM_RETIRED) {
+            fprintf(stderr, "rack: sheets of %" PRId64 " bits are still listed, but no longer made\n", width);
+        }
+        fputs("usage: rack LENGTHS SHEET [WIDTH]   put the lengths of a text onto a new sheet, as words of WIDTH bits: 16, 32 (the usual) or 64\n"
               "       rack --list SHEET            print what is on a sheet\n",
               stderr);
         return 2;

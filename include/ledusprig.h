@@ -16,10 +16,10 @@
  * Every call takes every value of its arguments and returns. Each answer is a struct with the field `refusal`:
  *
  * - It is 0 (TAKUM_OK) where the call was answered, and the other fields are the answer.
- * - It is a number from 1 to 11 where the call was refused. Then all other fields are zero (but for the position of a column, or of a block to be
+ * - It is a number from 1 to 11, or 13, where the call was refused. Then all other fields are zero (but for the position of a column, or of a block to be
  *   written), and a lent slice is as it was before the call. takum_refusal_name gives its name. Where several refusals apply, the first is given, in
  *   this order: words: WIDTH, STRAY, NAR, OVER, INEXACT; columns: WIDTH, ROOM, then position by position, at each STRAY and INEXACT; blocks: SIZE,
- *   MARK, CHECK, WIDTH, COUNT, FILL, ROOM; written blocks: WIDTH, COUNT, SIZE, then STRAY at the lowest position.
+ *   MARK, CHECK, WIDTH, COUNT, FILL, ROOM; written blocks: WIDTH, RETIRED, COUNT, SIZE, then STRAY at the lowest position.
  *
  * What a proof can't see is how the calls are used from C. It rests on this:
  *
@@ -84,7 +84,8 @@ enum takum_refusal {
     TAKUM_MARK = 8,    /* a block's byte 0 isn't 0x54 */
     TAKUM_CHECK = 9,   /* a block's check sum A or B differs */
     TAKUM_COUNT = 10,  /* a block has more words than its width has room for */
-    TAKUM_FILL = 11    /* an unused word byte of a block isn't zero */
+    TAKUM_FILL = 11,   /* an unused word byte of a block isn't zero */
+    TAKUM_RETIRED = 13 /* blocks of width 8 are read, but no longer written */
 };
 
 /* The paper's name of a refusal: "INEXACT" for 4, "OK" for 0, and "UNKNOWN" for a number that this header doesn't have, as a later library may. */
@@ -102,6 +103,7 @@ static inline const char *takum_refusal_name(uint32_t refusal) TAKUM_NOEXCEPT {
     case TAKUM_CHECK: return "CHECK";
     case TAKUM_COUNT: return "COUNT";
     case TAKUM_FILL: return "FILL";
+    case TAKUM_RETIRED: return "RETIRED";
     default: return "UNKNOWN";
     }
 }
@@ -299,11 +301,12 @@ TAKUM_MUST_USE TAKUM_NOT_NULL takum_block_answer takum_read_block(const uint8_t 
                                                                   size_t results_length) TAKUM_NOEXCEPT;
 
 /* Writes the block that has this width, number and words: all 512 bytes of the buffer, which is initialized, as every slice, with whatever it may be.
- * It reads back as the same width, number and words, and any block that can be read is what this makes of its width, number and words. The width is
- * 8, 16, 32 or 64, with room for 496, 248, 124 or 62 words (TAKUM_BLOCK_WORDS * 8 / width); the number is any; without words the block has the count 0.
+ * It reads back as the same width, number and words, and any block of these widths that can be read is what this makes of its width, number and words.
+ * The width is 16, 32 or 64, with room for 248, 124 or 62 words (TAKUM_BLOCK_WORDS * 8 / width); the number is any; without words the block has the count
+ * 0. Old blocks of width 8 are still read; no more are written.
  *
- * WIDTH; COUNT where there are more words than the width has room for; SIZE where the buffer isn't 512 bytes; or STRAY with the lowest position that
- * has one, in this order. */
+ * WIDTH where the width isn't 8, 16, 32 or 64; RETIRED where it is 8, with whatever words and buffer; COUNT where there are more words than the width
+ * has room for; SIZE where the buffer isn't 512 bytes; or STRAY with the lowest position that has one, in this order. */
 TAKUM_MUST_USE TAKUM_NOT_NULL takum_written_answer takum_write_block(uint32_t width, uint32_t number, const uint64_t *words, size_t words_length,
                                                                      uint8_t *buffer, size_t buffer_length) TAKUM_NOEXCEPT;
 

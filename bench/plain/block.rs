@@ -1,5 +1,5 @@
 // A sheet block, read and written.
-use super::{CHECK, COUNT, FILL, MARK, ROOM, SIZE, STRAY, WIDTH};
+use super::{CHECK, COUNT, FILL, MARK, RETIRED, ROOM, SIZE, STRAY, WIDTH};
 
 pub struct Header {
     pub width: u32,
@@ -48,6 +48,9 @@ pub fn write_block(width: u32, number: u32, words: &[u64], buffer: &mut [u8]) ->
     if ![8, 16, 32, 64].contains(&width) {
         return Err((WIDTH, None));
     }
+    if width == 8 {
+        return Err((RETIRED, None));
+    }
     let size = width as usize / 8;
     if words.len() > 496 / size {
         return Err((COUNT, None));
@@ -64,7 +67,6 @@ pub fn write_block(width: u32, number: u32, words: &[u64], buffer: &mut [u8]) ->
     buffer[4..8].copy_from_slice(&number.to_le_bytes());
     let (bytes, unused) = buffer[8..504].split_at_mut(size * words.len());
     match size {
-        1 => pack(words, bytes, |word| [word as u8]),
         2 => pack(words, bytes, |word| (word as u16).to_le_bytes()),
         4 => pack(words, bytes, |word| (word as u32).to_le_bytes()),
         _ => pack(words, bytes, u64::to_le_bytes),

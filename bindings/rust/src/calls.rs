@@ -3,7 +3,8 @@
 //!
 //! Where several refusals apply, the first of this order is given. Words: `Width`, `Stray`, `Nar`, `Over`, `Inexact`. Columns:
 //! `Width`, `Room`, then position by position, at each `Stray` and `Inexact`. Blocks: `Size`, `Mark`, `Check`, `Width`, `Count`, `Fill`, `Room`.
-//! Written blocks: `Width`, `Count`, `Size`, then `Stray` at the lowest position. A refused call leaves its results, or its buffer, as they were.
+//! Written blocks: `Width`, `Retired`, `Count`, `Size`, then `Stray` at the lowest position. A refused call leaves its results, or its buffer, as they
+//! were.
 //!
 //! ```
 //! use ledusprig::{calls, Refusal, Rule, Saying, Written};
@@ -157,11 +158,12 @@ pub fn read_block(block: &[u8], results: &mut [u64]) -> Result<Block, Refusal> {
     Refusal::unless(answer.refusal, Block { width: answer.width, number: answer.number, count: answer.count })
 }
 
-/// Writes the sheet block that has this width, number and words: all 512 bytes of the buffer, whatever was in it. It reads back as the same width,
-/// number and words, and any block that can be read is what this makes of its width, number and words. Without words the block has the count 0.
+/// Writes the sheet block that has this width, 16, 32 or 64, this number and these words: all 512 bytes of the buffer, whatever was in it. It reads back
+/// as the same width, number and words, and any block of these widths that can be read is what this makes of its width, number and words. Without words
+/// the block has the count 0. Old blocks of width 8 are still read; no more are written.
 ///
-/// `Width` where the width isn't 8, 16, 32 or 64; `Count` where there are more words than it has room for, 496, 248, 124 or 62; `Size` where the
-/// buffer isn't 512 bytes; `Stray` with the lowest position that has one.
+/// `Width` where the width isn't 8, 16, 32 or 64; `Retired` where it is 8, with whatever words and buffer; `Count` where there are more words than it
+/// has room for, 248, 124 or 62; `Size` where the buffer isn't 512 bytes; `Stray` with the lowest position that has one.
 ///
 /// ```
 /// use ledusprig::{calls, Block, ColumnRefusal, Refusal, BLOCK_SIZE, BLOCK_WORDS};
@@ -178,6 +180,8 @@ pub fn read_block(block: &[u8], results: &mut [u64]) -> Result<Block, Refusal> {
 /// let refused = calls::write_block(16, 2, &[0x5A00, 0x10000], &mut block).unwrap_err();
 /// assert_eq!((refused.refusal, refused.position), (Refusal::Stray, Some(1)));
 /// assert_eq!(block, before);
+///
+/// assert_eq!(calls::write_block(8, 3, &[0x5A, 0x80], &mut block), Err(ColumnRefusal::from(Refusal::Retired)));
 /// # Ok::<(), ColumnRefusal>(())
 /// ```
 pub fn write_block(width: u32, number: u32, words: &[u64], buffer: &mut [u8]) -> Result<(), ColumnRefusal> {

@@ -112,6 +112,7 @@ refusals! {
     Check = 9, "CHECK", "a block's check sum A or B differs";
     Count = 10, "COUNT", "a block has more words than its width has room for";
     Fill = 11, "FILL", "an unused word byte of a block isn't zero";
+    Retired = 13, "RETIRED", "blocks of width 8 are read, but no longer written";
 }
 
 impl Refusal {

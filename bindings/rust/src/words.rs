@@ -50,7 +50,7 @@ impl Width {
     /// The greatest width, 64.
     pub const GREATEST: Width = Width { bits: 64 };
 
-    /// 8 bits. This and the next three are the widths that a sheet block can have.
+    /// 8 bits. This and the next three are the widths that a sheet block can have; with this one blocks are read, but no longer written.
     pub const W8: Width = Width { bits: 8 };
 
     /// 16 bits.
@@ -178,8 +178,9 @@ impl Width {
     /// assert_eq!(calls::read_block(&block, &mut words), Ok(Block { width: 16, number: 7, count: 3 }));
     /// assert_eq!(words[..3], rows);
     ///
-    /// // a width that no block has, and a buffer that is no block
+    /// // a width that no block has, one that no block is written with any more, and a buffer that is no block
     /// assert_eq!(Width::LEAST.write_block(7, &[], &mut block), Err(ColumnRefusal::from(Refusal::Width)));
+    /// assert_eq!(Width::W8.write_block(7, &[], &mut block), Err(ColumnRefusal::from(Refusal::Retired)));
     /// assert_eq!(Width::W16.write_block(7, &rows, &mut block[..511]), Err(ColumnRefusal::from(Refusal::Size)));
     /// # Ok::<(), ColumnRefusal>(())
     /// ```

@@ -4,11 +4,12 @@ use std::collections::HashSet;
 use std::error::Error;
 
 const NAMES: [&str; 11] = ["WIDTH", "STRAY", "NAR", "INEXACT", "OVER", "ROOM", "SIZE", "MARK", "CHECK", "COUNT", "FILL"];
+const RETIRED: (u32, &str) = (13, "RETIRED");
 
 #[test]
 fn the_papers_numbers_have_names_and_sentences_of_their_own() {
     let mut sentences = HashSet::new();
-    for (number, name) in (1..).zip(NAMES) {
+    for (number, name) in (1..).zip(NAMES).chain([RETIRED]) {
         let refusal = Refusal::try_from(number).unwrap();
         assert_eq!((refusal.number(), refusal.name()), (number, name));
         let text = refusal.to_string();
@@ -19,7 +20,7 @@ fn the_papers_numbers_have_names_and_sentences_of_their_own() {
 
 #[test]
 fn a_number_that_is_not_known_is_kept() {
-    for number in [12, 13, 14, 15, 16, u32::MAX] {
+    for number in [12, 14, 15, 16, u32::MAX] {
         let refusal = Refusal::try_from(number).unwrap();
         assert!(matches!(refusal, Refusal::Other { .. }));
         assert_eq!((refusal.number(), refusal.name()), (number, "UNKNOWN"));
@@ -61,6 +62,8 @@ fn a_block_tells_the_word_that_is_refused() {
     assert_eq!(stray.to_string(), format!("{}, at position 2", Refusal::Stray));
     // the whole block is refused before its words are looked at
     assert_eq!(refused(12, &[0x10000; 500], 0), ColumnRefusal::from(Refusal::Width));
+    assert_eq!(refused(8, &[0x10000; 500], 0), ColumnRefusal::from(Refusal::Retired));
+    assert_eq!(refused(8, &[], BLOCK_SIZE), ColumnRefusal::from(Refusal::Retired));
     assert_eq!(refused(16, &[0x10000; 249], 0), ColumnRefusal::from(Refusal::Count));
     assert_eq!(refused(16, &[0x10000; 248], 511), ColumnRefusal::from(Refusal::Size));
 }

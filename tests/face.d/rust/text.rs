@@ -124,6 +124,7 @@ fn name_of(refusal: Refusal) -> &'static str {
         Refusal::Check => "CHECK",
         Refusal::Count => "COUNT",
         Refusal::Fill => "FILL",
+        Refusal::Retired => "RETIRED",
         _ => "of no name",
     }
 }

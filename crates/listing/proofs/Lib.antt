@@ -5,6 +5,8 @@ pub mod Placed
 pub mod Digits
 -- what stands for a refusal
 pub mod Refusals
+-- what the width adds to a line
+pub mod Old
 -- the lines of a block's words, one after another
 pub mod Listed
 -- a block that was read, or refused, is listed as the definition says

@@ -7,7 +7,7 @@ use native.Mathlib.Omega.{arith}
 use lib.Dec.{eqb, ltb}
 use lib.IntN.{pos, negsuc}
 use lib.Seq.{append-snoc}
-use borrow.Author.Tests.{lt-ltb, eq-eqb, ne-eqb, eqb-false, not-true}
+use borrow.Author.Tests.{lt-ltb, ne-eqb, eqb-false, not-true}
 use Rattle.io.specs.Digits.{glyph, digits}
 use Rattle.bounds.specs.declared.refusal.Refusal.{Refusal}
 use Rattle.bounds.specs.Refusals.{numberOf, through, refused}
@@ -18,6 +18,7 @@ use Rattle.sheet.specs.Writes.{isRetired}
 use Rattle.sheet.proofs.Tests.{not-both}
 use Rattle.listing.specs.Listing.{ListsBlock}
 use Rattle.listing.specs.Text.{minus, space, newline, nar, over, old, oldText, refusalText, blockText, refusedText, hexOf, IsDecimal, IsSigned, IsShown, IsField, IsWholeText, IsOwnText, IsLine, AreLines, IsRefusedLine}
+use Rattle.listing.proofs.Old.{is-old, isn't-old}
 use Rattle.promises.specs.OldLines as promise
 use Rattle.promises.specs.OldLines.{IsUnbroken, EachLine, none, more, EndsInOld}
 
@@ -114,11 +115,11 @@ refused-line i q t (d, r, x, y, e) =
 
 -- ---- the promises
 pub the-lines-of-an-old-block-end-in-old : promise.TheLinesOfAnOldBlockEndInOld
-unfolding promise.TheLinesOfAnOldBlockEndInOld ListsBlock EndsInOld oldText isRetired
-the-lines-of-an-old-block-end-in-old block i t (through h x) pass wide = lines EndsInOld (blockNumber block) (width block) (λ f d own y. (f ++ d, rw (eq-eqb (width block) 8 wide))) 0 (words block) t x
+unfolding promise.TheLinesOfAnOldBlockEndInOld ListsBlock EndsInOld
+the-lines-of-an-old-block-end-in-old block i t (through h x) pass wide = lines EndsInOld (blockNumber block) (width block) (λ f d own y. (f ++ d, ap (λ (o : List ℕ). f ++ d ++ o) (is-old (width block) (omega (arith, wide))))) 0 (words block) t x
 the-lines-of-an-old-block-end-in-old block i t (refused h x) pass wide = absurd (not-both pass h)
 
 pub no-other-line-ends-in-old : promise.NoOtherLineEndsInOld
-unfolding promise.NoOtherLineEndsInOld ListsBlock oldText isRetired
-no-other-line-ends-in-old block i t (through h x) other = lines _ (blockNumber block) (width block) (λ f d own y. rw (ne-eqb (width block) 8 (other h), append-nil) (not-old f d own y)) 0 (words block) t x
+unfolding promise.NoOtherLineEndsInOld ListsBlock
+no-other-line-ends-in-old block i t (through h x) other = lines _ (blockNumber block) (width block) (λ f d own y. rw (isn't-old (width block) (λ e. omega (arith, e, other h)), append-nil) (not-old f d own y)) 0 (words block) t x
 no-other-line-ends-in-old block i t (refused {q = q} h x) other = rw append-nil at (first _ t [] (refused-line i q t x) none)

@@ -1,13 +1,11 @@
 -- `put_old` meets its contract: ` old` where the width is retired, nothing where it isn't. Assumes nothing.
-use mathlib.Core.Path.{_≡_, sym, ap, subst}
-use mathlib.Core.Bool.{Bool, cond}
-use mathlib.Core.List.{List, []}
+use mathlib.Core.Path.{sym, subst}
+use mathlib.Core.List.{List}
 use Prim.Native.Nat.{ℕ}
 use native.Mathlib.Omega.{arith}
-use borrow.Author.Tests.{eq-eqb, ne-eqb}
-use Rattle.sheet.specs.Writes.{isRetired}
 use Rattle.listing.specs.Puts.{Puts}
-use Rattle.listing.specs.Text.{space, old, oldText}
+use Rattle.listing.specs.Text.{space, old}
+use Rattle.listing.proofs.Old.{is-old, isn't-old}
 use Rattle.listing.proofs.Placed.{nothing-put}
 use borrow.Author.Needs.{needs}
 use Rattle.listing.proofs.lines.put_old.Statement.{statement}
@@ -21,15 +19,6 @@ put-text-requires c κs = search needs
 
 same-length : tie.Need-same-length
 same-length c = search needs
-
--- the text of a width that is 8, and of one that isn't
-is-old : (n : ℕ) → n ≡ 8 → oldText n ≡ old
-unfolding oldText isRetired
-is-old n e = ap (λ (b : Bool). cond b old []) (eq-eqb n 8 e)
-
-isn't-old : (n : ℕ) → (n ≡ 8 → ⊥) → oldText n ≡ []
-unfolding oldText isRetired
-isn't-old n f = ap (λ (b : Bool). cond b old []) (ne-eqb n 8 f)
 
 returns : tie.Need-returns
 unfolding old space

@@ -1,14 +1,15 @@
 -- The promises that specs/OldBlocks.antt states, from the tests of a block that is to be written and of one that is read. Assumes nothing.
 use mathlib.Core.Path.{_≡_, refl, sym, ap, ap₂, _∙_, subst}
 use mathlib.Core.Bool.{true, _&&_}
-use mathlib.Core.List.{List, [], _∷_}
-use mathlib.Core.Logic.{_⊎_, inl, inr}
-use Prim.Native.Nat.{ℕ, _+_, _*_, _/_, _≤_, _<_}
+use mathlib.Core.List.{List, [], _∷_, _++_}
+use mathlib.Core.Logic.{inl, inr}
+use Prim.Native.Nat.{ℕ, _+_, _*_, _/_, _≤_}
 use native.Mathlib.Nat.{one-mul}
 use native.Mathlib.Omega.{arith}
 use borrow.Author.Tests.{eq-eqb, le-leb}
-use lib.Dec.{eqb}
-use lib.ListN.{length, getD}
+use lib.Dec.{lit≤}
+use lib.ListN.{length, replicate}
+use lib.Seq.{slice}
 use Rattle.bounds.specs.declared.refusal.Refusal.{Refusal}
 use Rattle.bounds.specs.declared.refusal.Verdict.{Verdict}
 use Rattle.bounds.specs.Refusals.{numberOf}
@@ -16,16 +17,17 @@ use Rattle.bounds.proofs.Rooms.{room-fits}
 use Rattle.bounds.proofs.Verdicts.{answered, refused-as}
 use Rattle.sheet.specs.declared.block.Block.{Block}
 use Rattle.sheet.specs.declared.writing.Writing.{Writing}
-use Rattle.sheet.specs.Layout.{numberAt, width, count, blockNumber, wordBytes, end, unused, numbers, A, B}
-use Rattle.sheet.specs.Sums.{sumA, sumB}
-use Rattle.sheet.specs.Reads.{checkTest, blockWidthTest, countTest, fillTest, blockTest, ReadsBlock, FillsResults}
+use Rattle.sheet.specs.Layout.{number, numberAt, packed, mark, width, count, blockNumber, wordBytes, end, words, unused, numbers, A, B}
+use Rattle.sheet.specs.Sums.{total, sumA, running, sumB}
+use Rattle.sheet.specs.Reads.{allZero, checkTest, blockWidthTest, countTest, fillTest, blockTest, ReadsBlock}
 use Rattle.sheet.specs.Writes.{WritesBlock, FillsBuffer}
+use Rattle.sheet.proofs.Case.{all-bytes, are-bytes}
 use Rattle.sheet.proofs.Contents.{old-width}
 use Rattle.sheet.proofs.LittleEndian.{numberAt-one}
 use Rattle.sheet.proofs.Passing.{room-decides}
 use Rattle.sheet.proofs.Results.{result-at, result-kept}
 use Rattle.sheet.proofs.Tests.{width-is, holds}
-use Rattle.sheet.proofs.Unused.{zero-part}
+use Rattle.sheet.proofs.Unused.{part-zero, zero-part}
 use Rattle.promises.specs.Demands.{RefusedAs}
 use Rattle.promises.specs.OldBlocks as promise
 use Rattle.promises.specs.OldBlocks.{IsOldBlock}
@@ -106,3 +108,22 @@ old-blocks-are-still-read block before after a old room r f =
     let r' : ReadsBlock block (length before) (Block.Read 8 (blockNumber block) (count block)) = subst (ReadsBlock block (length before)) is r in
     let at = result-at block before after 8 (blockNumber block) (count block) r' f in
     (is, λ j h. at j h ∙ ap (λ (k : ℕ). numberAt 1 (8 + k) block) (one-mul j) ∙ numberAt-one (8 + j) block (omega (arith, h, old .inside, old .sized)), result-kept block before after 8 (blockNumber block) (count block) r' f)
+
+-- ---- there is one: bytes 54 08 02 00 01 00 00 00 5A 80, zeros up to byte 503, A = 0x000288AF, B = 0x013E456D
+old-case : List ℕ
+old-case =
+    (0x54 ∷ 0x08 ∷ 0x02 ∷ 0x00 ∷ 0x01 ∷ 0x00 ∷ 0x00 ∷ 0x00 ∷ 0x5A ∷ 0x80 ∷ [])
+    ++ replicate 494 0x00
+    ++ (0xAF ∷ 0x88 ∷ 0x02 ∷ 0x00 ∷ 0x6D ∷ 0x45 ∷ 0x3E ∷ 0x01 ∷ [])
+
+zeros : allZero (slice 10 504 old-case) ≡ true
+unfolding old-case allZero
+zeros = refl
+
+is-old-block : IsOldBlock old-case
+unfolding old-case mark width count numbers A B numberAt number packed total sumA running sumB
+is-old-block = record { sized = refl; marked = refl; sum-a = refl; sum-b = refl; wide = refl; inside = lit≤ tt; rest = part-zero 10 504 old-case zeros }
+
+pub there-is-an-old-block : promise.ThereIsAnOldBlock
+unfolding promise.ThereIsAnOldBlock old-case all-bytes words width count blockNumber wordBytes packed numberAt number
+there-is-an-old-block = (old-case, are-bytes old-case refl, is-old-block, refl, refl)

@@ -1,11 +1,11 @@
 -- What Wish 10 of paper 02 promises of blocks: none of width 8 is written any more, and old ones are read as before.
 use mathlib.Core.Path.{_≡_}
-use mathlib.Core.List.{List}
+use mathlib.Core.List.{List, [], _∷_}
 use Prim.Native.Nat.{ℕ, _+_, _≤_, _<_}
 use lib.ListN.{length, getD}
 use Rattle.sheet.specs.declared.block.Block.{Block}
 use Rattle.sheet.specs.declared.writing.Writing.{Writing}
-use Rattle.sheet.specs.Layout.{mark, width, count, blockNumber, numbers, A, B}
+use Rattle.sheet.specs.Layout.{AreBytes, mark, width, count, blockNumber, words, numbers, A, B}
 use Rattle.sheet.specs.Sums.{sumA, sumB}
 use Rattle.sheet.specs.Reads.{ReadsBlock, FillsResults}
 use Rattle.sheet.specs.Writes.{WritesBlock, FillsBuffer}
@@ -36,3 +36,7 @@ pub record IsOldBlock (block : List ℕ) : Type 0 where
 unfoldable pub OldBlocksAreStillRead : Type 0
 OldBlocksAreStillRead = (block before after : List ℕ) (a : Block) → IsOldBlock block → count block ≤ length before → ReadsBlock block (length before) a → FillsResults block before after
     → (a ≡ Block.Read 8 (blockNumber block) (count block)) × ((j : ℕ) → j < count block → getD after j 0 ≡ getD block (8 + j) 0) × ((j : ℕ) → count block ≤ j → getD after j 0 ≡ getD before j 0)
+
+-- there are such blocks: one has number 1 and the words of paper 01's case in 8 bits, 512 and NaR
+unfoldable pub ThereIsAnOldBlock : Type 0
+ThereIsAnOldBlock = (block : List ℕ) × AreBytes block × IsOldBlock block × (blockNumber block ≡ 1) × (words block ≡ 0x5a ∷ 0x80 ∷ [])

@@ -44,11 +44,11 @@ unfolding case FillsResults words width count wordBytes packed numberAt number
 case-words x y after f = answered case-passes f
 
 -- and what writing that content makes
-all-bytes : List ℕ → Bool
+unfoldable pub all-bytes : List ℕ → Bool
 all-bytes [] = true
 all-bytes (b ∷ bytes) = ltb b 256 && all-bytes bytes
 
-are-bytes : (bytes : List ℕ) → all-bytes bytes ≡ true → AreBytes bytes
+pub are-bytes : (bytes : List ℕ) → all-bytes bytes ≡ true → AreBytes bytes
 unfolding AreBytes all-bytes
 are-bytes [] h j = lit< tt
 are-bytes (b ∷ bytes) h zero = ltb-true b 256 (both (ltb b 256) (all-bytes bytes) h .0)

@@ -1,4 +1,4 @@
--- What Wish 1 of paper 02 promises of a written block: it reads back, and a block that is read is what writing makes of its content.
+-- What Wish 1 of paper 02 promises of a written block: it reads back, and a block that is read, of width 16, 32 or 64, is what writing makes of its content.
 use mathlib.Core.Path.{_≡_}
 use mathlib.Core.List.{List, _++_}
 use mathlib.Core.Logic.{_⊎_}

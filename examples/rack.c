@@ -221,8 +221,10 @@ int main(int argc, char **argv) {
     if (argc == 3 && strcmp(argv[1], "--list") == 0) {
         return list_sheet(argv[2]);
     }
-    if (argc < 3 || argc > 4 || argv[1][0] == '-' || (argc == 4 && !is_whole(argv[3], &width)) || width_refusal(width) != TAKUM_OK) {
-        if (width_refusal(width) == TAKUM_RETIRED) {
+    bool is_called = (argc == 3 || (argc == 4 && is_whole(argv[3], &width))) && argv[1][0] != '-';
+    uint32_t refusal = is_called ? width_refusal(width) : TAKUM_WIDTH;
+    if (refusal != TAKUM_OK) {
+        if (refusal == TAKUM_RETIRED) {
             fprintf(stderr, "rack: sheets of %" PRId64 " bits are still listed, but no longer made\n", width);
         }
         fputs("usage: rack LENGTHS SHEET [WIDTH]   put the lengths of a text onto a new sheet, as words of WIDTH bits: 16, 32 (the usual) or 64\n"

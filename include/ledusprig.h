@@ -301,9 +301,9 @@ TAKUM_MUST_USE TAKUM_NOT_NULL takum_block_answer takum_read_block(const uint8_t 
                                                                   size_t results_length) TAKUM_NOEXCEPT;
 
 /* Writes the block that has this width, number and words: all 512 bytes of the buffer, which is initialized, as every slice, with whatever it may be.
- * It reads back as the same width, number and words, and any block of these widths that can be read is what this makes of its width, number and words.
- * The width is 16, 32 or 64, with room for 248, 124 or 62 words (TAKUM_BLOCK_WORDS * 8 / width); the number is any; without words the block has the count
- * 0. Old blocks of width 8 are still read; no more are written.
+ * It reads back as the same width, number and words, and any block of 16, 32 or 64 bits that can be read is what this makes of its width, number and
+ * words. The width is 16, 32 or 64, with room for 248, 124 or 62 words (TAKUM_BLOCK_WORDS * 8 / width); the number is any; without words the block
+ * has the count 0. Old blocks of width 8 are still read; no more are written.
  *
  * WIDTH where the width isn't 8, 16, 32 or 64; RETIRED where it is 8, with whatever words and buffer; COUNT where there are more words than the width
  * has room for; SIZE where the buffer isn't 512 bytes; or STRAY with the lowest position that has one, in this order. */

@@ -41,7 +41,7 @@ pub mod Shortest
 pub mod Nearest
 -- every place of a column and of a block, and lent memory after a refusal
 pub mod Slices
--- a written block reads back, and a block that is read is what writing makes of its content
+-- a written block reads back, and a block that is read, of width 16, 32 or 64, is what writing makes of its content
 pub mod Sheets
 -- no block of width 8 is written any more, and old ones are still read
 pub mod OldBlocks

@@ -1,22 +1,26 @@
 -- The promises that specs/OldLines.antt states: no byte of a field ends a line, and a line that isn't old ends in a decimal digit. Assumes nothing.
-use mathlib.Core.Path.{_≡_, refl, sym, ap, _∙_, subst}
-use mathlib.Core.Bool.{Bool, true, false, cond, not, _&&_, and-assoc}
+use mathlib.Core.Path.{_≡_, refl, sym, ap, ap₂, _∙_, subst}
+use mathlib.Core.Bool.{Bool, true, false, cond, not, _&&_, and-assoc, false≢true}
 use mathlib.Core.List.{List, [], _∷_, _++_, append-nil, reverse, reverseAux-append, head-eq-of-cons-eq}
 use Prim.Native.Nat.{ℕ, zero, suc, _+_, _/_, _%_}
 use native.Mathlib.Omega.{arith}
 use lib.Dec.{eqb, ltb}
 use lib.IntN.{pos, negsuc}
-use lib.Seq.{append-snoc}
+use lib.ListN.{length, take, drop}
+use lib.Seq.{append-snoc, take-all, take-append-le}
 use borrow.Author.Tests.{lt-ltb, ne-eqb, eqb-false, not-true}
 use Rattle.io.specs.Digits.{glyph, digits}
 use Rattle.bounds.specs.declared.refusal.Refusal.{Refusal}
 use Rattle.bounds.specs.Refusals.{numberOf, through, refused}
 use Rattle.bounds.proofs.Verdicts.{both}
 use Rattle.whole.specs.declared.taking.Whole.{Whole}
-use Rattle.sheet.specs.Layout.{width, blockNumber, words}
+use Rattle.sheet.specs.Layout.{width, count, blockNumber, words}
 use Rattle.sheet.specs.Writes.{isRetired}
+use Rattle.sheet.proofs.Results.{words-length}
 use Rattle.sheet.proofs.Tests.{not-both}
-use Rattle.listing.specs.Listing.{ListsBlock}
+use Rattle.listing.specs.declared.blocks.Listed.{Listed}
+use Rattle.listing.specs.Listing.{ListsBlock, IsListed, ListsInto}
+use Rattle.listing.specs.Puts.{PutsSome}
 use Rattle.listing.specs.Text.{minus, space, newline, nar, over, old, oldText, refusalText, blockText, refusedText, hexOf, IsDecimal, IsSigned, IsShown, IsField, IsWholeText, IsOwnText, IsLine, AreLines, IsRefusedLine}
 use Rattle.listing.proofs.Old.{is-old, isn't-old}
 use Rattle.promises.specs.OldLines as promise
@@ -91,8 +95,8 @@ abbrev IsEnded : (List ℕ → Type 0) → List ℕ → Type 0
 IsEnded P t = (l : List ℕ) × (passes l ≡ true) × P l × (t ≡ l ++ (newline ∷ []))
 
 module _ (P : List ℕ → Type 0) where
-  first : (t u : List ℕ) → IsEnded P t → EachLine P u → EachLine P (t ++ u)
-  first t u (l, h, p, e) r = subst (EachLine P) (sym (ap (λ (x : List ℕ). x ++ u) e ∙ append-snoc l newline u)) (more (unbroken l h) p r)
+  first : (k : ℕ) (t u : List ℕ) → IsEnded P t → EachLine P k u → EachLine P (suc k) (t ++ u)
+  first k t u (l, h, p, e) r = subst (EachLine P (suc k)) (sym (ap (λ (x : List ℕ). x ++ u) e ∙ append-snoc l newline u)) (more (unbroken l h) p r)
 
   -- a line of a block ends in decimal digits and in what its width adds: what is so of every such text is so of each line
   module _ (number n : ℕ) (so : (f d : List ℕ) (own : ℕ) → IsDecimal own d → P (f ++ d ++ oldText n)) where
@@ -102,10 +106,10 @@ module _ (P : List ℕ → Type 0) where
         let f = b ++ p ++ hexOf n w ++ x ++ (space ∷ []) in
         (f ++ d ++ oldText n, simp (joined, field-passes number b hb, field-passes position p hp, digits-pass, whole-passes n w x hx, decimal-passes (a .own) d hd, old-passes), so f d (a .own) hd, cc (append-snoc (b ++ p ++ hexOf n w ++ x) space d))
 
-    lines : (position : ℕ) (ws t : List ℕ) → AreLines number n position ws t → EachLine P t
+    lines : (position : ℕ) (ws t : List ℕ) → AreLines number n position ws t → EachLine P (length ws) t
     unfolding AreLines
-    lines position [] t e = subst (EachLine P) (sym e) none
-    lines position (w ∷ ws) t (l, u, x, y, e) = subst (EachLine P) (sym e) (first l u (line position w l x) (lines (suc position) ws u y))
+    lines position [] t e = subst (EachLine P 0) (sym e) none
+    lines position (w ∷ ws) t (l, u, x, y, e) = subst (EachLine P (suc (length ws))) (sym e) (first (length ws) l u (line position w l x) (lines (suc position) ws u y))
 
 refused-line : (i : ℕ) (q : Refusal) (t : List ℕ) → IsRefusedLine i q t → IsEnded (λ l. EndsInOld l → ⊥) t
 unfolding IsRefusedLine blockText refusedText space newline
@@ -113,13 +117,29 @@ refused-line i q t (d, r, x, y, e) =
     let f = blockText ++ d ++ refusedText in
     (f ++ r, simp (joined f r, joined d refusedText, decimal-passes i d x, decimal-passes (numberOf q) r y), not-old f r (numberOf q) y, e)
 
+-- ---- what the call has put is a text of the block
+abbrev is-length : Listed → Bool
+is-length (Listed.Length n q) = true
+is-length (Listed.Refused q) = false
+
+is-text : (block : List ℕ) (i : ℕ) (before after : List ℕ) (n q : ℕ) → ListsInto block i before after (Listed.Length n q) → ListsBlock block i (take n after)
+unfolding ListsInto IsListed PutsSome
+is-text block i before after n q (through h ((t, x, p), room, number)) = subst (ListsBlock block i) (sym (ap₂ take (p .place) (p .content) ∙ take-append-le (0 + length t) t (drop (0 + length t) before) (omega arith) ∙ take-all (0 + length t) t (omega arith))) x
+is-text block i before after n q (refused h x) = absurd (false≢true (sym (ap is-length (x .0))))
+
 -- ---- the promises
 pub the-lines-of-an-old-block-end-in-old : promise.TheLinesOfAnOldBlockEndInOld
 unfolding promise.TheLinesOfAnOldBlockEndInOld ListsBlock EndsInOld
-the-lines-of-an-old-block-end-in-old block i t (through h x) pass wide = lines EndsInOld (blockNumber block) (width block) (λ f d own y. (f ++ d, ap (λ (o : List ℕ). f ++ d ++ o) (is-old (width block) (omega (arith, wide))))) 0 (words block) t x
-the-lines-of-an-old-block-end-in-old block i t (refused h x) pass wide = absurd (not-both pass h)
+the-lines-of-an-old-block-end-in-old block i before after n q listed pass wide = by (is-text block i before after n q listed)
+  where
+    by : ListsBlock block i (take n after) → EachLine EndsInOld (count block) (take n after)
+    by (through h x) = subst (λ (k : ℕ). EachLine EndsInOld k (take n after)) (words-length block) (lines EndsInOld (blockNumber block) (width block) (λ f d own y. (f ++ d, ap (λ (o : List ℕ). f ++ d ++ o) (is-old (width block) (omega (arith, wide))))) 0 (words block) (take n after) x)
+    by (refused h x) = absurd (not-both pass h)
 
 pub no-other-line-ends-in-old : promise.NoOtherLineEndsInOld
 unfolding promise.NoOtherLineEndsInOld ListsBlock
-no-other-line-ends-in-old block i t (through h x) other = lines _ (blockNumber block) (width block) (λ f d own y. rw (isn't-old (width block) (λ e. omega (arith, e, other h)), append-nil) (not-old f d own y)) 0 (words block) t x
-no-other-line-ends-in-old block i t (refused {q = q} h x) other = rw append-nil at (first _ t [] (refused-line i q t x) none)
+no-other-line-ends-in-old block i before after n r listed other = by (is-text block i before after n r listed)
+  where
+    by : ListsBlock block i (take n after) → (k : ℕ) × EachLine (λ l. EndsInOld l → ⊥) k (take n after)
+    by (through h x) = (_, lines _ (blockNumber block) (width block) (λ f d own y. rw (isn't-old (width block) (λ e. omega (arith, e, other h)), append-nil) (not-old f d own y)) 0 (words block) (take n after) x)
+    by (refused {q = q} h x) = (1, rw append-nil at (first _ 0 (take n after) [] (refused-line i q (take n after) x) none))

@@ -1,5 +1,5 @@
--- Demand 1: the refusal numbers of paper 01's table and those of paper 02, each given exactly when its line says. A call tries the lines that concern it in the paper's
--- order, and each call's lines stand below in that order.
+-- Demand 1: the refusal numbers of paper 01's table and those of paper 02, each given exactly when its line says. A call tries the lines that concern it
+-- in the paper's order, and each call's lines stand below in that order.
 use mathlib.Core.Path.{_≡_}
 use mathlib.Core.Bool.{Bool}
 use mathlib.Core.List.{List, [], _∷_}

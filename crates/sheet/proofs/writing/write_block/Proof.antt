@@ -15,12 +15,12 @@ use Rattle.sheet.proofs.Tests.{OneOfFour, is-width}
 use Rattle.sheet.proofs.writing.write_block.Statement.{statement}
 use Rattle.sheet.proofs.writing.write_block.Tie as tie
 
--- what is known once the width has been let through, once it is one that is still written, and once all but the words has been let through
+-- what is known once the width has been let through, and once all but the words has
 wide : (c : tie.After-struct-known) → isBlockWidth (c .before .before .before .before .before .args .width .bits) ≡ true
 wide c = is-wide _ (c .before .before .is-block-width .result) (c .before .before .is-block-width .ensures) (c .before .if1 .left)
 
-written-width : (c : tie.Else2) → OneOfFour (c .before .before .before .before .before .before .args .width .bits)
-written-width c = is-width _ (wide (c .before))
+one-of-four : (c : tie.Else2) → OneOfFour (c .before .before .before .before .before .before .args .width .bits)
+one-of-four c = is-width _ (wide (c .before))
 
 module _ (c : tie.Else4) where
   abbrev else2 : tie.Else2
@@ -44,10 +44,10 @@ unfolding WritesBlock FillsBuffer
 returns-2 c = (refused (old-width _ _ _ (wide (c .before)) (c .if2 .taken)) refl, refl)
 
 div-if3 : tie.Need-div-if3
-div-if3 c = some-bytes _ (written-width (c .before))
+div-if3 c = some-bytes _ (one-of-four (c .before))
 
 cast-if3 : tie.Need-cast-if3
-cast-if3 c = omega (arith, small-room _ (written-width (c .before)))
+cast-if3 c = omega (arith, small-room _ (one-of-four (c .before)))
 
 returns-3 : tie.Need-returns-3
 unfolding WritesBlock FillsBuffer
@@ -60,7 +60,7 @@ returns-4 c = let else2 = c .before .before .before in
     (refused (other-buffer _ _ _ (wide (else2 .before)) (else2 .if2 .left) (c .before .if3 .left) (c .if4 .taken)) refl, refl)
 
 first-stray-requires : tie.Need-first-stray-requires
-first-stray-requires c κs = width-of-words _ (written-width (c .before .before .before))
+first-stray-requires c κs = width-of-words _ (one-of-four (c .before .before .before))
 
 returns-5 : tie.Need-returns-5
 unfolding WritesBlock FillsBuffer

@@ -351,7 +351,7 @@ same-meaning n n' w w' i q = by (takum n w) q
     by (real z) q = meaning-exact n' w' z i q
     by NaR q = (i, q)
 
-meaning-kept : (n n' : ℕ) (rule : Rule) (w w' : ℕ) (r : Written) → IsWord n w → IsWord n' w' → takum n' w' ≡ takum n w → MovesAndSays n n' rule w r → r ≡ Written.Word w' Exact
+pub meaning-kept : (n n' : ℕ) (rule : Rule) (w w' : ℕ) (r : Written) → IsWord n w → IsWord n' w' → takum n' w' ≡ takum n w → MovesAndSays n n' rule w r → r ≡ Written.Word w' Exact
 unfolding IsFit Gives
 meaning-kept n n' rule w w' r i i' q x = meaning-said n' (i' .least) (i' .most) rule (meant (word n w)) w' r (is-fraction (word n w)) (same-meaning n n' w w' i' q) (writes-meant n' (i' .least) (i' .most) rule (word n w) r i x)
 
@@ -360,7 +360,7 @@ unfolding promise.AWiderMoveIsExact
 a-wider-move-is-exact n more rule w r room i x = meaning-kept n (n + more) rule w (w * 2 ^ more) r i (record { least = omega (arith, i .least); most = room; fits = shl-below n more (n + more) (i .fits) refl }) (zeros-appended n more w (i .least) room (i .fits)) x
 
 -- a word that is given by a move is one, and so is the word that is moved
-moved-words : (n n' : ℕ) (rule : Rule) (w w' : ℕ) → Moves n n' rule w (Answer.Word w') → IsWord n w × IsWord n' w'
+pub moved-words : (n n' : ℕ) (rule : Rule) (w w' : ℕ) → Moves n n' rule w (Answer.Word w') → IsWord n w × IsWord n' w'
 unfolding Moves IsMoved GivesAWord wordOf TheNaRWord
 moved-words n n' rule w w' (refused h q) = absurd (subst GivesAWord q tt)
 moved-words n n' rule w w' (through h x) =

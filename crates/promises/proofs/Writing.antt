@@ -196,8 +196,11 @@ zero-moved n lo hi rule r t v q m x =
     subst (IsWritten n rule (v .negative) (numerator v) (denominator v)) (sym same) (zero-written n lo hi rule (v .negative) (numerator v) (denominator v) (no-numerator v m))
 
 -- where the source is a word, only the target's width can be refused
+pub target-tested : (n n' w : ℕ) → IsWord n w → widthTest n then widthTest n' then strayTest n w ≡ widthTest n' then Verdict.Through
+target-tested n n' w i = ap₂ (λ (u v : Verdict). u then widthTest n' then v) (width-fits n (i .least) (i .most)) (stray-fits n w (i .fits))
+
 only-target : (n n' w : ℕ) {q : Refusal} → IsWord n w → widthTest n then widthTest n' then strayTest n w ≡ Verdict.Refused q → widthTest n' ≡ Verdict.Refused q
-only-target n n' w {q} i h = by (widthTest n') (sym (ap₂ (λ (u v : Verdict). u then widthTest n' then v) (width-fits n (i .least) (i .most)) (stray-fits n w (i .fits))) ∙ h)
+only-target n n' w {q} i h = by (widthTest n') (sym (target-tested n n' w i) ∙ h)
   where
     by : (u : Verdict) → (u then Verdict.Through) ≡ Verdict.Refused q → u ≡ Verdict.Refused q
     by Verdict.Through h = h

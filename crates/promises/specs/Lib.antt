@@ -24,6 +24,8 @@ pub mod Shortest
 pub mod Nearest
 -- which way it went
 pub mod Sayings
+-- laws of moving
+pub mod Moving
 -- columns and blocks
 pub mod Slices
 -- written blocks

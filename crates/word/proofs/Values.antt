@@ -187,16 +187,20 @@ less-negated (pos a) (negsuc j) = negative-positive a (suc j) ∙ lt-ltb 0 (a + 
 less-negated (negsuc i) (pos b) = positive-negative (suc i) b
 less-negated (negsuc i) (negsuc j) = sym (negative-lt (suc j) (suc i))
 
-pub order-negated : (u v : ℤ) → order (negℤ u) (negℤ v) ≡ negℤ (order u v)
+-- so are two numbers that are exchanged
+pub order-exchanged : (u v : ℤ) → order v u ≡ negℤ (order u v)
 unfolding order
-order-negated u v =
-    ap₂ (λ (x y : Bool). cond x (negsuc 0) (cond y (pos 1) (pos 0))) (less-negated u v) (less-negated v u) ∙ by (ltZ u v) (ltZ v u) (one-way u v)
+order-exchanged u v = by (ltZ u v) (ltZ v u) (one-way u v)
   where
     by : (x y : Bool) → (x ≡ true → y ≡ false) → cond y (negsuc 0) (cond x (pos 1) (pos 0)) ≡ negℤ (cond x (negsuc 0) (cond y (pos 1) (pos 0)))
     by true true f = absurd (true≢false (f refl))
     by true false f = refl
     by false true f = refl
     by false false f = refl
+
+pub order-negated : (u v : ℤ) → order (negℤ u) (negℤ v) ≡ negℤ (order u v)
+unfolding order
+order-negated u v = ap₂ (λ (x y : Bool). cond x (negsuc 0) (cond y (pos 1) (pos 0))) (less-negated u v) (less-negated v u) ∙ order-exchanged u v
 
 signed-inj : (n x y : ℕ) → IsWord n x → IsWord n y → signed n x ≡ signed n y → x ≡ y
 signed-inj n x y ix iy h = by (decLt x (2 ^ (n - 1))) (decLt y (2 ^ (n - 1)))

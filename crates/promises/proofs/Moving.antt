@@ -1,0 +1,206 @@
+-- The laws of moving that specs/Moving.antt states: a move hangs on what the word means, keeps order and sign, and a wider one keeps the meaning.
+-- Assumes nothing.
+use mathlib.Core.Path.{_≡_, refl, sym, ap, ap₂, _∙_, subst, subst₂}
+use mathlib.Core.Logic.{_⊎_, inl, inr, ⊎-elim}
+use mathlib.Core.Bool.{Bool, true, false, cond}
+use Prim.Native.Nat.{ℕ, _+_, _-_, _*_, _^_, _≤_, _<_}
+use native.Mathlib.Nat.{mul-one, zero-lt-suc, le-refl}
+use native.Mathlib.Omega.{arith}
+use lib.IntN.{ℤ, pos, negsuc, negℤ, natAbs, pos-ne-negsuc}
+use lib.Signed.{ltZ}
+use Rattle.bounds.specs.declared.answer.Answer.{Answer}
+use Rattle.bounds.specs.declared.answer.Written.{Written}
+use Rattle.bounds.specs.declared.refusal.Refusal.{Refusal}
+use Rattle.bounds.specs.declared.refusal.Verdict.{Verdict}
+use Rattle.bounds.specs.declared.saying.Saying.{Saying}
+use Rattle.bounds.specs.declared.saying.Saying.the-variants.{Exact}
+use Rattle.bounds.specs.Refusals.{widthTest, strayTest, _then_, IsWord, through, refused}
+use Rattle.bounds.specs.Sayings.{oppositeSaying, plain}
+use Rattle.bounds.specs.Widths.{narWord}
+use Rattle.bounds.proofs.Answers.{wordOf, GivesAWord}
+use Rattle.bounds.proofs.Verdicts.{width-fits, width-through, stray-fits, words-through, word-passes, move-passes, move-through, answered}
+use Rattle.word.specs.Takum.{Takum, real, NaR, takum}
+use Rattle.word.specs.Reads.{signedSize}
+use Rattle.word.specs.Orders.{signed, order, negated}
+use Rattle.word.proofs.Words.{takum-NaR}
+use Rattle.word.proofs.Values.{NaR-word, NaR-below, above-NaR, order-same, order-exchanged, order-of-values}
+use Rattle.order.specs.declared.order.Comparison.{Comparison}
+use Rattle.order.specs.Orders.{Compares, Negates}
+use Rattle.round.specs.declared.value.Rule.{Rule}
+use Rattle.round.specs.Writes.{IsWritten}
+use Rattle.round.proofs.Order.{NotGreater, rounding-keeps-order}
+use Rattle.write.specs.Writes.{isNegative, IsMoved, Moves}
+use Rattle.write.specs.Sayings.{SaysMoved, MovesAndSays}
+use Rattle.write.proofs.Moves.{rejoined, moved-to-the-same, rounded-moves}
+use Rattle.write.proofs.OneOutcome.{moves-one, moves-and-says-one}
+use Rattle.promises.specs.Sayings as sayings
+use Rattle.promises.specs.Sayings.{IsFit, Gives, word, opposite}
+use Rattle.promises.specs.Writing.{WiderNeverChangesNorRefuses}
+use Rattle.promises.specs.Moving as promise
+use Rattle.promises.specs.Moving.{AndThen, GoesOutAndBack, OutAndBack, GoesNegated, MovesNegated, GoesCompared, ComparesMoved, IsNotReversed, GoesBy}
+use Rattle.promises.proofs.Sayings.{meaning-kept, moved-words, a-move-is-exact-where-the-meaning-stays, negating-exchanges-below-and-above}
+use Rattle.promises.proofs.WordRefusals.{word-none}
+use Rattle.promises.proofs.Writing.{target-tested, wider-never-changes-nor-refuses}
+
+-- ---- wider
+-- at a width that is at least as wide there is a word with the same meaning, and the move gives it
+record Widened (n n' w : ℕ) (r : Answer) : Type 0 where
+  w' : ℕ
+  is : r ≡ Answer.Word w'
+  word : IsWord n' w'
+  same : takum n' w' ≡ takum n w
+
+widened : (n n' w : ℕ) (rule : Rule) (r : Answer) → n ≤ n' → n' ≤ 64 → IsWord n w → Moves n n' rule w r → Widened n n' w r
+unfolding WiderNeverChangesNorRefuses
+widened n n' w rule r wide top i = by n' (omega (arith, wide)) top
+  where
+    more : ℕ
+    more = n' - n
+
+    by : (n' : ℕ) → n + more ≡ n' → n' ≤ 64 → Moves n n' rule w r → Widened n n' w r
+    by n' e top x = subst (λ (m : ℕ). m ≤ 64 → Moves n m rule w r → Widened n m w r) e at-sum top x
+      where
+        at-sum : n + more ≤ 64 → Moves n (n + more) rule w r → Widened n (n + more) w r
+        at-sum room x =
+            let t = wider-never-changes-nor-refuses n more w rule r room i x in
+            record { w' = w * 2 ^ more; is = t .0; word = moved-words n (n + more) rule w (w * 2 ^ more) (subst (Moves n (n + more) rule w) (t .0) x) .1; same = t .1 }
+
+-- ---- out and back
+pub out-and-back-is-the-first-move : promise.OutAndBackIsTheFirstMove
+unfolding promise.OutAndBackIsTheFirstMove GoesOutAndBack AndThen wordOf widened
+out-and-back-is-the-first-move a b c w r wide top (inr (q, m, e)) = subst (Moves a b Rule.Rounded w) (sym e) m
+out-and-back-is-the-first-move a b c w r wide top (inl (u, m, inr (q, m', e))) =
+    let t = widened b c u Rule.Rounded (Answer.Refused q) wide top (moved-words a b Rule.Rounded w u m .1) m' in
+    absurd (word-none (t .w') (Answer.Refused q) (t .is) q refl)
+out-and-back-is-the-first-move a b c w r wide top (inl (u, m, inl (v, m', back))) =
+    let i = moved-words a b Rule.Rounded w u m .1 in
+    let t = widened b c u Rule.Rounded (Answer.Word v) wide top i m' in
+    let same = ap wordOf (t .is) in
+    subst (Moves a b Rule.Rounded w) (sym (moved-to-the-same c b v u Rule.Rounded r (subst (IsWord c) (sym same) (t .word)) i (sym (ap (takum c) same ∙ t .same)) back)) m
+
+pub goes-out-and-back : (a b c w : ℕ) (r : Answer) → GoesOutAndBack a b c w r → OutAndBack a b c w r
+unfolding promise.OutAndBackIsTheFirstMove
+goes-out-and-back a b c w r x = record { goes = x; first = λ wide top. out-and-back-is-the-first-move a b c w r wide top x }
+
+-- ---- negation
+pub the-negation-moves-to-the-negation : promise.TheNegationMovesToTheNegation
+unfolding promise.TheNegationMovesToTheNegation GoesNegated AndThen Negates sayings.NegatingExchangesBelowAndAbove IsFit Gives opposite MovesAndSays wordOf
+the-negation-moves-to-the-negation a b w u s r x (inr (q, n, e)) =
+    absurd (word-none (negated a w) (Answer.Refused q) (answered (word-passes a w (moved-words a b Rule.Rounded w u (x .answers) .0)) n) q refl)
+the-negation-moves-to-the-negation a b w u s r x (inl (o, n, y)) =
+    let t = moved-words a b Rule.Rounded w u (x .answers) in
+    let same = ap wordOf (answered (word-passes a w (t .0)) n) in
+    negating-exchanges-below-and-above b (word a w) u s r (t .0) (t .1 .least) (t .1 .most) x (subst (λ (o : ℕ). MovesAndSays a b Rule.Rounded o r) same y)
+
+pub goes-negated : (a b w : ℕ) (r : Written) → GoesNegated a b w r → MovesNegated a b w r
+unfolding promise.TheNegationMovesToTheNegation
+goes-negated a b w r x = record { goes = x; negates = λ u s y. the-negation-moves-to-the-negation a b w u s r y x }
+
+-- ---- order
+-- what a rounded move gives, of what the word means
+moved-meaning : (a b x u : ℕ) → Moves a b Rule.Rounded x (Answer.Word u) → IsMoved b Rule.Rounded (takum a x) (Answer.Word u)
+unfolding Moves
+moved-meaning a b x u m = let t = moved-words a b Rule.Rounded x u m in answered (move-passes a b x (t .0) (t .1 .least) (t .1 .most)) m
+
+-- NaR is greater than no word
+NaR-least : (n x y : ℕ) → IsWord n x → IsWord n y → takum n x ≡ NaR → NotGreater (signed n x) (signed n y)
+unfolding narWord
+NaR-least n x y i j q = by (takum n y) refl
+  where
+    by : (t : Takum) → takum n y ≡ t → NotGreater (signed n x) (signed n y)
+    by (real z) e h = pos-ne-negsuc 1 0 (sym h ∙ NaR-below n x y i j z q e)
+    by NaR e h = omega (arith, ap natAbs (sym h ∙ ap (λ (v : ℕ). order (signed n x) (signed n v)) (NaR-word n y j e ∙ sym (NaR-word n x i q)) ∙ order-same (signed n x)))
+
+-- a word that isn't greater is moved to a word that isn't greater
+still-not-greater : (a b x y u v : ℕ) → Moves a b Rule.Rounded x (Answer.Word u) → Moves a b Rule.Rounded y (Answer.Word v) → NotGreater (signed a x) (signed a y) → NotGreater (signed b u) (signed b v)
+unfolding IsMoved IsWritten narWord wordOf
+still-not-greater a b x y u v m m' h = by (takum a x) refl (takum a y) refl (moved-meaning a b x u m) (moved-meaning a b y v m')
+  where
+    from-x : IsWord a x × IsWord b u
+    from-x = moved-words a b Rule.Rounded x u m
+
+    from-y : IsWord a y × IsWord b v
+    from-y = moved-words a b Rule.Rounded y v m'
+
+    by : (s : Takum) → takum a x ≡ s → (t : Takum) → takum a y ≡ t → IsMoved b Rule.Rounded s (Answer.Word u) → IsMoved b Rule.Rounded t (Answer.Word v) → NotGreater (signed b u) (signed b v)
+    by (real z) p (real z') q k l =
+        rounding-keeps-order b (from-x .1 .least) (from-x .1 .most) (isNegative z) (isNegative z') (natAbs z) 1 (natAbs z') 1 u v (zero-lt-suc 0) (zero-lt-suc 0) k l
+        (λ e. h (order-of-values a x y (from-x .0) (from-y .0) z z' p q ∙ sym (ap₂ order (whole z) (whole z')) ∙ e))
+      where
+        whole : (z : ℤ) → signedSize (isNegative z) (natAbs z * 1) ≡ z
+        whole z = ap (signedSize (isNegative z)) (mul-one (natAbs z)) ∙ rejoined z
+    by (real z) p NaR q k l = absurd (h (above-NaR a x y (from-x .0) (from-y .0) z p q))
+    by NaR p t q k l = NaR-least b u v (from-x .1) (from-y .1) (takum-NaR b u (from-x .1 .least) (from-x .1 .most) (ap wordOf k))
+
+-- the three orders
+one-of-three : (x y : ℤ) → (order x y ≡ negsuc 0) ⊎ ((order x y ≡ pos 0) ⊎ (order x y ≡ pos 1))
+unfolding order
+one-of-three x y = by (ltZ x y) (ltZ y x)
+  where
+    by : (c d : Bool) → (cond c (negsuc 0) (cond d (pos 1) (pos 0)) ≡ negsuc 0) ⊎ ((cond c (negsuc 0) (cond d (pos 1) (pos 0)) ≡ pos 0) ⊎ (cond c (negsuc 0) (cond d (pos 1) (pos 0)) ≡ pos 1))
+    by true d = inl refl
+    by false true = inr (inr refl)
+    by false false = inr (inl refl)
+
+-- what is greater afterwards was greater before
+was-greater : (x y u v : ℤ) → (NotGreater x y → NotGreater u v) → order u v ≡ pos 1 → order x y ≡ pos 1
+was-greater x y u v keeps h =
+    ⊎-elim (λ e. absurd (keeps (λ g. pos-ne-negsuc 1 0 (sym g ∙ e)) h)) (⊎-elim (λ e. absurd (keeps (λ g. omega (arith, ap natAbs (sym g ∙ e))) h)) (λ e. e)) (one-of-three x y)
+
+-- and what is less was less, since it is the greater of the two exchanged
+not-reversed : (x y u v : ℤ) → (NotGreater x y → NotGreater u v) → (NotGreater y x → NotGreater v u) → IsNotReversed (order x y) (order u v)
+unfolding IsNotReversed
+not-reversed x y u v keeps keeps' =
+    ⊎-elim (λ e. inl (e ∙ sym (order-exchanged y x ∙ ap negℤ (was-greater y x v u keeps' (order-exchanged u v ∙ ap negℤ e))))) (⊎-elim inr (λ e. inl (e ∙ sym (was-greater x y u v keeps e)))) (one-of-three u v)
+
+-- the order that is answered
+answered-order : (n x y : ℕ) (i : ℤ) → Compares n x y (Comparison.Is i) → IsWord n x × IsWord n y × (order (signed n x) (signed n y) ≡ i)
+unfolding Compares
+answered-order n x y i (through h e) = let t = words-through n x y h in (t .0, t .1, cc)
+answered-order n x y i (refused h e) = let z : _≡_ {A = ℕ} 0 1 = cc in absurd (omega arith)
+
+pub moving-never-reverses-the-order : promise.MovingNeverReversesTheOrder
+unfolding promise.MovingNeverReversesTheOrder GoesCompared AndThen
+moving-never-reverses-the-order a b x y before after p (inr (q, m, e)) = let z : _≡_ {A = ℕ} 0 1 = cc in absurd (omega arith)
+moving-never-reverses-the-order a b x y before after p (inl (u, m, inr (q, m', e))) = let z : _≡_ {A = ℕ} 0 1 = cc in absurd (omega arith)
+moving-never-reverses-the-order a b x y before after p (inl (u, m, inl (v, m', q))) =
+    subst₂ IsNotReversed (answered-order a x y before p .2) (answered-order b u v after q .2)
+    (not-reversed (signed a x) (signed a y) (signed b u) (signed b v) (still-not-greater a b x y u v m m') (still-not-greater a b y x v u m' m))
+
+pub goes-compared : (a b x y : ℕ) (r : Comparison) → GoesCompared a b x y r → ComparesMoved a b x y r
+unfolding promise.MovingNeverReversesTheOrder
+goes-compared a b x y r g = record { goes = g; not-reversed = λ before after p e. moving-never-reverses-the-order a b x y before after p (subst (GoesCompared a b x y) e g) }
+
+-- ---- a middle width
+-- words of one meaning are moved alike
+moved-alike : (a b c w u : ℕ) (r r' : Written) → IsWord a w → IsWord b u → takum b u ≡ takum a w → MovesAndSays b c Rule.Rounded u r → MovesAndSays a c Rule.Rounded w r' → r ≡ r'
+unfolding MovesAndSays Moves
+moved-alike a b c w u r r' i j same x y = moves-and-says-one a c Rule.Rounded w r r' (record { answers = by (x .answers); says = λ v s e. subst (λ (t : Takum). SaysMoved c t v s) same (x .says v s e) }) y
+  where
+    by : Moves b c Rule.Rounded u (plain r) → Moves a c Rule.Rounded w (plain r)
+    by (through h z) = let t = width-through c (move-through b c u h .1) in through (move-passes a c w i (t .0) (t .1)) (subst (λ (t : Takum). IsMoved c Rule.Rounded t (plain r)) same z)
+    by (refused h e) = refused (target-tested a c w i ∙ sym (target-tested b c u j) ∙ h) e
+
+-- by way of b, where the word there means what the word means
+by-the-same : (a b c w u : ℕ) (r r' : Written) → Moves a b Rule.Rounded w (Answer.Word u) → takum b u ≡ takum a w → GoesBy a b c w r → MovesAndSays a c Rule.Rounded w r' → r ≡ r'
+unfolding GoesBy AndThen wordOf
+by-the-same a b c w u r r' m same (inr (q, m', e)) x = absurd (word-none u (Answer.Refused q) (moves-one a b Rule.Rounded w (Answer.Refused q) (Answer.Word u) m' m) q refl)
+by-the-same a b c w u r r' m same (inl (v, m', y)) x =
+    let one = ap wordOf (moves-one a b Rule.Rounded w (Answer.Word v) (Answer.Word u) m' m) in
+    let i = moved-words a b Rule.Rounded w u m in
+    moved-alike a b c w u r r' (i .0) (i .1) same (subst (λ (v : ℕ). MovesAndSays b c Rule.Rounded v r) one y) x
+
+pub an-exact-middle-changes-nothing : promise.AnExactMiddleChangesNothing
+unfolding promise.AnExactMiddleChangesNothing sayings.AMoveIsExactWhereTheMeaningStays MovesAndSays
+an-exact-middle-changes-nothing a b c w u r r' x = by-the-same a b c w u r r' (x .answers) (a-move-is-exact-where-the-meaning-stays a b Rule.Rounded w u Exact x .0 refl)
+
+pub a-middle-as-wide-changes-nothing : promise.AMiddleAsWideChangesNothing
+unfolding promise.AMiddleAsWideChangesNothing GoesBy AndThen
+a-middle-as-wide-changes-nothing a b c w r r' i wide top g x =
+    let m = rounded-moves a b w i (omega (arith, i .least, wide)) top in
+    let t = widened a b w Rule.Rounded (Answer.Word (m .0)) wide top i (m .1) in
+    by-the-same a b c w (t .w') r r' (subst (Moves a b Rule.Rounded w) (t .is) (m .1)) (t .same) g x
+
+pub a-move-to-the-same-width-is-the-word : promise.AMoveToTheSameWidthIsTheWord
+unfolding promise.AMoveToTheSameWidthIsTheWord
+a-move-to-the-same-width-is-the-word a w r i x = meaning-kept a a Rule.Rounded w w r i i refl x

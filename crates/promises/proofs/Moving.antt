@@ -37,7 +37,7 @@ use Rattle.promises.specs.Sayings as sayings
 use Rattle.promises.specs.Sayings.{IsFit, Gives, word, opposite}
 use Rattle.promises.specs.Writing.{WiderNeverChangesNorRefuses}
 use Rattle.promises.specs.Moving as promise
-use Rattle.promises.specs.Moving.{AndThen, GoesOutAndBack, OutAndBack, GoesNegated, MovesNegated, GoesCompared, ComparesMoved, IsNotReversed, GoesBy}
+use Rattle.promises.specs.Moving.{goes-on, stops, GoesOutAndBack, OutAndBack, GoesNegated, MovesNegated, GoesCompared, ComparesMoved, IsNotReversed, GoesBy}
 use Rattle.promises.proofs.Sayings.{meaning-kept, moved-words, a-move-is-exact-where-the-meaning-stays, negating-exchanges-below-and-above}
 use Rattle.promises.proofs.WordRefusals.{word-none}
 use Rattle.promises.proofs.Writing.{target-tested, wider-never-changes-nor-refuses}
@@ -67,12 +67,12 @@ widened n n' w rule r wide top i = by n' (omega (arith, wide)) top
 
 -- ---- out and back
 pub out-and-back-is-the-first-move : promise.OutAndBackIsTheFirstMove
-unfolding promise.OutAndBackIsTheFirstMove GoesOutAndBack AndThen wordOf widened
-out-and-back-is-the-first-move a b c w r wide top (inr (q, m, e)) = subst (Moves a b Rule.Rounded w) (sym e) m
-out-and-back-is-the-first-move a b c w r wide top (inl (u, m, inr (q, m', e))) =
+unfolding promise.OutAndBackIsTheFirstMove GoesOutAndBack wordOf widened
+out-and-back-is-the-first-move a b c w r wide top (stops q m e) = subst (Moves a b Rule.Rounded w) (sym e) m
+out-and-back-is-the-first-move a b c w r wide top (goes-on u m (stops q m' e)) =
     let t = widened b c u Rule.Rounded (Answer.Refused q) wide top (moved-words a b Rule.Rounded w u m .1) m' in
     absurd (word-none (t .w') (Answer.Refused q) (t .is) q refl)
-out-and-back-is-the-first-move a b c w r wide top (inl (u, m, inl (v, m', back))) =
+out-and-back-is-the-first-move a b c w r wide top (goes-on u m (goes-on v m' back)) =
     let i = moved-words a b Rule.Rounded w u m .1 in
     let t = widened b c u Rule.Rounded (Answer.Word v) wide top i m' in
     let same = ap wordOf (t .is) in
@@ -84,10 +84,10 @@ goes-out-and-back a b c w r x = record { goes = x; first = λ wide top. out-and-
 
 -- ---- negation
 pub the-negation-moves-to-the-negation : promise.TheNegationMovesToTheNegation
-unfolding promise.TheNegationMovesToTheNegation GoesNegated AndThen Negates sayings.NegatingExchangesBelowAndAbove IsFit Gives opposite MovesAndSays wordOf
-the-negation-moves-to-the-negation a b w u s r x (inr (q, n, e)) =
+unfolding promise.TheNegationMovesToTheNegation GoesNegated Negates sayings.NegatingExchangesBelowAndAbove IsFit Gives opposite MovesAndSays wordOf
+the-negation-moves-to-the-negation a b w u s r x (stops q n e) =
     absurd (word-none (negated a w) (Answer.Refused q) (answered (word-passes a w (moved-words a b Rule.Rounded w u (x .answers) .0)) n) q refl)
-the-negation-moves-to-the-negation a b w u s r x (inl (o, n, y)) =
+the-negation-moves-to-the-negation a b w u s r x (goes-on o n y) =
     let t = moved-words a b Rule.Rounded w u (x .answers) in
     let same = ap wordOf (answered (word-passes a w (t .0)) n) in
     negating-exchanges-below-and-above b (word a w) u s r (t .0) (t .1 .least) (t .1 .most) x (subst (λ (o : ℕ). MovesAndSays a b Rule.Rounded o r) same y)
@@ -160,10 +160,10 @@ answered-order n x y i (through h e) = let t = words-through n x y h in (t .0, t
 answered-order n x y i (refused h e) = let z : _≡_ {A = ℕ} 0 1 = cc in absurd (omega arith)
 
 pub moving-never-reverses-the-order : promise.MovingNeverReversesTheOrder
-unfolding promise.MovingNeverReversesTheOrder GoesCompared AndThen
-moving-never-reverses-the-order a b x y before after p (inr (q, m, e)) = let z : _≡_ {A = ℕ} 0 1 = cc in absurd (omega arith)
-moving-never-reverses-the-order a b x y before after p (inl (u, m, inr (q, m', e))) = let z : _≡_ {A = ℕ} 0 1 = cc in absurd (omega arith)
-moving-never-reverses-the-order a b x y before after p (inl (u, m, inl (v, m', q))) =
+unfolding promise.MovingNeverReversesTheOrder GoesCompared
+moving-never-reverses-the-order a b x y before after p (stops q m e) = let z : _≡_ {A = ℕ} 0 1 = cc in absurd (omega arith)
+moving-never-reverses-the-order a b x y before after p (goes-on u m (stops q m' e)) = let z : _≡_ {A = ℕ} 0 1 = cc in absurd (omega arith)
+moving-never-reverses-the-order a b x y before after p (goes-on u m (goes-on v m' q)) =
     subst₂ IsNotReversed (answered-order a x y before p .2) (answered-order b u v after q .2)
     (not-reversed (signed a x) (signed a y) (signed b u) (signed b v) (still-not-greater a b x y u v m m') (still-not-greater a b y x v u m' m))
 
@@ -183,9 +183,9 @@ moved-alike a b c w u r r' i j same x y = moves-and-says-one a c Rule.Rounded w 
 
 -- by way of b, where the word there means what the word means
 by-the-same : (a b c w u : ℕ) (r r' : Written) → Moves a b Rule.Rounded w (Answer.Word u) → takum b u ≡ takum a w → GoesBy a b c w r → MovesAndSays a c Rule.Rounded w r' → r ≡ r'
-unfolding GoesBy AndThen wordOf
-by-the-same a b c w u r r' m same (inr (q, m', e)) x = absurd (word-none u (Answer.Refused q) (moves-one a b Rule.Rounded w (Answer.Refused q) (Answer.Word u) m' m) q refl)
-by-the-same a b c w u r r' m same (inl (v, m', y)) x =
+unfolding GoesBy wordOf
+by-the-same a b c w u r r' m same (stops q m' e) x = absurd (word-none u (Answer.Refused q) (moves-one a b Rule.Rounded w (Answer.Refused q) (Answer.Word u) m' m) q refl)
+by-the-same a b c w u r r' m same (goes-on v m' y) x =
     let one = ap wordOf (moves-one a b Rule.Rounded w (Answer.Word v) (Answer.Word u) m' m) in
     let i = moved-words a b Rule.Rounded w u m in
     moved-alike a b c w u r r' (i .0) (i .1) same (subst (λ (v : ℕ). MovesAndSays b c Rule.Rounded v r) one y) x
@@ -195,7 +195,7 @@ unfolding promise.AnExactMiddleChangesNothing sayings.AMoveIsExactWhereTheMeanin
 an-exact-middle-changes-nothing a b c w u r r' x = by-the-same a b c w u r r' (x .answers) (a-move-is-exact-where-the-meaning-stays a b Rule.Rounded w u Exact x .0 refl)
 
 pub a-middle-as-wide-changes-nothing : promise.AMiddleAsWideChangesNothing
-unfolding promise.AMiddleAsWideChangesNothing GoesBy AndThen
+unfolding promise.AMiddleAsWideChangesNothing GoesBy
 a-middle-as-wide-changes-nothing a b c w r r' i wide top g x =
     let m = rounded-moves a b w i (omega (arith, i .least, wide)) top in
     let t = widened a b w Rule.Rounded (Answer.Word (m .0)) wide top i (m .1) in

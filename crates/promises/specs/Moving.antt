@@ -18,8 +18,9 @@ use Rattle.write.specs.Writes.{Moves}
 use Rattle.write.specs.Sayings.{MovesAndSays}
 
 -- One call after another: the word that the first answers goes on to the next. Where the first is refused, that is the answer.
-unfoldable pub AndThen : {A : Type 0} → (Refusal → A) → (Answer → Type 0) → (ℕ → A → Type 0) → A → Type 0
-AndThen refused First Next r = ((w : ℕ) × First (Answer.Word w) × Next w r) ⊎ ((q : Refusal) × First (Answer.Refused q) × (r ≡ refused q))
+pub data AndThen {A : Type 0} (refused : Refusal → A) (First : Answer → Type 0) (Next : ℕ → A → Type 0) (r : A) : Type 0 where
+  goes-on : (w : ℕ) → First (Answer.Word w) → Next w r → AndThen refused First Next r
+  stops : (q : Refusal) → First (Answer.Refused q) → r ≡ refused q → AndThen refused First Next r
 
 -- ---- out and back
 -- the word w goes from a to b, then to c, then back to b

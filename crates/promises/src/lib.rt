@@ -1,4 +1,6 @@
-// Two promises as functions over the public calls: a word negated twice, and a chain of strict moves that comes home.
+// Two promises as functions over the public calls: a word negated twice, and a chain of strict moves that comes home. The laws of moving are in laws.rt.
+pub mod laws;
+
 use bounds::answer::Answer;
 use bounds::answer::Written;
 use bounds::width::Width;

@@ -26,7 +26,7 @@ use Rattle.round.specs.Writes.{other, IsWritten}
 use Rattle.write.specs.Writes.{isNegative, Writes}
 use Rattle.write.specs.Sayings.{WritesAndSays}
 use Rattle.round.proofs.Rounding.{none-between}
-use Rattle.write.proofs.OneOutcome.{writes-one, writes-and-says-one}
+use Rattle.write.proofs.OneOutcome.{writes-one, writes-and-says-one, moves-and-says-one}
 use Rattle.whole.specs.declared.taking.Taking.{Taking}
 use Rattle.whole.specs.declared.taking.Whole.{Whole}
 use Rattle.whole.specs.Parts.{NearestSize, byRule}
@@ -38,13 +38,13 @@ use Rattle.whole.proofs.NearestWholes.{nearest-whole}
 use Rattle.whole.proofs.Refused.{meaning-taken}
 use Rattle.whole.proofs.OneOutcome.{taken-one, writes-whole-and-says-one}
 use Rattle.sheet.specs.declared.writing.Writing.{Writing}
-use Rattle.promises.specs.Figures.{Said, plus, minus, nar, IsSaid, Figure, reads, hasOwn, writes, refuses, writesWhole, refusesWhole, takes, says, saysWhole, needs, needsMore, refusesBlocks, whole, positive, negative, below, figures, FigureHolds, AllHold}
+use Rattle.promises.specs.Figures.{Said, plus, minus, nar, IsSaid, Figure, reads, hasOwn, writes, refuses, writesWhole, refusesWhole, takes, says, saysWhole, needs, needsMore, refusesBlocks, moves, whole, positive, negative, below, figures, FigureHolds, AllHold}
 use Rattle.promises.specs.Demands.{RefusedAs, ReadingIsTheDefinition}
 use Rattle.promises.specs.Writing.{numerator, denominator}
 use Rattle.promises.specs.Shortest.{bits, ZeroNeeds2}
 use Rattle.promises.proofs.OldBlocks.{is-retired}
 use Rattle.promises.proofs.Tests.{size-of, same, same-is, either, is-word, word-is, has, has-is}
-use Rattle.promises.proofs.Settled.{size-at, is-positive, past-half, before-half, is-rounded, went, size-settled, settled, positive-is, size-has, rounded-is, answered-so}
+use Rattle.promises.proofs.Settled.{size-at, is-positive, past-half, before-half, is-rounded, went, size-settled, settled, meaning-settled, move-settled, positive-is, size-has, rounded-is, answered-so, moved-so}
 use Rattle.promises.proofs.Demands.{reading-is-the-definition}
 use Rattle.promises.proofs.Shortest.{lengthOf, is-width, is-refused, by-counting, zero-needs-2}
 
@@ -122,6 +122,7 @@ passes (saysWhole n x w s) = settled n (isNegative x) (scaled (natAbs x)) 1 w s
 passes (needs x n) = needed x n
 passes (needsMore x number) = needed-more x number
 passes (refusesBlocks n number) = eqb n 8 && eqb number 13
+passes (moves n w n' w' s) = move-settled n w n' w' s
 
 all-pass : List Figure → Bool
 all-pass [] = true
@@ -239,6 +240,7 @@ holds (needsMore x number) ok = needed-more-holds x number ok
 holds (refusesBlocks n number) ok = λ words buffer a x.
     let y = both (eqb n 8) (eqb number 13) ok in
     subst (λ (k : ℕ). RefusedAs Writing Writing.Refused k a) (sym (eqb→eq number 13 (y .1))) (is-retired n words buffer a (eqb→eq n 8 (y .0)) x)
+holds (moves n w n' w' s) ok = λ a x. moves-and-says-one n n' Rule.Rounded w a (Written.Word w' s) x (moved-so n w n' w' s ok)
 
 all-hold : (fs : List Figure) → T (all-pass fs) → AllHold fs
 unfolding all-pass AllHold
@@ -246,5 +248,5 @@ all-hold [] t = tt
 all-hold (f ∷ fs) t = let x = both (passes f) (all-pass fs) t in (holds f (x .0), all-hold fs (x .1))
 
 pub figures-hold : AllHold figures
-unfolding figures below said num den signedSize power same is-word passes all-pass regimeOf characteristicOf S D R r p C F c e value meaning N padded takum orZero ownFractionBits has low-word last-below size-of scaled given not-given half-off sign-of taken isNegative positive negative numerator denominator negated size-at is-positive past-half before-half is-rounded went size-settled settled within needed needed-more lengthOf leadingZeros trailingZeros
+unfolding figures below said num den signedSize power same is-word passes all-pass regimeOf characteristicOf S D R r p C F c e value meaning N padded takum orZero ownFractionBits has low-word last-below size-of scaled given not-given half-off sign-of taken isNegative positive negative numerator denominator negated size-at is-positive past-half before-half is-rounded went size-settled settled meaning-settled move-settled within needed needed-more lengthOf leadingZeros trailingZeros
 figures-hold = all-hold figures tt

@@ -51,10 +51,10 @@ pub mod OldLines
 pub mod Jammed
 -- which way it went: each law once, of whatever is written
 pub mod Sayings
--- laws of moving
-pub mod Moving
 -- a word that is nearer than those beside it is the nearest, and its size tells which way it went
 pub mod Settled
+-- laws of moving
+pub mod Moving
 -- the P figures, by one test that is computed over the whole table
 pub mod Figures
 -- ---- the letter

@@ -2,10 +2,11 @@
 -- Assumes nothing.
 use mathlib.Core.Path.{_≡_, refl, sym, ap, ap₂, _∙_, subst, subst₂}
 use mathlib.Core.Logic.{_⊎_, inl, inr, ⊎-elim}
-use mathlib.Core.Bool.{Bool, true, false, cond}
+use mathlib.Core.Bool.{Bool, true, false, _&&_, cond}
 use Prim.Native.Nat.{ℕ, _+_, _-_, _*_, _^_, _≤_, _<_}
 use native.Mathlib.Nat.{mul-one, zero-lt-suc, le-refl}
 use native.Mathlib.Omega.{arith}
+use lib.Dec.{T}
 use lib.IntN.{ℤ, pos, negsuc, negℤ, natAbs, pos-ne-negsuc}
 use lib.Signed.{ltZ}
 use Rattle.bounds.specs.declared.answer.Answer.{Answer}
@@ -13,15 +14,16 @@ use Rattle.bounds.specs.declared.answer.Written.{Written}
 use Rattle.bounds.specs.declared.refusal.Refusal.{Refusal}
 use Rattle.bounds.specs.declared.refusal.Verdict.{Verdict}
 use Rattle.bounds.specs.declared.saying.Saying.{Saying}
-use Rattle.bounds.specs.declared.saying.Saying.the-variants.{Exact}
+use Rattle.bounds.specs.declared.saying.Saying.the-variants.{Exact, Below, Above}
 use Rattle.bounds.specs.Refusals.{widthTest, strayTest, _then_, IsWord, through, refused}
 use Rattle.bounds.specs.Sayings.{oppositeSaying, plain}
 use Rattle.bounds.specs.Widths.{narWord}
 use Rattle.bounds.proofs.Answers.{wordOf, GivesAWord}
 use Rattle.bounds.proofs.Verdicts.{width-fits, width-through, stray-fits, words-through, word-passes, move-passes, move-through, answered}
-use Rattle.word.specs.Takum.{Takum, real, NaR, takum}
+use Rattle.word.specs.Takum.{Takum, real, NaR, power, regimeOf, characteristicOf, S, D, R, r, p, C, F, c, e, value, meaning, N, padded, takum}
 use Rattle.word.specs.Reads.{signedSize}
 use Rattle.word.specs.Orders.{signed, order, negated}
+use Rattle.word.proofs.Heads.{both}
 use Rattle.word.proofs.Words.{takum-NaR}
 use Rattle.word.proofs.Values.{NaR-word, NaR-below, above-NaR, order-same, order-exchanged, order-of-values}
 use Rattle.order.specs.declared.order.Comparison.{Comparison}
@@ -39,6 +41,8 @@ use Rattle.promises.specs.Writing.{WiderNeverChangesNorRefuses}
 use Rattle.promises.specs.Moving as promise
 use Rattle.promises.specs.Moving.{goes-on, stops, GoesOutAndBack, OutAndBack, GoesNegated, MovesNegated, GoesCompared, ComparesMoved, IsNotReversed, GoesBy}
 use Rattle.promises.proofs.Sayings.{meaning-kept, moved-words, a-move-is-exact-where-the-meaning-stays, negating-exchanges-below-and-above}
+use Rattle.promises.proofs.Settled.{size-at, is-positive, past-half, before-half, is-rounded, went, size-settled, settled, meaning-settled, move-settled, moved-so}
+use Rattle.promises.proofs.Tests.{size-of, is-word}
 use Rattle.promises.proofs.WordRefusals.{word-none}
 use Rattle.promises.proofs.Writing.{target-tested, wider-never-changes-nor-refuses}
 
@@ -204,3 +208,30 @@ a-middle-as-wide-changes-nothing a b c w r r' i wide top g x =
 pub a-move-to-the-same-width-is-the-word : promise.AMoveToTheSameWidthIsTheWord
 unfolding promise.AMoveToTheSameWidthIsTheWord
 a-move-to-the-same-width-is-the-word a w r i x = meaning-kept a a Rule.Rounded w w r i i refl x
+
+-- 513 + 2^-20 goes from 64 bits to 513 at 32 and from there to 512 at 16, and directly to 514
+three-moves : T (move-settled 64 0x5A00800008000000 32 0x5A008000 Below && (move-settled 32 0x5A008000 16 0x5A00 Below && move-settled 64 0x5A00800008000000 16 0x5A01 Above))
+unfolding move-settled meaning-settled settled size-settled is-rounded is-positive past-half before-half went size-at size-of is-word isNegative power regimeOf characteristicOf S D R r p C F c e value meaning N padded takum
+three-moves = tt
+
+pub a-middle-width-can-change-the-word : promise.AMiddleWidthCanChangeTheWord
+unfolding promise.AMiddleWidthCanChangeTheWord GoesBy MovesAndSays
+a-middle-width-can-change-the-word =
+    let t = both (move-settled 64 0x5A00800008000000 32 0x5A008000 Below) (move-settled 32 0x5A008000 16 0x5A00 Below && move-settled 64 0x5A00800008000000 16 0x5A01 Above) three-moves in
+    let u = both (move-settled 32 0x5A008000 16 0x5A00 Below) (move-settled 64 0x5A00800008000000 16 0x5A01 Above) (t .1) in
+    let first = moved-so 64 0x5A00800008000000 32 0x5A008000 Below (t .0) .answers in (
+      64,
+      32,
+      16,
+      0x5A00800008000000,
+      moved-words 64 32 Rule.Rounded 0x5A00800008000000 0x5A008000 first .0,
+      omega arith,
+      omega arith,
+      0x5A00,
+      0x5A01,
+      Below,
+      Above,
+      goes-on 0x5A008000 first (moved-so 32 0x5A008000 16 0x5A00 Below (u .0)),
+      moved-so 64 0x5A00800008000000 16 0x5A01 Above (u .1),
+      λ e. omega (arith, e),
+    )

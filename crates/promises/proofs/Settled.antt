@@ -4,18 +4,19 @@ use mathlib.Core.Path.{_≡_, refl, sym, ap, _∙_, subst, subst₂}
 use mathlib.Core.Bool.{Bool, true, false, _&&_, _||_}
 use mathlib.Core.Logic.{_⊎_, inl, inr, ⊎-elim}
 use Prim.Native.Nat.{ℕ, suc, _+_, _-_, _*_, _%_, _^_, _≤_, _<_}
-use native.Mathlib.Nat.{le-of-eq, lt-of-le-of-lt, lt-of-lt-of-le, mul-le-mul-right, mul-lt-mul-of-pos-right}
+use native.Mathlib.Nat.{zero-lt-suc, le-of-eq, lt-of-le-of-lt, lt-of-lt-of-le, mul-le-mul-right, mul-lt-mul-of-pos-right}
 use native.Mathlib.Omega.{arith}
 use lib.Dec.{T, eqb, leb, ltb, eqb→eq, leb→le, ltb→lt}
+use lib.IntN.{natAbs}
 use Rattle.bounds.specs.declared.answer.Answer.{Answer}
 use Rattle.bounds.specs.declared.answer.Written.{Written}
 use Rattle.bounds.specs.declared.saying.Saying.{Saying}
 use Rattle.bounds.specs.declared.saying.Saying.the-variants.{Exact, Below, Above, PastTheEnd}
-use Rattle.bounds.specs.Refusals.{widthTest, Decided, through}
+use Rattle.bounds.specs.Refusals.{widthTest, IsWord, Decided, through}
 use Rattle.bounds.specs.Sayings.{oppositeSaying, AndSays}
 use Rattle.bounds.proofs.Answers.{word-said}
-use Rattle.bounds.proofs.Verdicts.{width-fits}
-use Rattle.word.specs.Takum.{takum}
+use Rattle.bounds.proofs.Verdicts.{width-fits, move-passes}
+use Rattle.word.specs.Takum.{Takum, real, NaR, takum}
 use Rattle.word.specs.Orders.{negated}
 use Rattle.word.specs.Reads.{signedSize}
 use Rattle.word.proofs.Heads.{both}
@@ -27,6 +28,8 @@ use Rattle.nearest.proofs.Places.{wordOf, has-value, increasing, not-decreasing
 use Rattle.nearest.proofs.Sayings.{exactly, above-inside, below-inside, beyond-said, short-said, says-negated}
 use Rattle.round.specs.declared.value.Rule.{Rule}
 use Rattle.round.specs.Writes.{other, IsWritten}
+use Rattle.write.specs.Writes.{isNegative, IsMoved, Moves}
+use Rattle.write.specs.Sayings.{SaysMoved, MovesAndSays}
 use Rattle.round.proofs.Rounding.{nearest-negated}
 use Rattle.round.proofs.Signs.{nearest-positive}
 use Rattle.promises.proofs.Tests.{size-of, either, is-word, word-is}
@@ -203,3 +206,22 @@ answered-so n s a b w q some t =
     let x = settled-is n s a b w q some t in
     let i = x .1 .is .word in
     word-said w q (through (width-fits n (i .least) (i .most)) (other (x .0) (x .1))) (x .2)
+
+-- ---- a word that is moved: what it means is written
+unfoldable pub meaning-settled : ℕ → Takum → ℕ → Saying → Bool
+meaning-settled n (real z) w q = settled n (isNegative z) (natAbs z) 1 w q
+meaning-settled n NaR w q = false
+
+unfoldable pub move-settled : ℕ → ℕ → ℕ → ℕ → Saying → Bool
+move-settled n w n' w' q = is-word n w && meaning-settled n' (takum n w) w' q
+
+pub moved-so : (n w n' w' : ℕ) (q : Saying) → T (move-settled n w n' w' q) → MovesAndSays n n' Rule.Rounded w (Written.Word w' q)
+unfolding move-settled meaning-settled MovesAndSays Moves IsMoved SaysMoved IsWritten
+moved-so n w n' w' q t =
+    let u = both (is-word n w) (meaning-settled n' (takum n w) w' q) t in
+    let x = by (takum n w) (u .1) in
+    word-said w' q (through (move-passes n n' w (word-is n w (u .0)) (x .0 .least) (x .0 .most)) (x .1)) (x .2)
+  where
+    by : (t : Takum) → T (meaning-settled n' t w' q) → IsWord n' w' × IsMoved n' Rule.Rounded t (Answer.Word w') × SaysMoved n' t w' q
+    by (real z) t = let x = settled-is n' (isNegative z) (natAbs z) 1 w' q (zero-lt-suc 0) t in (x .1 .is .word, other (x .0) (x .1), x .2)
+    by NaR t = absurd t

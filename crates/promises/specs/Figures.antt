@@ -2,7 +2,7 @@
 use mathlib.Core.Path.{_≡_}
 use mathlib.Core.Bool.{true, false}
 use mathlib.Core.List.{List, [], _∷_}
-use Prim.Native.Nat.{ℕ, _+_, _-_, _^_}
+use Prim.Native.Nat.{ℕ, _+_, _-_, _*_, _^_}
 use lib.IntN.{ℤ, pos, negℤ}
 use Rattle.bounds.specs.declared.answer.Answer.{Answer}
 use Rattle.bounds.specs.declared.answer.Written.{Written}
@@ -16,7 +16,7 @@ use Rattle.word.specs.Reads.{IsSize, signedSize, IsReading, Reads}
 use Rattle.round.specs.declared.value.Rule.{Rule}
 use Rattle.write.specs.declared.value.Value.{Value}
 use Rattle.write.specs.Writes.{Writes}
-use Rattle.write.specs.Sayings.{WritesAndSays}
+use Rattle.write.specs.Sayings.{WritesAndSays, MovesAndSays}
 use Rattle.whole.specs.declared.taking.Taking.{Taking}
 use Rattle.whole.specs.declared.taking.Whole.{Whole}
 use Rattle.whole.specs.Wholes.{WritesWhole, TakesWhole}
@@ -48,7 +48,8 @@ IsSaid nar t = t ≡ NaR
 -- call a tally goes through; takes n rule w x: the word w of n bits goes out as the whole number x by the rule; says n v w s: the value v, written rounded
 -- in n bits, is the word w and this is said of it; saysWhole n x w s: the same of x as a whole number; needs x n: the whole number x needs n bits;
 -- needsMore x number: it has a word at no width, and is refused with this number; refusesBlocks n number: a block that is to be written with n bits is
--- refused with this number, whatever words and buffer there are
+-- refused with this number, whatever words and buffer there are; moves n w n' w' s: the word w of n bits, moved rounded to n' bits, is the word w' and this
+-- is said of it
 pub data Figure : Type 0 where
   reads : ℕ → ℕ → Said → Figure
   hasOwn : ℕ → ℕ → ℕ → Figure
@@ -62,6 +63,7 @@ pub data Figure : Type 0 where
   needs : ℤ → ℕ → Figure
   needsMore : ℤ → ℕ → Figure
   refusesBlocks : ℕ → ℕ → Figure
+  moves : ℕ → ℕ → ℕ → ℕ → Saying → Figure
 
 unfoldable pub whole : ℕ → Value
 whole M = record { negative = false; m = M; k = pos 0 }
@@ -175,6 +177,24 @@ figures =
     ∷ needsMore (pos (2 ^ 63 - 1)) 4
     -- paper 02, Wish 10: 13 RETIRED
     ∷ refusesBlocks 8 13
+    -- paper 02, Wish 14: 513 + 2^-20 goes from 64 bits to 514 at 16, and through 32 to 512
+    ∷ reads 64 0x5A00800008000000 (plus (513 * 2 ^ 20 + 1) (below 20))
+    ∷ moves 64 0x5A00800008000000 16 0x5A01 Above
+    ∷ reads 16 0x5A01 (plus 514 (pos 0))
+    ∷ moves 64 0x5A00800008000000 32 0x5A008000 Below
+    ∷ reads 32 0x5A008000 (plus 513 (pos 0))
+    ∷ moves 32 0x5A008000 16 0x5A00 Below
+    -- 514 goes out to 32 bits and back; the negated word goes to -514, and at 32 bits to -513; 513 beside it goes to 512, and at 32 bits to itself
+    ∷ moves 16 0x5A01 32 0x5A010000 Exact
+    ∷ moves 32 0x5A010000 16 0x5A01 Exact
+    ∷ reads 64 0xA5FF7FFFF8000000 (minus (513 * 2 ^ 20 + 1) (below 20))
+    ∷ moves 64 0xA5FF7FFFF8000000 16 0xA5FF Below
+    ∷ reads 16 0xA5FF (minus 514 (pos 0))
+    ∷ moves 64 0xA5FF7FFFF8000000 32 0xA5FF8000 Above
+    ∷ reads 32 0xA5FF8000 (minus 513 (pos 0))
+    ∷ reads 64 0x5A00800000000000 (plus 513 (pos 0))
+    ∷ moves 64 0x5A00800000000000 16 0x5A00 Below
+    ∷ moves 64 0x5A00800000000000 32 0x5A008000 Exact
     ∷ []
 
 -- whatever reading or answer the contract allows is the figure's
@@ -190,6 +210,7 @@ FigureHolds (says n v w s) = (a : Written) → WritesAndSays n Rule.Rounded v a 
 FigureHolds (saysWhole n x w s) = (a : Written) → WritesWholeAndSays n Rule.Rounded x a → a ≡ Written.Word w s
 FigureHolds (needs x n) = (a : Made) → GivesShortest x a → a ≡ bits n
 FigureHolds (needsMore x number) = (a : Made) → GivesShortest x a → RefusedAs Made Made.Refused number a
+FigureHolds (moves n w n' w' s) = (a : Written) → MovesAndSays n n' Rule.Rounded w a → a ≡ Written.Word w' s
 FigureHolds (refusesBlocks n number) = (words buffer : List ℕ) (a : Writing) → WritesBlock n words buffer a → RefusedAs Writing Writing.Refused number a
 
 -- every figure of a list holds

@@ -5,6 +5,8 @@
 pub mod Lines
 -- the refusals of the calls on words and numbers
 pub mod WordRefusals
+-- of the laws of moving, as functions
+pub mod MovingRefusals
 -- the refusals of a column and of a block
 pub mod SliceRefusals
 -- and of a block that is to be written

@@ -1,5 +1,5 @@
 -- How an answer follows the lines of the table: the tests of a contract, taken apart in their order. Assumes nothing.
-use mathlib.Core.Path.{_≡_, refl}
+use mathlib.Core.Path.{_≡_, refl, ap, _∙_}
 use mathlib.Core.List.{List, [], _∷_}
 use mathlib.Core.Logic.{_⊎_, inl, inr, ⊎-elim}
 use Prim.Native.Nat.{ℕ, _-_, _^_, _≤_, _<_}
@@ -64,18 +64,31 @@ carry R R' a b [] to from x = λ q e. x q (from q e)
 carry R R' a b (line number When ∷ lines) to from (inl (h, x)) = inl (h, record { q = x .q; is = to (x .q) (x .is); known = x .known })
 carry R R' a b (line number When ∷ lines) to from (inr (h, x)) = inr (h, carry R R' a b lines to from x)
 
--- what comes after the lines, where the answer is no refusal or is one
-pub then-so : {A : Type 0} (R : Refusal → A) (a : A) (lines : List Line) (P : Type 0) → (((q : Refusal) → a ≡ R q → ⊥) → P) → Follows R a lines → FollowsUpTo R a lines P
-unfolding Follows FollowsUpTo
-then-so R a [] P f x = f x
-then-so R a (line number When ∷ lines) P f (inl x) = inl x
-then-so R a (line number When ∷ lines) P f (inr (h, x)) = inr (h, then-so R a lines P f x)
+-- what comes after the lines, said otherwise
+pub so-too : {A : Type 0} (R : Refusal → A) (a : A) (lines : List Line) (P Q : Type 0) → (P → Q) → FollowsUpTo R a lines P → FollowsUpTo R a lines Q
+unfolding FollowsUpTo
+so-too R a [] P Q f x = f x
+so-too R a (line number When ∷ lines) P Q f (inl x) = inl x
+so-too R a (line number When ∷ lines) P Q f (inr (h, x)) = inr (h, so-too R a lines P Q f x)
 
-pub none-hold : {A : Type 0} (R : Refusal → A) (a b : A) (lines : List Line) (P : Type 0) → P → ((q : Refusal) → a ≡ R q → ⊥) → Follows R a lines → FollowsUpTo R b lines P
+-- and where the answer is no refusal or is one
+pub then-so : {A : Type 0} (R : Refusal → A) (a : A) (lines : List Line) (P : Type 0) → (((q : Refusal) → a ≡ R q → ⊥) → P) → Follows R a lines → FollowsUpTo R a lines P
+unfolding Follows
+then-so R a lines P f x = so-too R a lines _ P f x
+
+-- an answer that is no refusal: no line holds, whatever is answered in the end
+pub none-hold : {A B : Type 0} (R : Refusal → A) (R' : Refusal → B) (a : A) (b : B) (lines : List Line) (P : Type 0) → P → ((q : Refusal) → a ≡ R q → ⊥) → Follows R a lines → FollowsUpTo R' b lines P
 unfolding Follows FollowsUpTo
-none-hold R a b [] P p none x = p
-none-hold R a b (line number When ∷ lines) P p none (inl (h, x)) = absurd (none (x .q) (x .is))
-none-hold R a b (line number When ∷ lines) P p none (inr (h, x)) = inr (h, none-hold R a b lines P p none x)
+none-hold R R' a b [] P p none x = p
+none-hold R R' a b (line number When ∷ lines) P p none (inl (h, x)) = absurd (none (x .q) (x .is))
+none-hold R R' a b (line number When ∷ lines) P p none (inr (h, x)) = inr (h, none-hold R R' a b lines P p none x)
+
+-- a refusal that is handed on: the line that gave it holds
+pub handed-on : {A : Type 0} (R : Refusal → A) (q : Refusal) (lines : List Line) (P : Type 0) → Follows Answer.Refused (Answer.Refused q) lines → FollowsUpTo R (R q) lines P
+unfolding Follows FollowsUpTo
+handed-on R q [] P x = absurd (x q refl)
+handed-on R q (line number When ∷ lines) P (inl (h, x)) = inl (h, record { q = q; is = refl; known = let e = x .is in let same : q ≡ x .q = cc in ap numberOf same ∙ x .known })
+handed-on R q (line number When ∷ lines) P (inr (h, x)) = inr (h, handed-on R q lines P x)
 
 -- a line that doesn't hold
 pub past : {A : Type 0} (R : Refusal → A) (a : A) (number : ℕ) (When : Type 0) (lines : List Line) → (When → ⊥) → Follows R a (line number When ∷ lines) → Follows R a lines

@@ -40,6 +40,7 @@ pub use Rattle.column.proofs.OneOutcome.{moves-column-one, holds-one, moved-col
 pub use Rattle.sheet.proofs.OneOutcome.{reads-block-one, fills-results-one, writes-block-one, fills-buffer-one}
 use Rattle.promises.specs.Demands.{ComesBack}
 use Rattle.promises.specs.Writing.{Goes, ComesHome}
+use Rattle.promises.specs.Moving.{AndThen, goes-on, stops, GoesOutAndBack, OutAndBack, GoesNegated, MovesNegated, GoesCompared, ComparesMoved}
 
 -- an answer that is given outright
 given : {A : Type 0} (x : A) (a b : A) → a ≡ x → b ≡ x → a ≡ b
@@ -137,3 +138,25 @@ goes-one home (n' ∷ ns) n w a b (inr x) (inr y) = x .2 ∙ moves-one n n' Rule
 
 pub comes-home-one : (n w : ℕ) (ns : List ℕ) (a b : Answer) → ComesHome n w ns a → ComesHome n w ns b → a ≡ b
 comes-home-one n w ns a b x y = goes-one n ns n w a b (x .goes) (y .goes)
+
+-- ---- the laws of moving: of one call after another, each of which allows one outcome
+and-then-one : {A : Type 0} (R : Refusal → A) (First : Answer → Type 0) (Next : ℕ → A → Type 0) → ((x y : Answer) → First x → First y → x ≡ y) → ((w : ℕ) (a b : A) → Next w a → Next w b → a ≡ b) → (a b : A) → AndThen R First Next a → AndThen R First Next b → a ≡ b
+unfolding wordOf GivesAWord
+and-then-one R First Next first next a b (goes-on w x y) (goes-on w' x' y') = next w' a b (subst (λ (v : ℕ). Next v a) (ap wordOf (first (Answer.Word w) (Answer.Word w') x x')) y) y'
+and-then-one R First Next first next a b (goes-on w x y) (stops q x' e) = absurd (subst GivesAWord (first (Answer.Word w) (Answer.Refused q) x x') tt)
+and-then-one R First Next first next a b (stops q x e) (goes-on w x' y) = absurd (subst GivesAWord (first (Answer.Word w) (Answer.Refused q) x' x) tt)
+and-then-one R First Next first next a b (stops q x e) (stops q' x' e') = let same : q ≡ q' = let z = first (Answer.Refused q) (Answer.Refused q') x x' in cc in e ∙ ap R same ∙ sym e'
+
+pub out-and-back-one : (a b c w : ℕ) (r s : Answer) → OutAndBack a b c w r → OutAndBack a b c w s → r ≡ s
+unfolding GoesOutAndBack
+out-and-back-one a b c w r s x y =
+    and-then-one Answer.Refused _ _ (moves-one a b Rule.Rounded w) (λ u. and-then-one Answer.Refused _ _ (moves-one b c Rule.Rounded u) (moves-one c b Rule.Rounded)) r s (x .goes) (y .goes)
+
+pub moves-negated-one : (a b w : ℕ) (r s : Written) → MovesNegated a b w r → MovesNegated a b w s → r ≡ s
+unfolding GoesNegated
+moves-negated-one a b w r s x y = and-then-one Written.Refused _ _ (negates-one a w) (moves-and-says-one a b Rule.Rounded) r s (x .goes) (y .goes)
+
+pub compares-moved-one : (a b u v : ℕ) (r s : Comparison) → ComparesMoved a b u v r → ComparesMoved a b u v s → r ≡ s
+unfolding GoesCompared
+compares-moved-one a b u v r s x y =
+    and-then-one Comparison.Refused _ _ (moves-one a b Rule.Rounded u) (λ p. and-then-one Comparison.Refused _ _ (moves-one a b Rule.Rounded v) (compares-one b p)) r s (x .goes) (y .goes)

@@ -16,6 +16,7 @@ use Rattle.sheet.specs.Writes.{WritesBlock}
 use Rattle.promises.specs.Demands.{ComesBack}
 use Rattle.promises.specs.Refusals.{RefusalsFollowTheTable}
 use Rattle.promises.proofs.WordRefusals.{of-width, of-word, word-none, reading-none, size-none, number-none, compare-follows, test-follows, test-word-follows, write-short-follows, write-size-follows, write-long-follows, write-follows, write-whole-follows, write-binary64-follows, move-follows, goes-follows, take-whole-follows, shortest-follows}
+use Rattle.promises.proofs.MovingRefusals.{out-and-back-follows, move-negated-follows, compare-moved-follows}
 use Rattle.promises.proofs.SliceRefusals.{test-room-follows, column-follows, position-follows, block-follows}
 use Rattle.promises.proofs.WrittenRefusals.{written-follows, written-position-follows, position-inside}
 
@@ -45,6 +46,9 @@ refusals-follow-the-table = record {
   take-binary64 = λ n w a x. of-word n w (number-none (takum n w) a) x;
   move-word = move-follows;
   come-home = λ n w ns a x. goes-follows n ns n w a (x .goes);
+  out-and-back = λ a b c w r x. out-and-back-follows a b c w r (x .goes);
+  move-negated = λ a b w r x. move-negated-follows a b w r (x .goes);
+  compare-moved = λ a b x y r z. compare-moved-follows a b x y r (z .goes);
   move-column = column-follows;
   position = λ n n' rule words places a x f i inside before. position-follows n n' rule words places i inside a x f before;
   inside = λ n n' rule words places a x i q h. first n n' rule words places i q (subst (MovesColumn n n' rule words places) h x) .inside;

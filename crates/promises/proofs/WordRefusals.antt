@@ -170,7 +170,7 @@ pub goes-follows : (home : ℕ) (ns : List ℕ) (n w : ℕ) (a : Answer) → Goe
 unfolding Goes ChainFollows
 goes-follows home [] n w a x = move-follows n home Rule.Strict w a x
 goes-follows home (n' ∷ ns) n w a (inl (w', m, x)) =
-    none-hold Answer.Refused (Answer.Word w') a _ _ (w', m, goes-follows home ns n' w' a x) (word-none w' (Answer.Word w') refl) (move-follows n n' Rule.Strict w (Answer.Word w') m)
+    none-hold Answer.Refused Answer.Refused (Answer.Word w') a _ _ (w', m, goes-follows home ns n' w' a x) (word-none w' (Answer.Word w') refl) (move-follows n n' Rule.Strict w (Answer.Word w') m)
 goes-follows home (n' ∷ ns) n w a (inr (q, m, e)) =
     then-so Answer.Refused a _ _ (λ f. absurd (f q e)) (subst (λ (r : Answer). Follows Answer.Refused r (width n ∷ width n' ∷ moveLines n n' Rule.Strict w)) (sym e) (move-follows n n' Rule.Strict w (Answer.Refused q) m))
 

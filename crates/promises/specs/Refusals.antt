@@ -9,6 +9,7 @@ use lib.Ieee.{Float, nan, inf, fin, up, down}
 use lib.IntN.{ℤ, pos, negsuc, _+ℤ_, _-ℤ_}
 use lib.ListN.{length, getD}
 use Rattle.bounds.specs.declared.answer.Answer.{Answer}
+use Rattle.bounds.specs.declared.answer.Written.{Written}
 use Rattle.bounds.specs.declared.refusal.Refusal.{Refusal}
 use Rattle.bounds.specs.declared.refusal.Verdict.{Verdict}
 use Rattle.bounds.specs.declared.width.Limit.{Limit}
@@ -46,6 +47,7 @@ use Rattle.sheet.specs.Reads.{ReadsBlock}
 use Rattle.sheet.specs.Writes.{WritesBlock}
 use Rattle.promises.specs.Demands.{RefusedAs, ComesBack}
 use Rattle.promises.specs.Writing.{numerator, denominator, ComesHome}
+use Rattle.promises.specs.Moving.{OutAndBack, MovesNegated, ComparesMoved}
 use Rattle.promises.specs.Hub.{longNumerator, longDenominator}
 use Rattle.promises.specs.Numbers.{IsWhole}
 
@@ -184,6 +186,10 @@ pub record RefusalsFollowTheTable : Type 0 where
   -- the source's width, then the target's
   pub move-word : (n n' : ℕ) (rule : Rule) (w : ℕ) (a : Answer) → Moves n n' rule w a → Follows Answer.Refused a (width n ∷ width n' ∷ moveLines n n' rule w)
   pub come-home : (n w : ℕ) (ns : List ℕ) (a : Answer) → ComesHome n w ns a → ChainFollows n n w ns a
+  -- the laws of moving, as functions (paper 02, Wish 14); each call is tried when the one before it has a word
+  pub out-and-back : (a b c w : ℕ) (r : Answer) → OutAndBack a b c w r → Follows Answer.Refused r (width a ∷ width b ∷ stray a w ∷ width c ∷ [])
+  pub move-negated : (a b w : ℕ) (r : Written) → MovesNegated a b w r → Follows Written.Refused r (width a ∷ stray a w ∷ width b ∷ [])
+  pub compare-moved : (a b x y : ℕ) (r : Comparison) → ComparesMoved a b x y r → Follows Comparison.Refused r (width a ∷ width b ∷ stray a x ∷ stray a y ∷ [])
   pub move-column : (n n' : ℕ) (rule : Rule) (words : List ℕ) (places : ℕ) (a : Column) → MovesColumn n n' rule words places a → Follows Column.Refused a (width n ∷ width n' ∷ room (length words) places ∷ [])
   -- and then each position that is reached, because the answer is no refusal of the column, nor one at a position before it
   pub position : (n n' : ℕ) (rule : Rule) (words : List ℕ) (places : ℕ) (a : Column) → MovesColumn n n' rule words places a → ((q : Refusal) → a ≡ Column.Refused q → ⊥)

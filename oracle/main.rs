@@ -3,15 +3,15 @@
 //! census and the figures. It is written from the papers alone.
 //!
 //! The papers are paper 01 (the requirements), paper 02, Wish 1 (blocks that are written), Wish 2 (whole numbers by
-//! nearest), Wish 3 (how fine a reading is), Wish 4 (which way a word went), Wish 9 (the shortest word for a count) and
-//! Wish 10 (no more 8-bit sheets), document 004, Definition 2 (the linear takum) and, in checks/ only, Proposition 4
-//! (the length of a whole number), and docs/CENSUS.md and docs/FIGURES.md (the lines to print). Nothing here was taken
-//! from the library. Every word is turned into its exact value. The sign, h and m of a reading and every comparison are
-//! found from exact values; a reading's p and its own fraction bits are taken from the word's string, and negation is
-//! two's complement negation of the word, held against the exact value. Writing and moving find the nearest word by
-//! exact values too, and what is said beside it; and so do whole numbers out and binary64 out with the nearest number;
-//! no floating point is used. The shortest width is found by trying one width after the other. All is meant to be
-//! obvious, not quick.
+//! nearest), Wish 3 (how fine a reading is), Wish 4 (which way a word went), Wish 9 (the shortest word for a count),
+//! Wish 10 (no more 8-bit sheets) and Wish 14 (laws of moving), document 004, Definition 2 (the linear takum) and, in
+//! checks/ only, Proposition 4 (the length of a whole number), and docs/CENSUS.md and docs/FIGURES.md (the lines to
+//! print). Nothing here was taken from the library. Every word is turned into its exact value. The sign, h and m of a
+//! reading and every comparison are found from exact values; a reading's p and its own fraction bits are taken from the
+//! word's string, and negation is two's complement negation of the word, held against the exact value. Writing and
+//! moving find the nearest word by exact values too, and what is said beside it; and so do whole numbers out and
+//! binary64 out with the nearest number; no floating point is used. The shortest width is found by trying one width
+//! after the other. All is meant to be obvious, not quick.
 //!
 //! The assertions are statements of the papers, or follow from them. If one of them fails, the program stops.
 //!

@@ -79,7 +79,7 @@ impl Digest {
     }
 
     /// "A word that was written or moved": the word, then the number of its saying.
-    fn take_answer(&mut self, answer: Result<Answer, Refusal>) {
+    pub fn take_answer(&mut self, answer: Result<Answer, Refusal>) {
         self.take_number(answer.map(|answer| answer.word));
         if let Ok(answer) = answer {
             self.take(answer.saying as u64);

@@ -8,6 +8,7 @@ mod digest;
 pub mod ends;
 mod faults;
 pub mod halves;
+pub mod laws;
 pub mod long;
 pub mod out;
 mod reading;
@@ -19,13 +20,14 @@ pub mod whole;
 pub mod writing;
 pub mod written;
 
-/// The text of words: parts 1 to 12, then 41 to 44, then 52.
+/// The text of words: parts 1 to 12, then 41 to 44, then 52, then 57 and 58.
 pub fn words() -> Vec<String> {
     let mut lines = Vec::new();
     reading::push(&mut lines);
     writing::push(&mut lines);
     long::push(&mut lines);
     ends::push(&mut lines);
+    laws::push(&mut lines);
     lines
 }
 

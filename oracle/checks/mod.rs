@@ -9,6 +9,7 @@ mod columns;
 mod exact;
 mod figures;
 mod jamming;
+mod laws;
 mod long;
 mod midpoints;
 mod moving;
@@ -36,6 +37,7 @@ pub fn check_words() {
     long::check();
     jamming::check();
     sayings::check();
+    laws::check();
 }
 
 /// What its numbers stand on besides.

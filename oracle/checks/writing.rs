@@ -128,7 +128,7 @@ pub fn check_writing(width: u32, (m, k): Pair, expected: Answers) {
 }
 
 /// "Word below the value, word above it (signed)": what is below a value has its negation above the negated value.
-fn negated_answer(width: u32, answer: Answer) -> Answer {
+pub fn negated_answer(width: u32, answer: Answer) -> Answer {
     let saying = match answer.saying {
         Saying::Below => Saying::Above,
         Saying::Above => Saying::Below,

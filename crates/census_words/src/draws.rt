@@ -35,6 +35,7 @@ fn drawn_size(bits: u64, cut: u64, height: u64) -> Size
     }
 }
 
-fn drawn_width(x: u64) -> u32 {
+// One of the 63 widths.
+pub(crate) fn drawn_width(x: u64) -> u32 {
     Width::LEAST + (x % 63) as u32
 }

@@ -18,6 +18,7 @@ mod runs;
 mod subjects;
 mod unmoved;
 mod unread;
+mod ways;
 mod widths;
 mod words;
 mod writings;
@@ -36,6 +37,7 @@ fn main() {
     print_readings();
     print_writings();
     print_long_values();
+    print_ways();
 }
 
 // Parts 1 to 6.
@@ -79,4 +81,10 @@ fn print_long_values() {
     print_everywhere(b"long", Part::Runs(Subject::Long));
     print_at_all_widths(b"farther");
     print_everywhere(b"ends", Part::Ends);
+}
+
+// Parts 57 and 58.
+fn print_ways() {
+    print_part(b"way", Part::Runs(Subject::Way), Width::LEAST, WIDEST_WHOLE);
+    print_everywhere(b"drawnway", Part::Runs(Subject::DrawnWay));
 }

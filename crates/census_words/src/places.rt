@@ -7,6 +7,8 @@ use crate::midways::take_drawn_midway;
 use crate::midways::take_midway;
 use crate::moves::take_moves_of;
 use crate::subjects::Subject;
+use crate::ways::take_drawn_way;
+use crate::ways::take_ways_of;
 use crate::words::take_word;
 use census::run::Run;
 use census::run::undrawn;
@@ -24,5 +26,7 @@ pub(crate) fn take_place(subject: Subject, run: Run, n: u32, place: u64) -> Run
         Subject::Midway => undrawn(run, take_midway(run.digest, n, place)),
         Subject::DrawnMidway => take_drawn_midway(run, n),
         Subject::Long => take_long_draw(run, n),
+        Subject::Way => undrawn(run, take_ways_of(run.digest, n, place)),
+        Subject::DrawnWay => take_drawn_way(run, n),
     }
 }

@@ -15,6 +15,8 @@ pub(crate) enum Subject {
     Midway,
     DrawnMidway,
     Long,
+    Way,
+    DrawnWay,
 }
 
 // Writings and midpoints begin at the smallest positive word.
@@ -38,6 +40,8 @@ pub(crate) fn end_of(subject: Subject, n: u32) -> u64
         Subject::Midway => power_of_two(n - 1) - 1,
         Subject::DrawnMidway => 512,
         Subject::Long => 1024,
+        Subject::Way => words_of(n),
+        Subject::DrawnWay => 1024,
     }
 }
 
@@ -49,12 +53,13 @@ pub(crate) fn first_state(subject: Subject, n: u32) -> u64
 }
 
 fn start_of(subject: Subject) -> u64
-    ensures { λ r. ⌜ r ≤ 9000 ⌝ }
+    ensures { λ r. ⌜ r ≤ 60000 ⌝ }
 {
     match subject {
         Subject::Draw => 1000,
         Subject::DrawnMidway => 9000,
         Subject::Long => 8000,
+        Subject::DrawnWay => 60000,
         _ => 0,
     }
 }

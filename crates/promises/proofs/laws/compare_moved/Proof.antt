@@ -31,19 +31,25 @@ enum-known-q-2 c = search needs
 
 returns : tie.Need-returns
 unfolding GoesCompared
-returns c = goes-compared _ _ _ _ _
+returns c =
+    let at = c .before .before .before .before .before .before .before .before .before .args in
+    goes-compared (at .from .bits) (at .to .bits) (at .x) (at .y) _
     (goes-on _ (subst (Moves _ _ Rule.Rounded _) (c .before .before .before .before .before .before .moved-x .given .1) (c .before .before .before .before .before .before .before .before .move-rounded .ensures))
     (goes-on _ (subst (Moves _ _ Rule.Rounded _) (c .before .before .moved-y .given .1) (c .before .before .before .before .move-rounded2 .ensures)) (c .compare .ensures)))
 
 returns-2 : tie.Need-returns-2
 unfolding GoesCompared
-returns-2 c = goes-compared _ _ _ _ _
+returns-2 c =
+    let at = c .before .before .before .before .before .before .before .before .args in
+    goes-compared (at .from .bits) (at .to .bits) (at .x) (at .y) _
     (goes-on _ (subst (Moves _ _ Rule.Rounded _) (c .before .before .before .before .before .moved-x .given .1) (c .before .before .before .before .before .before .before .move-rounded .ensures))
     (stops _ (subst (Moves _ _ Rule.Rounded _) (c .before .q .given .1) (c .before .before .before .move-rounded2 .ensures)) refl))
 
 returns-3 : tie.Need-returns-3
 unfolding GoesCompared
-returns-3 c = goes-compared _ _ _ _ _ (stops _ (subst (Moves _ _ Rule.Rounded _) (c .before .q2 .given .1) (c .before .before .before .move-rounded .ensures)) refl)
+returns-3 c =
+    let at = c .before .before .before .before .args in
+    goes-compared (at .from .bits) (at .to .bits) (at .x) (at .y) _ (stops _ (subst (Moves _ _ Rule.Rounded _) (c .before .q2 .given .1) (c .before .before .before .move-rounded .ensures)) refl)
 
 pub compare-moved-spec : {M : Type 1} → statement M
 compare-moved-spec =

@@ -21,11 +21,15 @@ enum-known-q c = search needs
 
 returns : tie.Need-returns
 unfolding GoesNegated
-returns c = goes-negated _ _ _ _ (goes-on _ (subst (Negates _ _) (c .before .before .opposite .given .1) (c .before .before .before .before .negate .ensures)) (c .move-word .ensures))
+returns c =
+    let at = c .before .before .before .before .before .args in
+    goes-negated (at .from .bits) (at .to .bits) (at .word) _ (goes-on _ (subst (Negates _ _) (c .before .before .opposite .given .1) (c .before .before .before .before .negate .ensures)) (c .move-word .ensures))
 
 returns-2 : tie.Need-returns-2
 unfolding GoesNegated
-returns-2 c = goes-negated _ _ _ _ (stops _ (subst (Negates _ _) (c .before .q .given .1) (c .before .before .before .negate .ensures)) refl)
+returns-2 c =
+    let at = c .before .before .before .before .args in
+    goes-negated (at .from .bits) (at .to .bits) (at .word) _ (stops _ (subst (Negates _ _) (c .before .q .given .1) (c .before .before .before .negate .ensures)) refl)
 
 pub move-negated-spec : {M : Type 1} → statement M
 move-negated-spec =

@@ -31,19 +31,25 @@ enum-known-q-2 c = search needs
 
 returns : tie.Need-returns
 unfolding GoesOutAndBack
-returns c = goes-out-and-back _ _ _ _ _
+returns c =
+    let at = c .before .before .before .before .before .before .before .before .before .args in
+    goes-out-and-back (at .from .bits) (at .to .bits) (at .middle .bits) (at .word) _
     (goes-on _ (subst (Moves _ _ Rule.Rounded _) (c .before .before .before .before .before .before .there .given .1) (c .before .before .before .before .before .before .before .before .move-rounded .ensures))
     (goes-on _ (subst (Moves _ _ Rule.Rounded _) (c .before .before .out .given .1) (c .before .before .before .before .move-rounded2 .ensures)) (c .move-rounded3 .ensures)))
 
 returns-2 : tie.Need-returns-2
 unfolding GoesOutAndBack
-returns-2 c = goes-out-and-back _ _ _ _ _
+returns-2 c =
+    let at = c .before .before .before .before .before .before .before .before .args in
+    goes-out-and-back (at .from .bits) (at .to .bits) (at .middle .bits) (at .word) _
     (goes-on _ (subst (Moves _ _ Rule.Rounded _) (c .before .before .before .before .before .there .given .1) (c .before .before .before .before .before .before .before .move-rounded .ensures))
     (stops _ (subst (Moves _ _ Rule.Rounded _) (c .before .q .given .1) (c .before .before .before .move-rounded2 .ensures)) refl))
 
 returns-3 : tie.Need-returns-3
 unfolding GoesOutAndBack
-returns-3 c = goes-out-and-back _ _ _ _ _ (stops _ (subst (Moves _ _ Rule.Rounded _) (c .before .q2 .given .1) (c .before .before .before .move-rounded .ensures)) refl)
+returns-3 c =
+    let at = c .before .before .before .before .args in
+    goes-out-and-back (at .from .bits) (at .to .bits) (at .middle .bits) (at .word) _ (stops _ (subst (Moves _ _ Rule.Rounded _) (c .before .q2 .given .1) (c .before .before .before .move-rounded .ensures)) refl)
 
 pub out-and-back-spec : {M : Type 1} → statement M
 out-and-back-spec =

@@ -195,6 +195,13 @@ figures =
     ∷ reads 64 0x5A00800000000000 (plus 513 (pos 0))
     ∷ moves 64 0x5A00800000000000 16 0x5A00 Below
     ∷ moves 64 0x5A00800000000000 32 0x5A008000 Exact
+    -- 515 from 32 bits goes to 516, and by way of 64 too; and a move to the same width
+    ∷ reads 32 0x5A018000 (plus 515 (pos 0))
+    ∷ moves 32 0x5A018000 16 0x5A02 Above
+    ∷ reads 16 0x5A02 (plus 516 (pos 0))
+    ∷ moves 32 0x5A018000 64 0x5A01800000000000 Exact
+    ∷ moves 64 0x5A01800000000000 16 0x5A02 Above
+    ∷ moves 64 0x5A00800008000000 64 0x5A00800008000000 Exact
     ∷ []
 
 -- whatever reading or answer the contract allows is the figure's

@@ -1,0 +1,192 @@
+// The figure of docs/moving.svg and the table of docs/MOVING.md, from the library's own answers: what becomes of 513 + 2^-20 from width to width.
+mod drawing;
+
+use drawing::{begin, bold, end, text};
+use ledusprig::{Kind, Refusal, Rule, Taking, Takum, Value, Width, Written};
+use std::cmp::Ordering;
+
+const BENCH: Width = Width::W32;
+const TAG: Width = Width::W16;
+const TITLE: &str = "Three ways of 513 + 2^-20 from 64 bits to 16";
+
+// Places on the page: a row for each width, and in it the words by their value, but for 513 + 2^-20, which would stand over 513.
+const ROWS: [(Width, f64); 3] = [(Width::W64, 116.0), (BENCH, 246.0), (TAG, 376.0)];
+const LEFT: f64 = 90.0;
+const ON_512: f64 = 214.0;
+const ON_513: f64 = 412.0;
+const JUST_ABOVE: f64 = 470.0;
+const ON_514: f64 = 744.0;
+const BOX: (f64, f64) = (164.0, 48.0);
+
+fn main() -> Result<(), Refusal> {
+    if std::env::args().nth(1).as_deref() == Some("table") {
+        print_table()
+    } else {
+        draw()
+    }
+}
+
+// ---- the words
+// 513 + 2^-20, and 513 itself, at 64 bits
+fn a_little_more() -> Result<Takum, Refusal> {
+    Ok(Width::W64.write(Rule::Strict, Value { negative: false, m: (513 << 20) + 1, k: -20 })?.word)
+}
+
+fn plain_513() -> Result<Takum, Refusal> {
+    Takum::try_from((Width::W64, 513_i64))
+}
+
+// The words that a word becomes by rounded moves, and what is said of each.
+fn way(first: Takum, widths: &[Width]) -> Result<Vec<Written<Takum>>, Refusal> {
+    let mut here = first;
+    let mut steps = Vec::new();
+    for &width in widths {
+        let step = here.move_to(width, Rule::Rounded)?;
+        here = step.word;
+        steps.push(step);
+    }
+    Ok(steps)
+}
+
+// Its value: a whole number, or one and a power of two, as 513 + 2^-20 is.
+fn value(word: Takum) -> Result<String, Refusal> {
+    if let (Err(_), Kind::Number { negative, h, m, p }) = (word.take_whole(Taking::Strict), word.read().kind) {
+        let below = p as i32 - h; // so many bits stand after the point
+        let rest = m & ((1 << below) - 1);
+        let size = format!("{} + 2^{}", m >> below, rest.trailing_zeros() as i32 - below);
+        return Ok(if negative { format!("-({size})") } else { size });
+    }
+    Ok(word.take_whole(Taking::Strict)?.to_string())
+}
+
+fn hex(word: Takum) -> String {
+    format!("{:0digits$x}", word.word(), digits = word.width().bits() as usize / 4)
+}
+
+// ---- the figure
+fn draw() -> Result<(), Refusal> {
+    let first = a_little_more()?;
+    let direct = way(first, &[TAG, BENCH, TAG])?;
+    let by_the_bench = way(first, &[BENCH, TAG])?;
+    begin("moving", 560.0, TITLE, &description(first, &direct, &by_the_bench)?);
+    println!("<defs><marker id=\"head\" viewBox=\"0 0 10 10\" refX=\"9\" refY=\"5\" markerWidth=\"9\" markerHeight=\"9\" markerUnits=\"userSpaceOnUse\" orient=\"auto\"><path d=\"M0 0L10 5L0 10z\"/></marker></defs>");
+    text(LEFT, 28.0, "start", 19, TITLE);
+    text(LEFT, 50.0, "start", 13, "Each box is a word, with its value and its bits in hex, and each arrow a rounded move, with what it says.");
+    text(LEFT, 68.0, "start", 13, "At 16 bits only the even numbers have a word here: 513 is midway between 512 and 514.");
+    for (width, row) in ROWS {
+        text(LEFT - 4.0, row + 5.0, "end", 15, &format!("{width} bits"));
+        println!("<line x1=\"{}\" y1=\"{row}\" x2=\"870\" y2=\"{row}\" stroke=\"black\" stroke-dasharray=\"1 5\"/>", LEFT + 8.0);
+    }
+    // where a box of the upper row ends, and where one of the lower row begins
+    let below = |row: usize| ROWS[row].1 + BOX.1 / 2.0;
+    let above = |row: usize| ROWS[row].1 - BOX.1 / 2.0;
+    arrow("direct", 3.0, "", (JUST_ABOVE + 40.0, below(0)), (ON_514 - 34.0, above(2)));
+    arrow("by way of 32", 1.5, "7 5", (JUST_ABOVE - 30.0, below(0)), (ON_513, above(1)));
+    arrow("by way of 32", 1.5, "7 5", (ON_513 - 20.0, below(1)), (ON_512, above(2)));
+    arrow("out", 1.2, "", (ON_514 + 26.0, above(2)), (ON_514 + 26.0, below(1)));
+    arrow("back", 1.2, "", (ON_514 + 56.0, below(1)), (ON_514 + 56.0, above(2)));
+    put_word(JUST_ABOVE, 0, first)?;
+    put_word(ON_513, 1, by_the_bench[0].word)?;
+    put_word(ON_514, 1, direct[1].word)?;
+    put_word(ON_512, 2, by_the_bench[1].word)?;
+    put_word(ON_514, 2, direct[2].word)?;
+    text(ON_513 - 22.0, 190.0, "end", 13, &by_the_bench[0].saying.to_string());
+    text(276.0, 306.0, "end", 13, &format!("a tie, to the even word: {}", by_the_bench[1].saying));
+    text(580.0, 190.0, "start", 13, &format!("direct: {}", direct[0].saying));
+    text(ON_514 + 18.0, 306.0, "end", 13, &format!("out: {}", direct[1].saying));
+    text(ON_514 + 64.0, 306.0, "start", 13, &format!("back: {}", direct[2].saying));
+    for (line, said) in told(&direct, &by_the_bench)?.iter().enumerate() {
+        text(LEFT, 446.0 + 22.0 * line as f64, "start", 14, said);
+    }
+    end();
+    Ok(())
+}
+
+// The three ways in words.
+fn told(direct: &[Written<Takum>], by_the_bench: &[Written<Takum>]) -> Result<[String; 4], Refusal> {
+    Ok([
+        format!("Thick: directly it is {}. Move so.", value(direct[0].word)?),
+        format!("Dashed: by way of {BENCH} bits it is {}, and then {}: rounded twice, and not the nearest word.", value(by_the_bench[0].word)?, value(by_the_bench[1].word)?),
+        format!("Thin: on from {TAG} bits to {BENCH} and back it is {} again, as after the first move alone.", value(direct[2].word)?),
+        "Across, a box stands where its value is, but for 513 + 2^-20, which at this scale would stand over 513.".to_string(),
+    ])
+}
+
+fn description(first: Takum, direct: &[Written<Takum>], by_the_bench: &[Written<Takum>]) -> Result<String, Refusal> {
+    let mut said = format!("{} is the word {} of 64 bits.", value(first)?, hex(first));
+    for (name, steps) in [("Directly", &direct[..1]), ("By way of 32 bits", by_the_bench), ("To 16 bits, on to 32 and back", direct)] {
+        said += &format!(" {name}:");
+        for step in steps {
+            said += &format!(" {}, the word {} of {} bits, {};", value(step.word)?, hex(step.word), step.word.width(), step.saying);
+        }
+        said.pop();
+        said.push('.');
+    }
+    Ok(said)
+}
+
+fn arrow(name: &str, thick: f64, dashes: &str, from: (f64, f64), to: (f64, f64)) {
+    println!(
+        "<line x1=\"{:.2}\" y1=\"{:.2}\" x2=\"{:.2}\" y2=\"{:.2}\" stroke=\"black\" stroke-width=\"{thick}\" stroke-dasharray=\"{}\" marker-end=\"url(#head)\"><title>{name}</title></line>",
+        from.0,
+        from.1,
+        to.0,
+        to.1,
+        if dashes.is_empty() { "none" } else { dashes },
+    );
+}
+
+fn put_word(x: f64, row: usize, word: Takum) -> Result<(), Refusal> {
+    let y = ROWS[row].1;
+    println!("<rect x=\"{:.2}\" y=\"{:.2}\" width=\"{}\" height=\"{}\" fill=\"white\" stroke=\"black\"/>", x - BOX.0 / 2.0, y - BOX.1 / 2.0, BOX.0, BOX.1);
+    bold(x, y - 3.0, &value(word)?);
+    text(x, y + 15.0, "middle", 12, &hex(word));
+    Ok(())
+}
+
+// ---- the table: an example of each law
+fn print_table() -> Result<(), Refusal> {
+    let (first, plain) = (a_little_more()?, plain_513()?);
+    let tally = Takum::try_from((BENCH, 515_i64))?;
+    println!("| law | bits | what becomes of the word |");
+    println!("|---|---|---|");
+    print_way("1, out and back", first, &[TAG, BENCH, TAG])?;
+    print_way("2, the word", first, &[BENCH])?;
+    print_way("2, its negation", -first, &[BENCH])?;
+    print_way("2, the word", first, &[TAG])?;
+    print_way("2, its negation", -first, &[TAG])?;
+    for width in [Width::W64, BENCH, TAG] {
+        print_order(plain, first, width)?;
+    }
+    print_way("4, directly", first, &[TAG])?;
+    print_way("4, by way of 32", first, &[BENCH, TAG])?;
+    print_way("5, directly", plain, &[TAG])?;
+    print_way("5, by way of 32, which says exact", plain, &[BENCH, TAG])?;
+    print_way("6, directly", tally, &[TAG])?;
+    print_way("6, by way of 64, which is wider", tally, &[Width::W64, TAG])?;
+    print_way("7, to the same width", first, &[Width::W64])
+}
+
+fn print_way(law: &str, first: Takum, widths: &[Width]) -> Result<(), Refusal> {
+    let mut bits = first.width().to_string();
+    let mut said = format!("{} `{}`", value(first)?, hex(first));
+    for step in way(first, widths)? {
+        bits += &format!(", {}", step.word.width());
+        said += &format!("; {} `{}`, {}", value(step.word)?, hex(step.word), step.saying);
+    }
+    println!("| {law} | {bits} | {said} |");
+    Ok(())
+}
+
+fn print_order(x: Takum, y: Takum, width: Width) -> Result<(), Refusal> {
+    let moved = |word: Takum| word.move_to(width, Rule::Rounded).map(|step: Written<Takum>| step.word);
+    let (x, y) = (moved(x)?, moved(y)?);
+    let order = match x.partial_cmp(&y) {
+        Some(Ordering::Less) => "is below",
+        Some(Ordering::Equal) => "equals",
+        Some(Ordering::Greater) => "is above",
+        None => "has no order with",
+    };
+    println!("| 3, two words | {width} | {} `{}` {order} {} `{}` |", value(x)?, hex(x), value(y)?, hex(y));
+    Ok(())
+}

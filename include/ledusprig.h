@@ -260,7 +260,8 @@ TAKUM_MUST_USE takum_word_answer takum_negate(uint32_t n, uint64_t word) TAKUM_N
 TAKUM_MUST_USE takum_saying_answer takum_write(uint32_t n, takum_rule rule, bool negative, uint64_t m, int32_t k) TAKUM_NOEXCEPT;
 
 /* The word of width `to` for the value of a word of width `from`, and which way it went; NaR gives NaR. Going wider never changes a value, so it is
- * always exact. INEXACT by the strict rule. */
+ * always exact. INEXACT by the strict rule. Move directly: a rounded move by way of a narrower width need not give the same word. 513 + 2^-20 goes
+ * from 64 bits to 514 at 16, and by way of 32 bits to 512. */
 TAKUM_MUST_USE takum_saying_answer takum_move(uint32_t from, uint32_t to, takum_rule rule, uint64_t word) TAKUM_NOEXCEPT;
 
 /* The word for a whole number, and which way it went. INEXACT by the strict rule. */

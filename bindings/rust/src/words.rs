@@ -248,6 +248,20 @@ impl Takum {
     /// assert_eq!(tally.move_to(Width::W16, Rule::Rounded)?, Written { word: tag, saying: Saying::Above });
     /// # Ok::<(), Refusal>(())
     /// ```
+    ///
+    /// Move directly: a rounded move by way of a narrower width need not give the same word, unless its first move says exact.
+    ///
+    /// ```
+    /// use ledusprig::{Refusal, Rule, Value, Width};
+    ///
+    /// // 513 + 2^-20 goes to 514 at 16 bits, and by way of 32 bits to 512
+    /// let length = Width::W64.write(Rule::Strict, Value { negative: false, m: (513 << 20) + 1, k: -20 })?.word;
+    /// assert_eq!(length.move_to(Width::W16, Rule::Rounded)?.word.to_string(), "514");
+    /// let bench = length.move_to(Width::W32, Rule::Rounded)?;
+    /// assert!(!bench.is_exact());
+    /// assert_eq!(bench.word.move_to(Width::W16, Rule::Rounded)?.word.to_string(), "512");
+    /// # Ok::<(), Refusal>(())
+    /// ```
     pub fn move_to(self, to: Width, rule: Rule) -> Result<Written<Takum>, Refusal> {
         to.written(calls::move_word(self.width.bits, to.bits, rule, self.word))
     }

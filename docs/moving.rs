@@ -13,8 +13,8 @@ const TITLE: &str = "Three ways of 513 + 2^-20 from 64 bits to 16";
 const ROWS: [(Width, f64); 3] = [(Width::W64, 116.0), (BENCH, 246.0), (TAG, 376.0)];
 const LEFT: f64 = 90.0;
 const ON_512: f64 = 214.0;
-const ON_513: f64 = 412.0;
-const JUST_ABOVE: f64 = 470.0;
+const ON_513: f64 = 479.0; // midway
+const JUST_ABOVE: f64 = 500.0;
 const ON_514: f64 = 744.0;
 const BOX: (f64, f64) = (164.0, 48.0);
 
@@ -53,6 +53,7 @@ fn value(word: Takum) -> Result<String, Refusal> {
     if let (Err(_), Kind::Number { negative, h, m, p }) = (word.take_whole(Taking::Strict), word.read().kind) {
         let below = p as i32 - h; // so many bits stand after the point
         let rest = m & ((1 << below) - 1);
+        assert!(rest.is_power_of_two(), "{m} * 2^-{below} is no such value");
         let size = format!("{} + 2^{}", m >> below, rest.trailing_zeros() as i32 - below);
         return Ok(if negative { format!("-({size})") } else { size });
     }
@@ -81,7 +82,7 @@ fn draw() -> Result<(), Refusal> {
     let below = |row: usize| ROWS[row].1 + BOX.1 / 2.0;
     let above = |row: usize| ROWS[row].1 - BOX.1 / 2.0;
     arrow("direct", 3.0, "", (JUST_ABOVE + 40.0, below(0)), (ON_514 - 34.0, above(2)));
-    arrow("by way of 32", 1.5, "7 5", (JUST_ABOVE - 30.0, below(0)), (ON_513, above(1)));
+    arrow("by way of 32", 1.5, "7 5", (ON_513, below(0)), (ON_513, above(1)));
     arrow("by way of 32", 1.5, "7 5", (ON_513 - 20.0, below(1)), (ON_512, above(2)));
     arrow("out", 1.2, "", (ON_514 + 26.0, above(2)), (ON_514 + 26.0, below(1)));
     arrow("back", 1.2, "", (ON_514 + 56.0, below(1)), (ON_514 + 56.0, above(2)));
@@ -90,9 +91,9 @@ fn draw() -> Result<(), Refusal> {
     put_word(ON_514, 1, direct[1].word)?;
     put_word(ON_512, 2, by_the_bench[1].word)?;
     put_word(ON_514, 2, direct[2].word)?;
-    text(ON_513 - 22.0, 190.0, "end", 13, &by_the_bench[0].saying.to_string());
-    text(276.0, 306.0, "end", 13, &format!("a tie, to the even word: {}", by_the_bench[1].saying));
-    text(580.0, 190.0, "start", 13, &format!("direct: {}", direct[0].saying));
+    text(ON_513 - 10.0, 190.0, "end", 13, &by_the_bench[0].saying.to_string());
+    text(330.0, 306.0, "end", 13, &format!("a tie, to the word whose last bit is 0: {}", by_the_bench[1].saying));
+    text(600.0, 190.0, "start", 13, &format!("direct: {}", direct[0].saying));
     text(ON_514 + 18.0, 306.0, "end", 13, &format!("out: {}", direct[1].saying));
     text(ON_514 + 64.0, 306.0, "start", 13, &format!("back: {}", direct[2].saying));
     for (line, said) in told(&direct, &by_the_bench)?.iter().enumerate() {
@@ -164,7 +165,10 @@ fn print_table() -> Result<(), Refusal> {
     print_way("5, by way of 32, which says exact", plain, &[BENCH, TAG])?;
     print_way("6, directly", tally, &[TAG])?;
     print_way("6, by way of 64, which is wider", tally, &[Width::W64, TAG])?;
-    print_way("7, to the same width", first, &[Width::W64])
+    for width in [Width::W64, BENCH, TAG] {
+        print_way("7, to the same width", first.move_to(width, Rule::Rounded)?.word, &[width])?;
+    }
+    Ok(())
 }
 
 fn print_way(law: &str, first: Takum, widths: &[Width]) -> Result<(), Refusal> {
@@ -182,9 +186,9 @@ fn print_order(x: Takum, y: Takum, width: Width) -> Result<(), Refusal> {
     let moved = |word: Takum| word.move_to(width, Rule::Rounded).map(|step: Written<Takum>| step.word);
     let (x, y) = (moved(x)?, moved(y)?);
     let order = match x.partial_cmp(&y) {
-        Some(Ordering::Less) => "is below",
+        Some(Ordering::Less) => "is less than",
         Some(Ordering::Equal) => "equals",
-        Some(Ordering::Greater) => "is above",
+        Some(Ordering::Greater) => "is greater than",
         None => "has no order with",
     };
     println!("| 3, two words | {width} | {} `{}` {order} {} `{}` |", value(x)?, hex(x), value(y)?, hex(y));

@@ -77,7 +77,7 @@ fn rounded(from: Width, to: Width, word: u64) -> Written {
     move_word(from, to, Rule::Rounded, word)
 }
 
-// No word is refused here; 0 would stand for one that was, and its refusal is taken in.
+// No word is refused here, since the widths are good and the words are cut to them: 0 stands for what doesn't come up.
 fn word_of(written: Written) -> u64 {
     match written {
         Written::Word { word, .. } => word,

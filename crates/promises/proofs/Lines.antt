@@ -71,11 +71,6 @@ so-too R a [] P Q f x = f x
 so-too R a (line number When ∷ lines) P Q f (inl x) = inl x
 so-too R a (line number When ∷ lines) P Q f (inr (h, x)) = inr (h, so-too R a lines P Q f x)
 
--- and where the answer is no refusal or is one
-pub then-so : {A : Type 0} (R : Refusal → A) (a : A) (lines : List Line) (P : Type 0) → (((q : Refusal) → a ≡ R q → ⊥) → P) → Follows R a lines → FollowsUpTo R a lines P
-unfolding Follows
-then-so R a lines P f x = so-too R a lines _ P f x
-
 -- an answer that is no refusal: no line holds, whatever is answered in the end
 pub none-hold : {A B : Type 0} (R : Refusal → A) (R' : Refusal → B) (a : A) (b : B) (lines : List Line) (P : Type 0) → P → ((q : Refusal) → a ≡ R q → ⊥) → Follows R a lines → FollowsUpTo R' b lines P
 unfolding Follows FollowsUpTo

@@ -3,88 +3,86 @@
 use mathlib.Core.Path.{_≡_, refl, sym, ap, ap₂, _∙_, subst, subst₂}
 use mathlib.Core.Logic.{_⊎_, inl, inr, ⊎-elim}
 use mathlib.Core.Bool.{Bool, true, false, _&&_, cond}
-use Prim.Native.Nat.{ℕ, _+_, _-_, _*_, _^_, _≤_, _<_}
-use native.Mathlib.Nat.{mul-one, zero-lt-suc, le-refl}
+use Prim.Native.Nat.{ℕ, _+_, _-_, _*_, _^_, _≤_}
+use native.Mathlib.Nat.{mul-one, zero-lt-suc}
 use native.Mathlib.Omega.{arith}
 use lib.Dec.{T}
 use lib.IntN.{ℤ, pos, negsuc, negℤ, natAbs, pos-ne-negsuc}
 use lib.Signed.{ltZ}
 use Rattle.bounds.specs.declared.answer.Answer.{Answer}
 use Rattle.bounds.specs.declared.answer.Written.{Written}
-use Rattle.bounds.specs.declared.refusal.Refusal.{Refusal}
-use Rattle.bounds.specs.declared.refusal.Verdict.{Verdict}
-use Rattle.bounds.specs.declared.saying.Saying.{Saying}
 use Rattle.bounds.specs.declared.saying.Saying.the-variants.{Exact, Below, Above}
-use Rattle.bounds.specs.Refusals.{widthTest, strayTest, _then_, IsWord, through, refused}
-use Rattle.bounds.specs.Sayings.{oppositeSaying, plain}
+use Rattle.bounds.specs.Refusals.{IsWord, through, refused}
+use Rattle.bounds.specs.Sayings.{plain}
 use Rattle.bounds.specs.Widths.{narWord}
-use Rattle.bounds.proofs.Answers.{wordOf, GivesAWord}
-use Rattle.bounds.proofs.Verdicts.{width-fits, width-through, stray-fits, words-through, word-passes, move-passes, move-through, answered}
+use Rattle.bounds.proofs.Powers.{shl-below}
+use Rattle.bounds.proofs.Answers.{wordOf}
+use Rattle.bounds.proofs.Verdicts.{width-through, words-through, word-passes, move-passes, move-through, answered}
 use Rattle.word.specs.Takum.{Takum, real, NaR, power, regimeOf, characteristicOf, S, D, R, r, p, C, F, c, e, value, meaning, N, padded, takum}
 use Rattle.word.specs.Reads.{signedSize}
 use Rattle.word.specs.Orders.{signed, order, negated}
 use Rattle.word.proofs.Heads.{both}
-use Rattle.word.proofs.Words.{takum-NaR}
+use Rattle.word.proofs.Words.{takum-NaR, takum-zero, zeros-appended}
 use Rattle.word.proofs.Values.{NaR-word, NaR-below, above-NaR, order-same, order-exchanged, order-of-values}
 use Rattle.order.specs.declared.order.Comparison.{Comparison}
 use Rattle.order.specs.Orders.{Compares, Negates}
 use Rattle.round.specs.declared.value.Rule.{Rule}
-use Rattle.round.specs.Writes.{IsWritten}
+use Rattle.round.specs.Writes.{zero, other, IsWritten}
 use Rattle.round.proofs.Order.{NotGreater, rounding-keeps-order}
 use Rattle.write.specs.Writes.{isNegative, IsMoved, Moves}
 use Rattle.write.specs.Sayings.{SaysMoved, MovesAndSays}
-use Rattle.write.proofs.Moves.{rejoined, moved-to-the-same, rounded-moves}
-use Rattle.write.proofs.OneOutcome.{moves-one, moves-and-says-one}
+use Rattle.write.proofs.Moves.{rejoined, moved-to-the-same}
+use Rattle.write.proofs.OneOutcome.{moves-and-says-one}
 use Rattle.promises.specs.Sayings as sayings
 use Rattle.promises.specs.Sayings.{IsFit, Gives, word, opposite}
-use Rattle.promises.specs.Writing.{WiderNeverChangesNorRefuses}
 use Rattle.promises.specs.Moving as promise
 use Rattle.promises.specs.Moving.{goes-on, stops, GoesOutAndBack, OutAndBack, GoesNegated, MovesNegated, GoesCompared, ComparesMoved, IsNotReversed, GoesBy}
 use Rattle.promises.proofs.Sayings.{meaning-kept, moved-words, a-move-is-exact-where-the-meaning-stays, negating-exchanges-below-and-above}
 use Rattle.promises.proofs.Settled.{size-at, is-positive, past-half, before-half, is-rounded, went, size-settled, settled, meaning-settled, move-settled, moved-so}
 use Rattle.promises.proofs.Tests.{size-of, is-word}
 use Rattle.promises.proofs.WordRefusals.{word-none}
-use Rattle.promises.proofs.Writing.{target-tested, wider-never-changes-nor-refuses}
+use Rattle.promises.proofs.Writing.{target-tested}
 
 -- ---- wider
--- at a width that is at least as wide there is a word with the same meaning, and the move gives it
-record Widened (n n' w : ℕ) (r : Answer) : Type 0 where
-  w' : ℕ
-  is : r ≡ Answer.Word w'
-  word : IsWord n' w'
-  same : takum n' w' ≡ takum n w
-
-widened : (n n' w : ℕ) (rule : Rule) (r : Answer) → n ≤ n' → n' ≤ 64 → IsWord n w → Moves n n' rule w r → Widened n n' w r
-unfolding WiderNeverChangesNorRefuses
-widened n n' w rule r wide top i = by n' (omega (arith, wide)) top
+-- at a width that is at least as wide there is a word with the same meaning
+widened : (n n' w : ℕ) → n ≤ n' → n' ≤ 64 → IsWord n w → (w' : ℕ) × IsWord n' w' × (takum n' w' ≡ takum n w)
+widened n n' w wide top i = subst (λ (m : ℕ). m ≤ 64 → (w' : ℕ) × IsWord m w' × (takum m w' ≡ takum n w)) sum at-sum top
   where
     more : ℕ
     more = n' - n
 
-    by : (n' : ℕ) → n + more ≡ n' → n' ≤ 64 → Moves n n' rule w r → Widened n n' w r
-    by n' e top x = subst (λ (m : ℕ). m ≤ 64 → Moves n m rule w r → Widened n m w r) e at-sum top x
-      where
-        at-sum : n + more ≤ 64 → Moves n (n + more) rule w r → Widened n (n + more) w r
-        at-sum room x =
-            let t = wider-never-changes-nor-refuses n more w rule r room i x in
-            record { w' = w * 2 ^ more; is = t .0; word = moved-words n (n + more) rule w (w * 2 ^ more) (subst (Moves n (n + more) rule w) (t .0) x) .1; same = t .1 }
+    sum : n + more ≡ n'
+    sum = omega (arith, wide)
+
+    at-sum : n + more ≤ 64 → (w' : ℕ) × IsWord (n + more) w' × (takum (n + more) w' ≡ takum n w)
+    at-sum room = (w * 2 ^ more, record { least = omega (arith, i .least); most = room; fits = shl-below n more (n + more) (i .fits) refl }, zeros-appended n more w (i .least) room (i .fits))
 
 -- ---- out and back
-pub out-and-back-is-the-first-move : promise.OutAndBackIsTheFirstMove
-unfolding promise.OutAndBackIsTheFirstMove GoesOutAndBack wordOf widened
-out-and-back-is-the-first-move a b c w r wide top (stops q m e) = subst (Moves a b Rule.Rounded w) (sym e) m
-out-and-back-is-the-first-move a b c w r wide top (goes-on u m (stops q m' e)) =
-    let t = widened b c u Rule.Rounded (Answer.Refused q) wide top (moved-words a b Rule.Rounded w u m .1) m' in
-    absurd (word-none (t .w') (Answer.Refused q) (t .is) q refl)
-out-and-back-is-the-first-move a b c w r wide top (goes-on u m (goes-on v m' back)) =
-    let i = moved-words a b Rule.Rounded w u m .1 in
-    let t = widened b c u Rule.Rounded (Answer.Word v) wide top i m' in
-    let same = ap wordOf (t .is) in
-    subst (Moves a b Rule.Rounded w) (sym (moved-to-the-same c b v u Rule.Rounded r (subst (IsWord c) (sym same) (t .word)) i (sym (ap (takum c) same ∙ t .same)) back)) m
+-- a word of b bits, on to c by either rule: it is a word of c bits with the same meaning, and no refusal
+on-to : (b c u : ℕ) (rule : Rule) (r : Answer) → b ≤ c → c ≤ 64 → IsWord b u → Moves b c rule u r → (v : ℕ) × (r ≡ Answer.Word v) × IsWord c v × (takum c v ≡ takum b u)
+on-to b c u rule r wide top i m = let t = widened b c u wide top i in (t .0, moved-to-the-same b c u (t .0) rule r i (t .1) (t .2) m, t .1, t .2)
 
-pub goes-out-and-back : (a b c w : ℕ) (r : Answer) → GoesOutAndBack a b c w r → OutAndBack a b c w r
+pub the-way-back-is-exact : promise.TheWayBackIsExact
+unfolding promise.TheWayBackIsExact wordOf
+the-way-back-is-exact a b c w u v rule r wide top m m' back =
+    let i = moved-words a b Rule.Rounded w u m .1 in
+    let t = on-to b c u rule (Answer.Word v) wide top i m' in
+    meaning-kept c b Rule.Rounded (t .0) u r (t .2) i (sym (t .3)) (subst (λ (v : ℕ). MovesAndSays c b Rule.Rounded v r) (ap wordOf (t .1)) back)
+
+pub out-and-back-is-the-first-move : promise.OutAndBackIsTheFirstMove
+unfolding promise.OutAndBackIsTheFirstMove GoesOutAndBack wordOf
+out-and-back-is-the-first-move a b c w rule r wide top (stops q m e) = subst (Moves a b Rule.Rounded w) (sym e) m
+out-and-back-is-the-first-move a b c w rule r wide top (goes-on u m (stops q m' e)) =
+    let t = on-to b c u rule (Answer.Refused q) wide top (moved-words a b Rule.Rounded w u m .1) m' in
+    absurd (word-none (t .0) (Answer.Refused q) (t .1) q refl)
+out-and-back-is-the-first-move a b c w rule r wide top (goes-on u m (goes-on v m' back)) =
+    let i = moved-words a b Rule.Rounded w u m .1 in
+    let t = on-to b c u rule (Answer.Word v) wide top i m' in
+    subst (Moves a b Rule.Rounded w) (sym (moved-to-the-same c b (t .0) u Rule.Rounded r (t .2) i (sym (t .3)) (subst (λ (v : ℕ). Moves c b Rule.Rounded v r) (ap wordOf (t .1)) back))) m
+
+pub goes-out-and-back : (a b c w : ℕ) (r : Answer) → GoesOutAndBack a b c Rule.Rounded w r → OutAndBack a b c w r
 unfolding promise.OutAndBackIsTheFirstMove
-goes-out-and-back a b c w r x = record { goes = x; first = λ wide top. out-and-back-is-the-first-move a b c w r wide top x }
+goes-out-and-back a b c w r x = record { goes = x; first = λ wide top. out-and-back-is-the-first-move a b c w Rule.Rounded r wide top x }
 
 -- ---- negation
 pub the-negation-moves-to-the-negation : promise.TheNegationMovesToTheNegation
@@ -171,6 +169,22 @@ moving-never-reverses-the-order a b x y before after p (goes-on u m (goes-on v m
     subst₂ IsNotReversed (answered-order a x y before p .2) (answered-order b u v after q .2)
     (not-reversed (signed a x) (signed a y) (signed b u) (signed b v) (still-not-greater a b x y u v m m') (still-not-greater a b y x v u m' m))
 
+-- what has a value is moved to a word that has one
+moved-real : (b : ℕ) (z : ℤ) (v : ℕ) → IsMoved b Rule.Rounded (real z) (Answer.Word v) → (z' : ℤ) × (takum b v ≡ real z')
+unfolding IsMoved IsWritten
+moved-real b z v (zero e e') = (pos 0, ap (takum b) e' ∙ takum-zero b)
+moved-real b z v (other h x) = (_, x .is .means)
+
+pub NaR-stays-below-every-other-word : promise.NaRStaysBelowEveryOtherWord
+unfolding promise.NaRStaysBelowEveryOtherWord GoesCompared IsMoved narWord wordOf
+NaR-stays-below-every-other-word a b x y z after p p' (stops q m e) = let z : _≡_ {A = ℕ} 0 1 = cc in absurd (omega arith)
+NaR-stays-below-every-other-word a b x y z after p p' (goes-on u m (stops q m' e)) = let z : _≡_ {A = ℕ} 0 1 = cc in absurd (omega arith)
+NaR-stays-below-every-other-word a b x y z after p p' (goes-on u m (goes-on v m' q)) =
+    let t = answered-order b u v after q in
+    let nar = takum-NaR b u (t .0 .least) (t .0 .most) (ap wordOf (subst (λ (s : Takum). IsMoved b Rule.Rounded s (Answer.Word u)) p (moved-meaning a b x u m))) in
+    let k = moved-real b z v (subst (λ (s : Takum). IsMoved b Rule.Rounded s (Answer.Word v)) p' (moved-meaning a b y v m')) in
+    sym (t .2) ∙ NaR-below b u v (t .0) (t .1) (k .0) nar (k .1)
+
 pub goes-compared : (a b x y : ℕ) (r : Comparison) → GoesCompared a b x y r → ComparesMoved a b x y r
 unfolding promise.MovingNeverReversesTheOrder
 goes-compared a b x y r g = record { goes = g; not-reversed = λ before after p e. moving-never-reverses-the-order a b x y before after p (subst (GoesCompared a b x y) e g) }
@@ -185,25 +199,22 @@ moved-alike a b c w u r r' i j same x y = moves-and-says-one a c Rule.Rounded w 
     by (through h z) = let t = width-through c (move-through b c u h .1) in through (move-passes a c w i (t .0) (t .1)) (subst (λ (t : Takum). IsMoved c Rule.Rounded t (plain r)) same z)
     by (refused h e) = refused (target-tested a c w i ∙ sym (target-tested b c u j) ∙ h) e
 
--- by way of b, where the word there means what the word means
-by-the-same : (a b c w u : ℕ) (r r' : Written) → Moves a b Rule.Rounded w (Answer.Word u) → takum b u ≡ takum a w → GoesBy a b c w r → MovesAndSays a c Rule.Rounded w r' → r ≡ r'
+-- by way of b, where a word there means what the word means
+by-the-same : (a b c w u : ℕ) (r r' : Written) → IsWord a w → IsWord b u → takum b u ≡ takum a w → GoesBy a b c w r → MovesAndSays a c Rule.Rounded w r' → r ≡ r'
 unfolding GoesBy wordOf
-by-the-same a b c w u r r' m same (stops q m' e) x = absurd (word-none u (Answer.Refused q) (moves-one a b Rule.Rounded w (Answer.Refused q) (Answer.Word u) m' m) q refl)
-by-the-same a b c w u r r' m same (goes-on v m' y) x =
-    let one = ap wordOf (moves-one a b Rule.Rounded w (Answer.Word v) (Answer.Word u) m' m) in
-    let i = moved-words a b Rule.Rounded w u m in
-    moved-alike a b c w u r r' (i .0) (i .1) same (subst (λ (v : ℕ). MovesAndSays b c Rule.Rounded v r) one y) x
+by-the-same a b c w u r r' i j same (stops q m e) x = absurd (word-none u (Answer.Refused q) (moved-to-the-same a b w u Rule.Rounded (Answer.Refused q) i j same m) q refl)
+by-the-same a b c w u r r' i j same (goes-on v m y) x =
+    moved-alike a b c w u r r' i j same (subst (λ (v : ℕ). MovesAndSays b c Rule.Rounded v r) (ap wordOf (moved-to-the-same a b w u Rule.Rounded (Answer.Word v) i j same m)) y) x
 
 pub an-exact-middle-changes-nothing : promise.AnExactMiddleChangesNothing
 unfolding promise.AnExactMiddleChangesNothing sayings.AMoveIsExactWhereTheMeaningStays MovesAndSays
-an-exact-middle-changes-nothing a b c w u r r' x = by-the-same a b c w u r r' (x .answers) (a-move-is-exact-where-the-meaning-stays a b Rule.Rounded w u Exact x .0 refl)
+an-exact-middle-changes-nothing a b c w u r r' x =
+    let t = moved-words a b Rule.Rounded w u (x .answers) in
+    by-the-same a b c w u r r' (t .0) (t .1) (a-move-is-exact-where-the-meaning-stays a b Rule.Rounded w u Exact x .0 refl)
 
 pub a-middle-as-wide-changes-nothing : promise.AMiddleAsWideChangesNothing
-unfolding promise.AMiddleAsWideChangesNothing GoesBy
-a-middle-as-wide-changes-nothing a b c w r r' i wide top g x =
-    let m = rounded-moves a b w i (omega (arith, i .least, wide)) top in
-    let t = widened a b w Rule.Rounded (Answer.Word (m .0)) wide top i (m .1) in
-    by-the-same a b c w (t .w') r r' (subst (Moves a b Rule.Rounded w) (t .is) (m .1)) (t .same) g x
+unfolding promise.AMiddleAsWideChangesNothing
+a-middle-as-wide-changes-nothing a b c w r r' i wide top = let t = widened a b w wide top i in by-the-same a b c w (t .0) r r' i (t .1) (t .2)
 
 pub a-move-to-the-same-width-is-the-word : promise.AMoveToTheSameWidthIsTheWord
 unfolding promise.AMoveToTheSameWidthIsTheWord

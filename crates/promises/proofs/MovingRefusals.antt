@@ -1,5 +1,5 @@
--- The refusals of the laws of moving, as functions, follow the table: what one call gives is a word for the next, which can refuse only a width.
--- Assumes nothing.
+-- The refusals of the laws of moving, as functions, follow the table: what one call gives is a word for the next, which can refuse only what is new to it, a
+-- width or the second word. Assumes nothing.
 use mathlib.Core.Path.{_≡_, refl, sym, ap, subst}
 use mathlib.Core.List.{List, [], _∷_}
 use mathlib.Core.Logic.{_⊎_}
@@ -19,16 +19,11 @@ use Rattle.order.specs.Orders.{Negates}
 use Rattle.round.specs.declared.value.Rule.{Rule}
 use Rattle.write.specs.Writes.{Moves}
 use Rattle.write.specs.Sayings.{MovesAndSays}
-use Rattle.promises.specs.Moving.{AndThen, goes-on, stops, GoesOutAndBack, GoesNegated, GoesCompared}
+use Rattle.promises.specs.Moving.{GoesOutAndBack, GoesNegated, GoesCompared}
 use Rattle.promises.specs.Refusals.{Line, FollowsUpTo, Follows, width, stray, moveLines}
 use Rattle.promises.proofs.Lines.{carry, so-too, none-hold, handed-on, past, good-width}
 use Rattle.promises.proofs.Sayings.{moved-words}
-use Rattle.promises.proofs.WordRefusals.{of-word, word-none, rounded-strict, compare-follows, move-follows}
-
--- the lines of the first call, and then what is so of the next
-after-the-first : {A : Type 0} (R : Refusal → A) (First : Answer → Type 0) (Next : ℕ → A → Type 0) (lines : List Line) (P : Type 0) (r : A) → ((x : Answer) → First x → Follows Answer.Refused x lines) → ((w : ℕ) → First (Answer.Word w) → Next w r → P) → AndThen R First Next r → FollowsUpTo R r lines P
-after-the-first R First Next lines P r first next (goes-on w x y) = none-hold Answer.Refused R (Answer.Word w) r lines P (next w x y) (word-none w (Answer.Word w) refl) (first (Answer.Word w) x)
-after-the-first {A = A} R First Next lines P r first next (stops q x e) = subst (λ (r : A). FollowsUpTo R r lines P) (sym e) (handed-on R q lines P (first (Answer.Refused q) x))
+use Rattle.promises.proofs.WordRefusals.{of-word, after-the-first, word-none, rounded-strict, compare-follows, move-follows}
 
 -- a word of the width has no stray bit
 no-stray : (n w : ℕ) → IsWord n w → 2 ^ n ≤ w → ⊥
@@ -55,7 +50,7 @@ opposite-word n w o (through h e) = subst (IsWord n) (sym (ap wordOf e)) (negate
 opposite-word n w o (refused h e) = let z : _≡_ {A = ℕ} 0 1 = cc in absurd (omega arith)
 
 -- ---- the three functions
-pub out-and-back-follows : (a b c w : ℕ) (r : Answer) → GoesOutAndBack a b c w r → Follows Answer.Refused r (width a ∷ width b ∷ stray a w ∷ width c ∷ [])
+pub out-and-back-follows : (a b c w : ℕ) (r : Answer) → GoesOutAndBack a b c Rule.Rounded w r → Follows Answer.Refused r (width a ∷ width b ∷ stray a w ∷ width c ∷ [])
 unfolding GoesOutAndBack Follows FollowsUpTo
 out-and-back-follows a b c w r = after-the-first Answer.Refused _ _ (width a ∷ width b ∷ stray a w ∷ []) _ r (rounded-follows a b w) (λ u m.
     let i = moved-words a b Rule.Rounded w u m .1 in

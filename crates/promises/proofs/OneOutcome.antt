@@ -40,6 +40,7 @@ pub use Rattle.column.proofs.OneOutcome.{moves-column-one, holds-one, moved-col
 pub use Rattle.sheet.proofs.OneOutcome.{reads-block-one, fills-results-one, writes-block-one, fills-buffer-one}
 use Rattle.promises.specs.Demands.{ComesBack}
 use Rattle.promises.specs.Writing.{Goes, ComesHome}
+use Rattle.promises.proofs.WordRefusals.{chain-step}
 use Rattle.promises.specs.Moving.{AndThen, goes-on, stops, GoesOutAndBack, OutAndBack, GoesNegated, MovesNegated, GoesCompared, ComparesMoved}
 
 -- an answer that is given outright
@@ -125,21 +126,7 @@ sizes-one t a b x y =
     ap₂ (λ (s : Bool) (h : ℤ). record { negative = s; h = h; m = a .m }) (x .sign ∙ sym (y .sign)) (x .characteristic ∙ sym (y .characteristic))
     ∙ ap (λ (m : ℕ). record { negative = b .negative; h = b .h; m = m }) (x .significand ∙ sym (y .significand))
 
--- ---- a chain of strict moves
-goes-one : (home : ℕ) (ns : List ℕ) (n w : ℕ) (a b : Answer) → Goes home n w ns a → Goes home n w ns b → a ≡ b
-unfolding Goes wordOf GivesAWord
-goes-one home [] n w a b x y = moves-one n home Rule.Strict w a b x y
-goes-one home (n' ∷ ns) n w a b (inl x) (inl y) =
-    let same = ap wordOf (moves-one n n' Rule.Strict w (Answer.Word (x .0)) (Answer.Word (y .0)) (x .1) (y .1)) in
-    goes-one home ns n' (y .0) a b (subst (λ (v : ℕ). Goes home n' v ns a) same (x .2)) (y .2)
-goes-one home (n' ∷ ns) n w a b (inl x) (inr y) = absurd (subst GivesAWord (moves-one n n' Rule.Strict w (Answer.Word (x .0)) (Answer.Refused (y .0)) (x .1) (y .1)) tt)
-goes-one home (n' ∷ ns) n w a b (inr x) (inl y) = absurd (subst GivesAWord (moves-one n n' Rule.Strict w (Answer.Word (y .0)) (Answer.Refused (x .0)) (y .1) (x .1)) tt)
-goes-one home (n' ∷ ns) n w a b (inr x) (inr y) = x .2 ∙ moves-one n n' Rule.Strict w (Answer.Refused (x .0)) (Answer.Refused (y .0)) (x .1) (y .1) ∙ sym (y .2)
-
-pub comes-home-one : (n w : ℕ) (ns : List ℕ) (a b : Answer) → ComesHome n w ns a → ComesHome n w ns b → a ≡ b
-comes-home-one n w ns a b x y = goes-one n ns n w a b (x .goes) (y .goes)
-
--- ---- the laws of moving: of one call after another, each of which allows one outcome
+-- ---- one call after another, each of which allows one outcome
 and-then-one : {A : Type 0} (R : Refusal → A) (First : Answer → Type 0) (Next : ℕ → A → Type 0) → ((x y : Answer) → First x → First y → x ≡ y) → ((w : ℕ) (a b : A) → Next w a → Next w b → a ≡ b) → (a b : A) → AndThen R First Next a → AndThen R First Next b → a ≡ b
 unfolding wordOf GivesAWord
 and-then-one R First Next first next a b (goes-on w x y) (goes-on w' x' y') = next w' a b (subst (λ (v : ℕ). Next v a) (ap wordOf (first (Answer.Word w) (Answer.Word w') x x')) y) y'
@@ -147,6 +134,16 @@ and-then-one R First Next first next a b (goes-on w x y) (stops q x' e) = absurd
 and-then-one R First Next first next a b (stops q x e) (goes-on w x' y) = absurd (subst GivesAWord (first (Answer.Word w) (Answer.Refused q) x' x) tt)
 and-then-one R First Next first next a b (stops q x e) (stops q' x' e') = let same : q ≡ q' = let z = first (Answer.Refused q) (Answer.Refused q') x x' in cc in e ∙ ap R same ∙ sym e'
 
+-- a chain of strict moves
+goes-one : (home : ℕ) (ns : List ℕ) (n w : ℕ) (a b : Answer) → Goes home n w ns a → Goes home n w ns b → a ≡ b
+unfolding Goes
+goes-one home [] n w a b x y = moves-one n home Rule.Strict w a b x y
+goes-one home (n' ∷ ns) n w a b x y = and-then-one Answer.Refused _ _ (moves-one n n' Rule.Strict w) (λ v. goes-one home ns n' v) a b (chain-step home n' ns n w a x) (chain-step home n' ns n w b y)
+
+pub comes-home-one : (n w : ℕ) (ns : List ℕ) (a b : Answer) → ComesHome n w ns a → ComesHome n w ns b → a ≡ b
+comes-home-one n w ns a b x y = goes-one n ns n w a b (x .goes) (y .goes)
+
+-- the laws of moving
 pub out-and-back-one : (a b c w : ℕ) (r s : Answer) → OutAndBack a b c w r → OutAndBack a b c w s → r ≡ s
 unfolding GoesOutAndBack
 out-and-back-one a b c w r s x y =

@@ -49,10 +49,11 @@ use Rattle.binary64.specs.declared.taking.Binary64.{Binary64}
 use Rattle.binary64.specs.Takes as taken
 use Rattle.binary64.specs.Writes.{IsWrittenBinary64, WritesBinary64}
 use Rattle.promises.specs.Writing.{numerator, denominator, Goes}
+use Rattle.promises.specs.Moving.{AndThen, goes-on, stops}
 use Rattle.promises.specs.Hub.{significand, longNumerator, longDenominator}
 use Rattle.promises.specs.Numbers.{IsWhole}
-use Rattle.promises.specs.Refusals.{FollowsUpTo, Follows, width, stray, nar, noWord, noWhole, noWidth, over, shortLines, moveLines, IsBinary64, ChainFollows, OutsideSigned64}
-use Rattle.promises.proofs.Lines.{Tells, holds, fails, width-tells, stray-tells, parts, follow, verdict-decided, retold, then-so, none-hold}
+use Rattle.promises.specs.Refusals.{Line, FollowsUpTo, Follows, width, stray, nar, noWord, noWhole, noWidth, over, shortLines, moveLines, IsBinary64, ChainFollows, OutsideSigned64}
+use Rattle.promises.proofs.Lines.{Tells, holds, fails, width-tells, stray-tells, parts, follow, verdict-decided, retold, none-hold, handed-on}
 
 -- the calls of a width, and of a word with its width
 module _ {A : Type 0} {R : Refusal → A} {a : A} {Q : Type 0} where
@@ -165,14 +166,22 @@ move-follows n n' rule w a x =
         let t = refused-meaning n' rule (takum n w) q y in
         inl ((t .0, λ w' h. word-none w' (Answer.Refused q) (moved-to-the-same n n' w w' rule (Answer.Refused q) i (h .0) (h .1) m) q refl), record { q = q; is = refl; known = ap numberOf (t .1) })
 
--- ---- a chain of strict moves
+-- ---- one call after another
+-- the lines of the first call, and then what is so of the next
+pub after-the-first : {A : Type 0} (R : Refusal → A) (First : Answer → Type 0) (Next : ℕ → A → Type 0) (lines : List Line) (P : Type 0) (r : A) → ((x : Answer) → First x → Follows Answer.Refused x lines) → ((w : ℕ) → First (Answer.Word w) → Next w r → P) → AndThen R First Next r → FollowsUpTo R r lines P
+after-the-first R First Next lines P r first next (goes-on w x y) = none-hold Answer.Refused R (Answer.Word w) r lines P (next w x y) (word-none w (Answer.Word w) refl) (first (Answer.Word w) x)
+after-the-first {A = A} R First Next lines P r first next (stops q x e) = subst (λ (r : A). FollowsUpTo R r lines P) (sym e) (handed-on R q lines P (first (Answer.Refused q) x))
+
+-- a chain of strict moves is its first move and then the rest
+pub chain-step : (home n' : ℕ) (ns : List ℕ) (n w : ℕ) (a : Answer) → Goes home n w (n' ∷ ns) a → AndThen Answer.Refused (Moves n n' Rule.Strict w) (λ v r. Goes home n' v ns r) a
+unfolding Goes
+chain-step home n' ns n w a (inl (v, m, x)) = goes-on v m x
+chain-step home n' ns n w a (inr (q, m, e)) = stops q m e
+
 pub goes-follows : (home : ℕ) (ns : List ℕ) (n w : ℕ) (a : Answer) → Goes home n w ns a → ChainFollows home n w ns a
 unfolding Goes ChainFollows
 goes-follows home [] n w a x = move-follows n home Rule.Strict w a x
-goes-follows home (n' ∷ ns) n w a (inl (w', m, x)) =
-    none-hold Answer.Refused Answer.Refused (Answer.Word w') a _ _ (w', m, goes-follows home ns n' w' a x) (word-none w' (Answer.Word w') refl) (move-follows n n' Rule.Strict w (Answer.Word w') m)
-goes-follows home (n' ∷ ns) n w a (inr (q, m, e)) =
-    then-so Answer.Refused a _ _ (λ f. absurd (f q e)) (subst (λ (r : Answer). Follows Answer.Refused r (width n ∷ width n' ∷ moveLines n n' Rule.Strict w)) (sym e) (move-follows n n' Rule.Strict w (Answer.Refused q) m))
+goes-follows home (n' ∷ ns) n w a x = after-the-first Answer.Refused _ _ _ _ a (move-follows n n' Rule.Strict w) (λ v m y. (v, m, goes-follows home ns n' v a y)) (chain-step home n' ns n w a x)
 
 -- ---- a whole number out
 outside-tells : (x : ℤ) → Tells (overTest x) Refusal.Over (OutsideSigned64 x)

@@ -186,6 +186,7 @@ figures =
     ∷ moves 32 0x5A008000 16 0x5A00 Below
     -- 514 goes out to 32 bits and back; the negated word goes to -514, and at 32 bits to -513; 513 beside it goes to 512, and at 32 bits to itself
     ∷ moves 16 0x5A01 32 0x5A010000 Exact
+    ∷ reads 32 0x5A010000 (plus 514 (pos 0))
     ∷ moves 32 0x5A010000 16 0x5A01 Exact
     ∷ reads 64 0xA5FF7FFFF8000000 (minus (513 * 2 ^ 20 + 1) (below 20))
     ∷ moves 64 0xA5FF7FFFF8000000 16 0xA5FF Below
@@ -195,13 +196,16 @@ figures =
     ∷ reads 64 0x5A00800000000000 (plus 513 (pos 0))
     ∷ moves 64 0x5A00800000000000 16 0x5A00 Below
     ∷ moves 64 0x5A00800000000000 32 0x5A008000 Exact
-    -- 515 from 32 bits goes to 516, and by way of 64 too; and a move to the same width
+    -- 515 from 32 bits goes to 516, and by way of 64 too; and moves to the same width
     ∷ reads 32 0x5A018000 (plus 515 (pos 0))
     ∷ moves 32 0x5A018000 16 0x5A02 Above
     ∷ reads 16 0x5A02 (plus 516 (pos 0))
     ∷ moves 32 0x5A018000 64 0x5A01800000000000 Exact
+    ∷ reads 64 0x5A01800000000000 (plus 515 (pos 0))
     ∷ moves 64 0x5A01800000000000 16 0x5A02 Above
     ∷ moves 64 0x5A00800008000000 64 0x5A00800008000000 Exact
+    ∷ moves 32 0x5A008000 32 0x5A008000 Exact
+    ∷ moves 16 0x5A01 16 0x5A01 Exact
     ∷ []
 
 -- whatever reading or answer the contract allows is the figure's
@@ -217,8 +221,8 @@ FigureHolds (says n v w s) = (a : Written) → WritesAndSays n Rule.Rounded v a 
 FigureHolds (saysWhole n x w s) = (a : Written) → WritesWholeAndSays n Rule.Rounded x a → a ≡ Written.Word w s
 FigureHolds (needs x n) = (a : Made) → GivesShortest x a → a ≡ bits n
 FigureHolds (needsMore x number) = (a : Made) → GivesShortest x a → RefusedAs Made Made.Refused number a
-FigureHolds (moves n w n' w' s) = (a : Written) → MovesAndSays n n' Rule.Rounded w a → a ≡ Written.Word w' s
 FigureHolds (refusesBlocks n number) = (words buffer : List ℕ) (a : Writing) → WritesBlock n words buffer a → RefusedAs Writing Writing.Refused number a
+FigureHolds (moves n w n' w' s) = (a : Written) → MovesAndSays n n' Rule.Rounded w a → a ≡ Written.Word w' s
 
 -- every figure of a list holds
 unfoldable pub AllHold : List Figure → Type 0

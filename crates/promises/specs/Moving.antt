@@ -1,8 +1,8 @@
--- Laws of moving (paper 02, Wish 14), in its letters: the widths a, b and c. Every move is rounded.
+-- Laws of moving (paper 02, Wish 14), in its letters: the widths a, b and c. A move is rounded where no rule is named.
 use mathlib.Core.Path.{_≡_}
 use mathlib.Core.Logic.{_⊎_}
 use Prim.Native.Nat.{ℕ, _≤_, _<_}
-use lib.IntN.{ℤ, pos}
+use lib.IntN.{ℤ, pos, negsuc}
 use Rattle.bounds.specs.declared.answer.Answer.{Answer}
 use Rattle.bounds.specs.declared.answer.Written.{Written}
 use Rattle.bounds.specs.declared.refusal.Refusal.{Refusal}
@@ -10,6 +10,7 @@ use Rattle.bounds.specs.declared.saying.Saying.{Saying}
 use Rattle.bounds.specs.declared.saying.Saying.the-variants.{Exact}
 use Rattle.bounds.specs.Refusals.{IsWord}
 use Rattle.bounds.specs.Sayings.{oppositeSaying}
+use Rattle.word.specs.Takum.{real, NaR, takum}
 use Rattle.word.specs.Orders.{negated}
 use Rattle.order.specs.declared.order.Comparison.{Comparison}
 use Rattle.order.specs.Orders.{Compares, Negates}
@@ -23,17 +24,21 @@ pub data AndThen {A : Type 0} (refused : Refusal → A) (First : Answer → Type
   stops : (q : Refusal) → First (Answer.Refused q) → r ≡ refused q → AndThen refused First Next r
 
 -- ---- out and back
--- the word w goes from a to b, then to c, then back to b
-unfoldable pub GoesOutAndBack : ℕ → ℕ → ℕ → ℕ → Answer → Type 0
-GoesOutAndBack a b c w = AndThen Answer.Refused (Moves a b Rule.Rounded w) (λ u. AndThen Answer.Refused (Moves b c Rule.Rounded u) (Moves c b Rule.Rounded))
+-- the word w goes from a to b, then to c by the rule, then back to b
+unfoldable pub GoesOutAndBack : ℕ → ℕ → ℕ → Rule → ℕ → Answer → Type 0
+GoesOutAndBack a b c rule w = AndThen Answer.Refused (Moves a b Rule.Rounded w) (λ u. AndThen Answer.Refused (Moves b c rule u) (Moves c b Rule.Rounded))
 
--- with c at least b this equals the first move alone, in its refusals too
+-- with c at least b, and no more than 64, this equals the first move alone, in its refusals too
 unfoldable pub OutAndBackIsTheFirstMove : Type 0
-OutAndBackIsTheFirstMove = (a b c w : ℕ) (r : Answer) → b ≤ c → c ≤ 64 → GoesOutAndBack a b c w r → Moves a b Rule.Rounded w r
+OutAndBackIsTheFirstMove = (a b c w : ℕ) (rule : Rule) (r : Answer) → b ≤ c → c ≤ 64 → GoesOutAndBack a b c rule w r → Moves a b Rule.Rounded w r
 
--- the same as a function
+-- the move back says exact, whatever the first one said
+unfoldable pub TheWayBackIsExact : Type 0
+TheWayBackIsExact = (a b c w u v : ℕ) (rule : Rule) (r : Written) → b ≤ c → c ≤ 64 → Moves a b Rule.Rounded w (Answer.Word u) → Moves b c rule u (Answer.Word v) → MovesAndSays c b Rule.Rounded v r → r ≡ Written.Word u Exact
+
+-- what `out_and_back` answers: it goes so, and that is the law
 pub record OutAndBack (a b c w : ℕ) (r : Answer) : Type 0 where
-  pub goes : GoesOutAndBack a b c w r
+  pub goes : GoesOutAndBack a b c Rule.Rounded w r
   pub first : b ≤ c → c ≤ 64 → Moves a b Rule.Rounded w r
 
 -- ---- negation
@@ -45,6 +50,7 @@ GoesNegated a b w = AndThen Written.Refused (Negates a w) (MovesAndSays a b Rule
 unfoldable pub TheNegationMovesToTheNegation : Type 0
 TheNegationMovesToTheNegation = (a b w u : ℕ) (s : Saying) (r : Written) → MovesAndSays a b Rule.Rounded w (Written.Word u s) → GoesNegated a b w r → r ≡ Written.Word (negated b u) (oppositeSaying s)
 
+-- what `move_negated` answers
 pub record MovesNegated (a b w : ℕ) (r : Written) : Type 0 where
   pub goes : GoesNegated a b w r
   pub negates : (u : ℕ) (s : Saying) → MovesAndSays a b Rule.Rounded w (Written.Word u s) → r ≡ Written.Word (negated b u) (oppositeSaying s)
@@ -62,6 +68,11 @@ IsNotReversed before after = (after ≡ before) ⊎ (after ≡ pos 0)
 unfoldable pub MovingNeverReversesTheOrder : Type 0
 MovingNeverReversesTheOrder = (a b x y : ℕ) (before after : ℤ) → Compares a x y (Comparison.Is before) → GoesCompared a b x y (Comparison.Is after) → IsNotReversed before after
 
+-- NaR is below every other word afterwards too: the two don't become equal
+unfoldable pub NaRStaysBelowEveryOtherWord : Type 0
+NaRStaysBelowEveryOtherWord = (a b x y : ℕ) (z after : ℤ) → takum a x ≡ NaR → takum a y ≡ real z → GoesCompared a b x y (Comparison.Is after) → after ≡ negsuc 0
+
+-- what `compare_moved` answers
 pub record ComparesMoved (a b x y : ℕ) (r : Comparison) : Type 0 where
   pub goes : GoesCompared a b x y r
   pub not-reversed : (before after : ℤ) → Compares a x y (Comparison.Is before) → r ≡ Comparison.Is after → IsNotReversed before after

@@ -186,7 +186,7 @@ pub record RefusalsFollowTheTable : Type 0 where
   -- the source's width, then the target's
   pub move-word : (n n' : ℕ) (rule : Rule) (w : ℕ) (a : Answer) → Moves n n' rule w a → Follows Answer.Refused a (width n ∷ width n' ∷ moveLines n n' rule w)
   pub come-home : (n w : ℕ) (ns : List ℕ) (a : Answer) → ComesHome n w ns a → ChainFollows n n w ns a
-  -- the laws of moving, as functions (paper 02, Wish 14); each call is tried when the one before it has a word
+  -- The laws of moving, as functions (paper 02, Wish 14). Each call is made only where the one before it gave a word, so a width can come after STRAY.
   pub out-and-back : (a b c w : ℕ) (r : Answer) → OutAndBack a b c w r → Follows Answer.Refused r (width a ∷ width b ∷ stray a w ∷ width c ∷ [])
   pub move-negated : (a b w : ℕ) (r : Written) → MovesNegated a b w r → Follows Written.Refused r (width a ∷ stray a w ∷ width b ∷ [])
   pub compare-moved : (a b x y : ℕ) (r : Comparison) → ComparesMoved a b x y r → Follows Comparison.Refused r (width a ∷ width b ∷ stray a x ∷ stray a y ∷ [])

@@ -11,7 +11,7 @@ ghost use Rattle.round.specs.declared.value.Rule.{Rule};
 ghost use Rattle.write.specs.Writes.{Moves};
 ghost use Rattle.promises.specs.Moving.{OutAndBack, MovesNegated, ComparesMoved};
 
-// A word is moved, then on to the middle width, then back: where that is at least as wide as the target, this is what the first move alone answers.
+// A word is moved, then on to the middle width, then back: where the middle is at least as wide as the target, this is what the first move alone answers.
 pub fn out_and_back(from: Width, to: Width, middle: Width, word: u64) -> Answer
     ensures { λ r. ⌜ OutAndBack (from .bits) (to .bits) (middle .bits) word r ⌝ }
 {

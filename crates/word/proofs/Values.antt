@@ -180,14 +180,7 @@ order-zero a b h = unordered a b (first (ltZ a b) (ltZ b a) h) (second (ltZ a b)
     second false true q = absurd (omega (arith, ap natAbs q))
     second false false q = refl
 
--- negated numbers are in the opposite order
-less-negated : (u v : ℤ) → ltZ (negℤ u) (negℤ v) ≡ ltZ v u
-less-negated (pos a) (pos b) = negative-lt a b
-less-negated (pos a) (negsuc j) = negative-positive a (suc j) ∙ lt-ltb 0 (a + suc j) (omega arith)
-less-negated (negsuc i) (pos b) = positive-negative (suc i) b
-less-negated (negsuc i) (negsuc j) = sym (negative-lt (suc j) (suc i))
-
--- so are two numbers that are exchanged
+-- two numbers that are exchanged are in the opposite order
 pub order-exchanged : (u v : ℤ) → order v u ≡ negℤ (order u v)
 unfolding order
 order-exchanged u v = by (ltZ u v) (ltZ v u) (one-way u v)
@@ -197,6 +190,13 @@ order-exchanged u v = by (ltZ u v) (ltZ v u) (one-way u v)
     by true false f = refl
     by false true f = refl
     by false false f = refl
+
+-- and so are negated ones
+less-negated : (u v : ℤ) → ltZ (negℤ u) (negℤ v) ≡ ltZ v u
+less-negated (pos a) (pos b) = negative-lt a b
+less-negated (pos a) (negsuc j) = negative-positive a (suc j) ∙ lt-ltb 0 (a + suc j) (omega arith)
+less-negated (negsuc i) (pos b) = positive-negative (suc i) b
+less-negated (negsuc i) (negsuc j) = sym (negative-lt (suc j) (suc i))
 
 pub order-negated : (u v : ℤ) → order (negℤ u) (negℤ v) ≡ negℤ (order u v)
 unfolding order

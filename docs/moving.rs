@@ -145,52 +145,62 @@ fn put_word(x: f64, row: usize, word: Takum) -> Result<(), Refusal> {
     Ok(())
 }
 
-// ---- the table: an example of each law
+// ---- the table: an example of each law, in which ways stand side by side with a stroke between them
 fn print_table() -> Result<(), Refusal> {
     let (first, plain) = (a_little_more()?, plain_513()?);
     let tally = Takum::try_from((BENCH, 515_i64))?;
-    println!("| law | bits | what becomes of the word |");
+    println!("| law | bits | what becomes of the words |");
     println!("|---|---|---|");
-    print_way("1, out and back", first, &[TAG, BENCH, TAG])?;
-    print_way("2, the word", first, &[BENCH])?;
-    print_way("2, its negation", -first, &[BENCH])?;
-    print_way("2, the word", first, &[TAG])?;
-    print_way("2, its negation", -first, &[TAG])?;
-    for width in [Width::W64, BENCH, TAG] {
-        print_order(plain, first, width)?;
+    print_ways("1, out and back", &[(first, &[TAG, BENCH, TAG])])?;
+    print_ways("2, a word and its negation", &[(first, &[BENCH]), (-first, &[BENCH])])?;
+    print_ways("2, a word and its negation", &[(first, &[TAG]), (-first, &[TAG])])?;
+    print_orders("3, the order of two words", plain, first)?;
+    print_ways("4, directly and by way of 32", &[(first, &[TAG]), (first, &[BENCH, TAG])])?;
+    print_ways("5, the same of 513, exact at 32", &[(plain, &[TAG]), (plain, &[BENCH, TAG])])?;
+    print_ways("6, directly and by way of 64", &[(tally, &[TAG]), (tally, &[Width::W64, TAG])])?;
+    let (bench, tag) = (moved(first, BENCH)?, moved(first, TAG)?);
+    print_ways("7, to the same width", &[(first, &[Width::W64]), (bench, &[BENCH]), (tag, &[TAG])])
+}
+
+fn print_ways(law: &str, ways: &[(Takum, &[Width])]) -> Result<(), Refusal> {
+    let (mut bits, mut said) = (Vec::new(), Vec::new());
+    for (first, widths) in ways {
+        bits.push(std::iter::once(&first.width()).chain(*widths).map(Width::to_string).collect::<Vec<String>>().join(", "));
+        said.push(steps(*first, widths)?);
     }
-    print_way("4, directly", first, &[TAG])?;
-    print_way("4, by way of 32", first, &[BENCH, TAG])?;
-    print_way("5, directly", plain, &[TAG])?;
-    print_way("5, by way of 32, which says exact", plain, &[BENCH, TAG])?;
-    print_way("6, directly", tally, &[TAG])?;
-    print_way("6, by way of 64, which is wider", tally, &[Width::W64, TAG])?;
-    for width in [Width::W64, BENCH, TAG] {
-        print_way("7, to the same width", first.move_to(width, Rule::Rounded)?.word, &[width])?;
-    }
+    println!("| {law} | {} | {} |", bits.join(" / "), said.join(" / "));
     Ok(())
 }
 
-fn print_way(law: &str, first: Takum, widths: &[Width]) -> Result<(), Refusal> {
-    let mut bits = first.width().to_string();
-    let mut said = format!("{} `{}`", value(first)?, hex(first));
+fn steps(first: Takum, widths: &[Width]) -> Result<String, Refusal> {
+    let mut said = shown(first)?;
     for step in way(first, widths)? {
-        bits += &format!(", {}", step.word.width());
-        said += &format!("; {} `{}`, {}", value(step.word)?, hex(step.word), step.saying);
+        said += &format!("; {}, {}", shown(step.word)?, step.saying);
     }
-    println!("| {law} | {bits} | {said} |");
+    Ok(said)
+}
+
+fn print_orders(law: &str, x: Takum, y: Takum) -> Result<(), Refusal> {
+    let widths = [Width::W64, BENCH, TAG];
+    let orders = widths.map(|width| order(moved(x, width)?, moved(y, width)?)).into_iter().collect::<Result<Vec<String>, Refusal>>()?;
+    println!("| {law} | {} | {} |", widths.map(|width| width.to_string()).join(" / "), orders.join(" / "));
     Ok(())
 }
 
-fn print_order(x: Takum, y: Takum, width: Width) -> Result<(), Refusal> {
-    let moved = |word: Takum| word.move_to(width, Rule::Rounded).map(|step: Written<Takum>| step.word);
-    let (x, y) = (moved(x)?, moved(y)?);
-    let order = match x.partial_cmp(&y) {
+fn order(x: Takum, y: Takum) -> Result<String, Refusal> {
+    let is = match x.partial_cmp(&y) {
         Some(Ordering::Less) => "is less than",
         Some(Ordering::Equal) => "equals",
         Some(Ordering::Greater) => "is greater than",
         None => "has no order with",
     };
-    println!("| 3, two words | {width} | {} `{}` {order} {} `{}` |", value(x)?, hex(x), value(y)?, hex(y));
-    Ok(())
+    Ok(format!("{} {is} {}", shown(x)?, shown(y)?))
+}
+
+fn moved(word: Takum, to: Width) -> Result<Takum, Refusal> {
+    Ok(word.move_to(to, Rule::Rounded)?.word)
+}
+
+fn shown(word: Takum) -> Result<String, Refusal> {
+    Ok(format!("{} `{}`", value(word)?, hex(word)))
 }

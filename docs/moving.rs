@@ -48,8 +48,11 @@ fn way(first: Takum, widths: &[Width]) -> Result<Vec<Written<Takum>>, Refusal> {
     Ok(steps)
 }
 
-// Its value: a whole number, or one and a power of two, as 513 + 2^-20 is.
+// Its value: NaR, a whole number, or one and a power of two, as 513 + 2^-20 is.
 fn value(word: Takum) -> Result<String, Refusal> {
+    if word.is_nar() {
+        return Ok("NaR".to_string());
+    }
     if let (Err(_), Kind::Number { negative, h, m, p }) = (word.take_whole(Taking::Strict), word.read().kind) {
         let below = p as i32 - h; // so many bits stand after the point
         let rest = m & ((1 << below) - 1);
@@ -154,6 +157,8 @@ fn print_table() -> Result<(), Refusal> {
     print_ways("1, out and back", &[(first, &[TAG, BENCH, TAG])])?;
     print_ways("2, a word and its negation", &[(first, &[BENCH]), (-first, &[BENCH])])?;
     print_ways("2, a word and its negation", &[(first, &[TAG]), (-first, &[TAG])])?;
+    let (zero, nar) = (Width::W64.zero(), Width::W64.nar());
+    print_ways("2, the negations of zero and NaR", &[(-zero, &[TAG]), (-nar, &[TAG])])?;
     print_orders("3, the order of two words", plain, first)?;
     print_ways("4, directly and by way of 32", &[(first, &[TAG]), (first, &[BENCH, TAG])])?;
     print_ways("5, the same of 513, exact at 32", &[(plain, &[TAG]), (plain, &[BENCH, TAG])])?;

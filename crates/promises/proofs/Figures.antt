@@ -8,10 +8,12 @@ use native.Mathlib.Nat.{mul-one, zero-lt-suc, le-of-eq, lt-of-le-of-lt, lt-of-lt
 use native.Mathlib.Omega.{arith}
 use lib.Count.{leadingZeros, trailingZeros}
 use lib.Dec.{T, eqb, leb, ltb, eqb→eq, leb→le, ltb→lt}
+use lib.Ieee.Bits.{is-true}
 use lib.IntN.{ℤ, pos, negsuc, natAbs, _+ℤ_}
 use Rattle.bounds.specs.declared.answer.Answer.{Answer}
 use Rattle.bounds.specs.declared.answer.Written.{Written}
 use Rattle.bounds.specs.declared.refusal.Refusal.{Refusal}
+use Rattle.bounds.specs.declared.saying.Saying.{Saying}
 use Rattle.bounds.specs.declared.width.Made.{Made}
 use Rattle.word.specs.Takum.{Takum, real, NaR, power, regimeOf, characteristicOf, S, D, R, r, p, C, F, c, e, value, meaning, N, padded, takum, orZero, ownFractionBits}
 use Rattle.word.specs.Reads.{num, den, IsSize, signedSize}
@@ -20,11 +22,13 @@ use Rattle.word.proofs.Heads.{both}
 use Rattle.word.proofs.Integers.{same-integer, same-integer-is}
 use Rattle.word.proofs.Units.{unit-some}
 use Rattle.bounds.specs.Refusals.{through}
+use Rattle.bounds.specs.Sayings.{saysExact}
+use Rattle.bounds.proofs.Answers.{is-exact}
 use Rattle.bounds.proofs.Verdicts.{width-fits}
 use Rattle.round.specs.declared.value.Rule.{Rule}
 use Rattle.round.specs.Writes.{other, IsWritten}
 use Rattle.write.specs.Writes.{isNegative, Writes}
-use Rattle.write.specs.Sayings.{WritesAndSays}
+use Rattle.write.specs.Sayings.{WritesAndSays, MovesAndSays}
 use Rattle.round.proofs.Rounding.{none-between}
 use Rattle.write.proofs.OneOutcome.{writes-one, writes-and-says-one, moves-and-says-one}
 use Rattle.whole.specs.declared.taking.Taking.{Taking}
@@ -46,6 +50,7 @@ use Rattle.promises.proofs.OldBlocks.{is-retired}
 use Rattle.promises.proofs.Tests.{size-of, same, same-is, either, is-word, word-is, has, has-is}
 use Rattle.promises.proofs.Settled.{size-at, is-positive, past-half, before-half, is-rounded, went, size-settled, settled, meaning-settled, move-settled, positive-is, size-has, rounded-is, answered-so, moved-so}
 use Rattle.promises.proofs.Demands.{reading-is-the-definition}
+use Rattle.promises.proofs.Sayings.{meaning-kept}
 use Rattle.promises.proofs.Shortest.{lengthOf, is-width, is-refused, by-counting, zero-needs-2}
 
 -- ---- reading: the size is the one that is said, and the sign too
@@ -108,6 +113,10 @@ needed (negsuc i) n = within (suc i) n
 needed-more : ℤ → ℕ → Bool
 needed-more x number = (ltb 0 (natAbs x) && ltb (natAbs x) (2 ^ 64)) && (ltb 64 (lengthOf (natAbs x)) && eqb number 4)
 
+-- ---- a move that keeps the meaning, as of zero and NaR
+kept : ℕ → ℕ → ℕ → ℕ → Saying → Bool
+kept n w n' w' s = (is-word n w && is-word n' w') && (same (takum n' w') (takum n w) && saysExact s)
+
 -- ---- the test of one figure and of a list of them
 passes : Figure → Bool
 passes (reads n w x) = is-word n w && said x (takum n w)
@@ -122,7 +131,7 @@ passes (saysWhole n x w s) = settled n (isNegative x) (scaled (natAbs x)) 1 w s
 passes (needs x n) = needed x n
 passes (needsMore x number) = needed-more x number
 passes (refusesBlocks n number) = eqb n 8 && eqb number 13
-passes (moves n w n' w' s) = move-settled n w n' w' s
+passes (moves n w n' w' s) = move-settled n w n' w' s || kept n w n' w' s
 
 all-pass : List Figure → Bool
 all-pass [] = true
@@ -214,6 +223,14 @@ needed-more-holds x number t = λ a y.
     subst (λ (k : ℕ). RefusedAs Made Made.Refused k a) (sym (eqb→eq number 4 (past .1)))
     (is-refused (lengthOf m) a (by-counting x a (ltb→lt 0 m (inside .0)) (ltb→lt m (2 ^ 64) (inside .1)) y) (ltb→lt 64 (lengthOf m) (past .0)))
 
+kept-holds : (n w n' w' : ℕ) (s : Saying) → T (kept n w n' w' s) → (a : Written) → MovesAndSays n n' Rule.Rounded w a → a ≡ Written.Word w' s
+unfolding kept
+kept-holds n w n' w' s t a x =
+    let u = both (is-word n w && is-word n' w') (same (takum n' w') (takum n w) && saysExact s) t in
+    let words = both (is-word n w) (is-word n' w') (u .0) in
+    let exact = both (same (takum n' w') (takum n w)) (saysExact s) (u .1) in
+    meaning-kept n n' Rule.Rounded w w' a (word-is n w (words .0)) (word-is n' w' (words .1)) (same-is (takum n' w') (takum n w) (exact .0)) x ∙ ap (Written.Word w') (sym (is-exact s (is-true (saysExact s) (exact .1))))
+
 -- a whole number is offered as the value is
 as-value : (n : ℕ) (rule : Rule) (M : ℕ) (a : Answer) → WritesWhole n rule (pos M) a → Writes n rule (whole M) a
 unfolding WritesWhole Writes whole isNegative num den
@@ -240,7 +257,7 @@ holds (needsMore x number) ok = needed-more-holds x number ok
 holds (refusesBlocks n number) ok = λ words buffer a x.
     let y = both (eqb n 8) (eqb number 13) ok in
     subst (λ (k : ℕ). RefusedAs Writing Writing.Refused k a) (sym (eqb→eq number 13 (y .1))) (is-retired n words buffer a (eqb→eq n 8 (y .0)) x)
-holds (moves n w n' w' s) ok = λ a x. moves-and-says-one n n' Rule.Rounded w a (Written.Word w' s) x (moved-so n w n' w' s ok)
+holds (moves n w n' w' s) ok = λ a x. ⊎-elim (λ t. moves-and-says-one n n' Rule.Rounded w a (Written.Word w' s) x (moved-so n w n' w' s t)) (λ t. kept-holds n w n' w' s t a x) (either (move-settled n w n' w' s) (kept n w n' w' s) ok)
 
 all-hold : (fs : List Figure) → T (all-pass fs) → AllHold fs
 unfolding all-pass AllHold
@@ -248,5 +265,5 @@ all-hold [] t = tt
 all-hold (f ∷ fs) t = let x = both (passes f) (all-pass fs) t in (holds f (x .0), all-hold fs (x .1))
 
 pub figures-hold : AllHold figures
-unfolding figures below said num den signedSize power same is-word passes all-pass regimeOf characteristicOf S D R r p C F c e value meaning N padded takum orZero ownFractionBits has low-word last-below size-of scaled given not-given half-off sign-of taken isNegative positive negative numerator denominator negated size-at is-positive past-half before-half is-rounded went size-settled settled meaning-settled move-settled within needed needed-more lengthOf leadingZeros trailingZeros
+unfolding figures below said num den signedSize power same is-word passes all-pass regimeOf characteristicOf S D R r p C F c e value meaning N padded takum orZero ownFractionBits has low-word last-below size-of scaled given not-given half-off sign-of taken isNegative positive negative numerator denominator negated size-at is-positive past-half before-half is-rounded went size-settled settled meaning-settled move-settled kept within needed needed-more lengthOf leadingZeros trailingZeros
 figures-hold = all-hold figures tt

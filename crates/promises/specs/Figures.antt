@@ -196,6 +196,9 @@ figures =
     ∷ reads 64 0x5A00800000000000 (plus 513 (pos 0))
     ∷ moves 64 0x5A00800000000000 16 0x5A00 Below
     ∷ moves 64 0x5A00800000000000 32 0x5A008000 Exact
+    -- zero and NaR, each of which is its own negation
+    ∷ moves 64 0 16 0 Exact
+    ∷ moves 64 0x8000000000000000 16 0x8000 Exact
     -- 515 from 32 bits goes to 516, and by way of 64 too; and moves to the same width
     ∷ reads 32 0x5A018000 (plus 515 (pos 0))
     ∷ moves 32 0x5A018000 16 0x5A02 Above

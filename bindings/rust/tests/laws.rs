@@ -10,7 +10,7 @@ fn widths(bits: std::ops::RangeInclusive<u32>) -> impl Iterator<Item = Width> {
     bits.map(|bits| Width::new(bits).unwrap())
 }
 
-/// Every word of the widths up to 8, and of each width above 256 or so that lie far apart.
+/// Every word of the widths up to 8, and some 256 words of each wider one, far apart.
 fn words() -> impl Iterator<Item = Takum> {
     widths(2..=64).flat_map(|width| {
         let last = u64::MAX >> (64 - width.bits());

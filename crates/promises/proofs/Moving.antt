@@ -2,11 +2,10 @@
 -- Assumes nothing.
 use mathlib.Core.Path.{_≡_, refl, sym, ap, ap₂, _∙_, subst, subst₂}
 use mathlib.Core.Logic.{_⊎_, inl, inr, ⊎-elim}
-use mathlib.Core.Bool.{Bool, true, false, _&&_, cond}
+use mathlib.Core.Bool.{Bool, true, false, cond}
 use Prim.Native.Nat.{ℕ, _+_, _-_, _*_, _^_, _≤_}
 use native.Mathlib.Nat.{mul-one, zero-lt-suc}
 use native.Mathlib.Omega.{arith}
-use lib.Dec.{T}
 use lib.IntN.{ℤ, pos, negsuc, negℤ, natAbs, pos-ne-negsuc}
 use lib.Signed.{ltZ}
 use Rattle.bounds.specs.declared.answer.Answer.{Answer}
@@ -21,7 +20,6 @@ use Rattle.bounds.proofs.Verdicts.{width-through, words-through, word-passes, m
 use Rattle.word.specs.Takum.{Takum, real, NaR, power, regimeOf, characteristicOf, S, D, R, r, p, C, F, c, e, value, meaning, N, padded, takum}
 use Rattle.word.specs.Reads.{signedSize}
 use Rattle.word.specs.Orders.{signed, order, negated}
-use Rattle.word.proofs.Heads.{both}
 use Rattle.word.proofs.Words.{takum-NaR, takum-zero, zeros-appended}
 use Rattle.word.proofs.Values.{NaR-word, NaR-below, above-NaR, order-same, order-exchanged, order-of-values}
 use Rattle.order.specs.declared.order.Comparison.{Comparison}
@@ -220,17 +218,11 @@ pub a-move-to-the-same-width-is-the-word : promise.AMoveToTheSameWidthIsTheWord
 unfolding promise.AMoveToTheSameWidthIsTheWord
 a-move-to-the-same-width-is-the-word a w r i x = meaning-kept a a Rule.Rounded w w r i i refl x
 
--- 513 + 2^-20 goes from 64 bits to 513 at 32 and from there to 512 at 16, and directly to 514
-three-moves : T (move-settled 64 0x5A00800008000000 32 0x5A008000 Below && (move-settled 32 0x5A008000 16 0x5A00 Below && move-settled 64 0x5A00800008000000 16 0x5A01 Above))
-unfolding move-settled meaning-settled settled size-settled is-rounded is-positive past-half before-half went size-at size-of is-word isNegative power regimeOf characteristicOf S D R r p C F c e value meaning N padded takum
-three-moves = tt
-
+-- 513 + 2^-20 goes from 64 bits to 513 at 32 and from there to 512 at 16, and directly to 514: the tests are computed
 pub a-middle-width-can-change-the-word : promise.AMiddleWidthCanChangeTheWord
-unfolding promise.AMiddleWidthCanChangeTheWord GoesBy MovesAndSays
+unfolding promise.AMiddleWidthCanChangeTheWord GoesBy MovesAndSays move-settled meaning-settled settled size-settled is-rounded is-positive past-half before-half went size-at size-of is-word isNegative power regimeOf characteristicOf S D R r p C F c e value meaning N padded takum
 a-middle-width-can-change-the-word =
-    let t = both (move-settled 64 0x5A00800008000000 32 0x5A008000 Below) (move-settled 32 0x5A008000 16 0x5A00 Below && move-settled 64 0x5A00800008000000 16 0x5A01 Above) three-moves in
-    let u = both (move-settled 32 0x5A008000 16 0x5A00 Below) (move-settled 64 0x5A00800008000000 16 0x5A01 Above) (t .1) in
-    let first = moved-so 64 0x5A00800008000000 32 0x5A008000 Below (t .0) .answers in (
+    let first = moved-so 64 0x5A00800008000000 32 0x5A008000 Below tt .answers in (
       64,
       32,
       16,
@@ -242,7 +234,7 @@ a-middle-width-can-change-the-word =
       0x5A01,
       Below,
       Above,
-      goes-on 0x5A008000 first (moved-so 32 0x5A008000 16 0x5A00 Below (u .0)),
-      moved-so 64 0x5A00800008000000 16 0x5A01 Above (u .1),
+      goes-on 0x5A008000 first (moved-so 32 0x5A008000 16 0x5A00 Below tt),
+      moved-so 64 0x5A00800008000000 16 0x5A01 Above tt,
       λ e. omega (arith, e),
     )

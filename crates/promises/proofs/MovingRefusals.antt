@@ -1,13 +1,12 @@
 -- The refusals of the laws of moving, as functions, follow the table: what one call gives is a word for the next, which can refuse only what is new to it, a
 -- width or the second word. Assumes nothing.
-use mathlib.Core.Path.{_≡_, refl, sym, ap, subst}
-use mathlib.Core.List.{List, [], _∷_}
+use mathlib.Core.Path.{_≡_, sym, ap, subst}
+use mathlib.Core.List.{[], _∷_}
 use mathlib.Core.Logic.{_⊎_}
 use Prim.Native.Nat.{ℕ, _^_, _≤_, _<_}
 use native.Mathlib.Omega.{arith}
 use Rattle.bounds.specs.declared.answer.Answer.{Answer}
 use Rattle.bounds.specs.declared.answer.Written.{Written}
-use Rattle.bounds.specs.declared.refusal.Refusal.{Refusal}
 use Rattle.bounds.specs.Refusals.{IsWord, through, refused}
 use Rattle.bounds.specs.Sayings.{plain}
 use Rattle.bounds.proofs.Answers.{wordOf, plain-refused}
@@ -20,8 +19,8 @@ use Rattle.round.specs.declared.value.Rule.{Rule}
 use Rattle.write.specs.Writes.{Moves}
 use Rattle.write.specs.Sayings.{MovesAndSays}
 use Rattle.promises.specs.Moving.{GoesOutAndBack, GoesNegated, GoesCompared}
-use Rattle.promises.specs.Refusals.{Line, FollowsUpTo, Follows, width, stray, moveLines}
-use Rattle.promises.proofs.Lines.{carry, so-too, none-hold, handed-on, past, good-width}
+use Rattle.promises.specs.Refusals.{FollowsUpTo, Follows, width, stray, moveLines}
+use Rattle.promises.proofs.Lines.{carry, so-too, past, good-width}
 use Rattle.promises.proofs.Sayings.{moved-words}
 use Rattle.promises.proofs.WordRefusals.{of-word, after-the-first, word-none, rounded-strict, compare-follows, move-follows}
 

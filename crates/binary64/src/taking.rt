@@ -8,7 +8,7 @@ use bounds::refusal::Refusal;
 use bounds::width::Width;
 use sizes::size::{WordSize, read_size};
 
-#[derive(Drop)]
+#[derive(Clone, Copy)]
 pub enum Binary64 {
     Number(f64),
     Nar,

@@ -5,14 +5,14 @@ ghost use Rattle.bounds.specs.Sayings.{exactly};
 use crate::refusal::Refusal;
 use crate::saying::Saying;
 
-#[derive(Drop)]
+#[derive(Clone, Copy)]
 pub enum Answer {
     Word(u64),
     Refused(Refusal),
 }
 
 // The same of a call that writes a value: with the word it says which way it went.
-#[derive(Drop)]
+#[derive(Clone, Copy)]
 pub enum Written {
     Word { word: u64, saying: Saying },
     Refused(Refusal),

@@ -1,4 +1,6 @@
 // What every call tests first and how it answers: the widths, the words that belong to a width, the room for results, and the yard's refusals.
+#![tactic(auto)]
+
 pub mod answer;
 pub mod refusal;
 pub mod room;

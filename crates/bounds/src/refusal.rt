@@ -2,7 +2,7 @@
 ghost use Rattle.std.specs.Prelude.{◌≡◌};
 ghost use Rattle.bounds.specs.Refusals.{number_of, ◌then◌};
 
-#[derive(Drop)]
+#[derive(Clone, Copy)]
 pub enum Refusal {
     Width,
     Stray,
@@ -19,7 +19,7 @@ pub enum Refusal {
 }
 
 // A test lets the input through or refuses it.
-#[derive(Drop)]
+#[derive(Clone, Copy)]
 pub enum Verdict {
     Through,
     Refused(Refusal),

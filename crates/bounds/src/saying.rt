@@ -3,7 +3,7 @@ ghost use Rattle.std.specs.Prelude.{◌≡◌};
 ghost use Rattle.bounds.specs.Sayings.{saying_number, says_exact, opposite_saying};
 
 // The word has exactly the value; it lies below the value, or above it, the sign counting; or the value lies past the end of the words.
-#[derive(Drop)]
+#[derive(Clone, Copy)]
 pub enum Saying {
     Exact,
     Below,

@@ -7,18 +7,18 @@ use crate::answer::Answer;
 use crate::refusal::{Refusal, Verdict};
 
 // Anybody can make one of any number, so every public call on a width tests it.
-#[derive(Drop)]
+#[derive(Clone, Copy)]
 pub struct Width {
     pub bits: u32,
 }
 
-#[derive(Drop)]
+#[derive(Clone, Copy)]
 pub enum Made {
     Width(Width),
     Refused(Refusal),
 }
 
-#[derive(Drop)]
+#[derive(Clone, Copy)]
 pub enum Limit {
     Count(u64),
     Refused(Refusal),

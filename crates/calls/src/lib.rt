@@ -1,5 +1,7 @@
 // Every exported call, called as a reader calls it: the contract here is what is promised of the struct that it hands over, and the proof has only the
 // exported function's contract to go by.
+#![tactic(auto)]
+
 ghost use Rattle.promises.specs.Face.{is_strict, HandsLargest, HandsSmallest, HandsNaR, HandsLimit, HandsReading, HandsComparison, HandsNegated, HandsWritten, HandsMoved, HandsWholeWritten, HandsWhole, HandsShortest, HandsBinary64Written, HandsNumber, HandsColumn, HandsBlock, HandsBlockWritten};
 
 use ledusprig::columns::{takum_move_column, takum_read_block, takum_write_block};

@@ -4,7 +4,7 @@ ghost use Rattle.std.specs.Prelude.{◌<◌, ◌≤◌};
 use crate::bits::power_of_two;
 
 // The state of the sequence, and the digest.
-#[derive(Drop)]
+#[derive(Clone, Copy)]
 pub struct Run {
     pub state: u64,
     pub digest: u64,

@@ -9,7 +9,7 @@ use bounds::width::Width;
 use census::bits::{TOP_BIT, low_bits};
 
 // What is asked of a number x of 64 bits. Where it is asked of a word, the word is x modulo 2^n. The shortest width is asked without n.
-#[derive(Drop)]
+#[derive(Clone, Copy)]
 pub(crate) enum Ways {
     Out,
     OutAsBinary64,

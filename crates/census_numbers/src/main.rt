@@ -1,4 +1,6 @@
 // The census of numbers: the lines of whole numbers and binary64 that docs/CENSUS.md fixes and an independent program prints too.
+#![tactic(auto)]
+
 mod answers;
 mod around;
 mod binaries;

@@ -9,7 +9,7 @@ use crate::unnumbered::print_strays;
 use crate::wholes::{print_brink, print_limit};
 use bounds::width::Width;
 
-#[derive(Drop)]
+#[derive(Clone, Copy)]
 pub(crate) enum Part {
     Runs(Subject),
     Line(Subject),

@@ -5,7 +5,7 @@ use census::digest::sequence;
 use census::run::{DRAWN, words_of};
 
 // Out stands for the parts 13 and 14; each other is one part.
-#[derive(Drop)]
+#[derive(Clone, Copy)]
 pub(crate) enum Subject {
     Out,
     OutEdge,

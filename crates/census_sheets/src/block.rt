@@ -11,7 +11,7 @@ pub(crate) const MARK: u64 = 0x54;
 pub(crate) const SIZE: usize = 512;
 
 // A block and the state of the sequence that it was drawn from, after it.
-#[derive(Drop)]
+#[derive(Clone, Copy)]
 pub(crate) struct Drawn {
     pub(crate) block: [u8; 520],
     pub(crate) state: u64,

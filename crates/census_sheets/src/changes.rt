@@ -5,7 +5,7 @@ use crate::block::{Drawn, draw_block, full_of};
 use census::digest::sequence;
 
 // Sums has the KIND of part 34. At a WidthByte and a WrittenWidth the number that goes with the change is no width, but the count of part 36 or 48.
-#[derive(Drop)]
+#[derive(Clone, Copy)]
 pub(crate) enum Change {
     Byte,
     Sums(u32),

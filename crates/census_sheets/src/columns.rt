@@ -9,7 +9,7 @@ use column::moving::{Column, MovedColumn, move_column};
 use round::value::Rule;
 
 // The widths that a column is moved from and to, and how many words it has.
-#[derive(Drop)]
+#[derive(Clone, Copy)]
 pub(crate) struct Shape {
     pub(crate) from: u32,
     pub(crate) to: u32,
@@ -17,14 +17,14 @@ pub(crate) struct Shape {
 }
 
 // Every word of an exact column moves exactly. A free column has any words.
-#[derive(Drop)]
+#[derive(Clone, Copy)]
 pub(crate) enum Kind {
     Exact,
     Free,
 }
 
 // A column, in the first of so many words, and the state of the sequence that it was drawn from, after it.
-#[derive(Drop)]
+#[derive(Clone, Copy)]
 pub(crate) struct Drawn {
     pub(crate) column: [u64; 1000],
     pub(crate) state: u64,

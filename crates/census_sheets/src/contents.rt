@@ -11,7 +11,7 @@ use census::digest::{EMPTY, scramble, sequence};
 use census::line::print_of_two;
 
 // The number and the words of a content, and the state of the sequence that they were drawn from, after them.
-#[derive(Drop)]
+#[derive(Clone, Copy)]
 pub(crate) struct Drawn {
     pub(crate) number: u32,
     pub(crate) words: [u64; 1000],

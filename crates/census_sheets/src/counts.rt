@@ -8,7 +8,7 @@ use census::digest::{EMPTY, sequence};
 use census::line::print_of_two;
 
 // How a block of a count is read.
-#[derive(Drop)]
+#[derive(Clone, Copy)]
 enum Told {
     AsItIs,
     Flipped,

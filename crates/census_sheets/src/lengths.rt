@@ -7,7 +7,7 @@ use census::digest::{EMPTY, sequence};
 use census::line::print_of_three;
 
 // What a line tells: part 28, a column as it is drawn, or part 29, an exact column with bits set for some calls.
-#[derive(Drop)]
+#[derive(Clone, Copy)]
 enum Told {
     Drawn,
     Planted,

@@ -1,4 +1,6 @@
 // The census of sheets: the lines of columns and blocks that docs/CENSUS.md fixes and an independent program prints too.
+#![tactic(auto)]
+
 mod block;
 mod buffer;
 mod bytes;

@@ -6,7 +6,7 @@ use crate::bytes::{number_at, put};
 use std::num::{wrapping_add_u64, wrapping_sub_u64};
 
 // What is added to a number and to the two after it.
-#[derive(Drop)]
+#[derive(Clone, Copy)]
 struct Added {
     first: u64,
     second: u64,

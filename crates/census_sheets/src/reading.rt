@@ -7,7 +7,7 @@ use census::digest::{take_kind, take_refusal};
 use sheet::block::{Block, read_block};
 
 // The digest after a call, the row as the call has left it, and the call's answer.
-#[derive(Drop)]
+#[derive(Clone, Copy)]
 pub(crate) struct Reading {
     pub(crate) digest: u64,
     pub(crate) row: [u64; 1024],

@@ -8,7 +8,7 @@ use census::digest::{take, take_refusal};
 use sheet::writing::{Writing, write_block};
 
 // What is written: a width, a number, and how many of the words that are handed over with it.
-#[derive(Drop)]
+#[derive(Clone, Copy)]
 pub(crate) struct Content {
     pub(crate) width: u32,
     pub(crate) number: u32,
@@ -16,7 +16,7 @@ pub(crate) struct Content {
 }
 
 // The digest after a call, and the row as the call has left it.
-#[derive(Drop)]
+#[derive(Clone, Copy)]
 pub(crate) struct Written {
     pub(crate) digest: u64,
     pub(crate) row: [u8; 536],

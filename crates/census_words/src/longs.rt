@@ -9,7 +9,7 @@ use round::value::{LongValue, Rule};
 use round::writing::write_long;
 
 // The size (high * 2^64 + low) * 2^(place - ORIGIN).
-#[derive(Drop)]
+#[derive(Clone, Copy)]
 pub(crate) struct Long {
     pub(crate) high: u64,
     pub(crate) low: u64,

@@ -1,4 +1,6 @@
 // The census of words: the lines of reading, writing and moving that docs/CENSUS.md fixes and an independent program prints too.
+#![tactic(auto)]
+
 mod answers;
 mod draws;
 mod edges;

@@ -7,7 +7,7 @@ use census::exponent::ORIGIN;
 use word::reading::{Kind, read};
 
 // The size m * 2^(place - ORIGIN).
-#[derive(Drop)]
+#[derive(Clone, Copy)]
 pub(crate) struct Size {
     pub(crate) m: u64,
     pub(crate) place: u64,

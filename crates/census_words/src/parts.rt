@@ -10,7 +10,7 @@ use crate::subjects::Subject;
 use crate::widths::print_width;
 use bounds::width::Width;
 
-#[derive(Drop)]
+#[derive(Clone, Copy)]
 pub(crate) enum Part {
     Widths,
     Runs(Subject),

@@ -9,7 +9,7 @@ use census::digest::EMPTY;
 use census::line::print_of_one;
 
 // What the library is asked of words.
-#[derive(Drop)]
+#[derive(Clone, Copy)]
 pub(crate) enum Asked {
     Reading,
     Moving,

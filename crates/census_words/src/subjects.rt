@@ -6,7 +6,7 @@ use census::digest::sequence;
 use census::run::{DRAWN, words_of};
 
 // Word stands for the parts 2 and 3; each other is one part.
-#[derive(Drop)]
+#[derive(Clone, Copy)]
 pub(crate) enum Subject {
     Word,
     Edge,

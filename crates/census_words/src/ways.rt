@@ -13,7 +13,7 @@ use round::value::Rule;
 use write::moving::move_word;
 
 // From a to b, on to c, and back to b.
-#[derive(Drop)]
+#[derive(Clone, Copy)]
 struct Way {
     a: Width,
     b: Width,

@@ -14,7 +14,7 @@ use round::value::Rule;
 use write::moving::move_word;
 
 // How many words were moved, or why none was: a refusal of the whole column, or of the word at a position.
-#[derive(Drop)]
+#[derive(Clone, Copy)]
 pub enum Column {
     Moved(usize),
     Refused(Refusal),
@@ -22,14 +22,14 @@ pub enum Column {
 }
 
 // The answer, and how many of the words that were moved are exact: 0 where none was moved.
-#[derive(Drop)]
+#[derive(Clone, Copy)]
 pub struct MovedColumn {
     pub answer: Column,
     pub exact: usize,
 }
 
 // One word that was moved, and whether it means what it meant.
-#[derive(Drop)]
+#[derive(Clone, Copy)]
 struct MovedWord {
     word: u64,
     exact: bool,

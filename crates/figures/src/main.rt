@@ -1,4 +1,6 @@
 // Figures of papers 01 and 02: those that are run and compared, one line each.
+#![tactic(auto)]
+
 mod lines;
 mod numbers;
 mod text;

@@ -1,4 +1,6 @@
 // The face for C and Rust: the calls that a reader needs, each answer handed over as plain numbers. There is no rule in here.
+#![tactic(auto)]
+
 pub mod columns;
 pub mod handed;
 pub mod numbers;

@@ -1,4 +1,6 @@
 // The lister: sheet blocks come in on standard input, and a line for each of their words goes out.
+#![tactic(auto)]
+
 mod pieces;
 mod reading;
 mod report;

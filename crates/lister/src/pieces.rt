@@ -17,7 +17,7 @@ const TEXT: usize = 16 * 496 * 96;
 
 // How many bytes are read and how many blocks listed, whether the listing ends here, and whether it is complete: the input has ended, and all of
 // it is read and its text written.
-#[derive(Drop)]
+#[derive(Clone, Copy)]
 pub(crate) struct Next {
     pub(crate) total: u64,
     pub(crate) place: u64,

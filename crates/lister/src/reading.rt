@@ -5,7 +5,7 @@ ghost use Rattle.lister.specs.Told.{Tells};
 use libc::STDIN_FILENO;
 
 // How many bytes came, and whether none came because the input ends. None come from a read that fails, either.
-#[derive(Drop)]
+#[derive(Clone, Copy)]
 pub(crate) struct Got {
     pub(crate) count: usize,
     pub(crate) ends: bool,

@@ -10,7 +10,7 @@ use crate::report::count_block;
 use listing::blocks::{Listed, list_block};
 
 // How long the text is, and the place of the block that comes after the run.
-#[derive(Drop)]
+#[derive(Clone, Copy)]
 pub(crate) struct Run {
     pub(crate) length: usize,
     pub(crate) place: u64,

@@ -17,7 +17,7 @@ const WORDS: usize = 496;
 const ROOM: usize = WORDS * 96;
 
 // How long the text is, and the number of the block's refusal, 0 for a block that was read; or why none was put.
-#[derive(Drop)]
+#[derive(Clone, Copy)]
 pub enum Listed {
     Length { length: usize, refused: u32 },
     Refused(Refusal),

@@ -1,3 +1,5 @@
 // The nearest word of a size with its sign, whatever lies below its first 64 bits, and which way it went: by value, ties to the even word, end words past
 // the ends.
+#![tactic(auto)]
+
 pub mod size;

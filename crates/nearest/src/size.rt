@@ -14,7 +14,7 @@ use bounds::width::Width;
 use word::fields::cut;
 
 // What lies below the last unit of a significand.
-#[derive(Drop)]
+#[derive(Clone, Copy)]
 pub enum Rest {
     Nothing,
     UnderHalf,
@@ -23,7 +23,7 @@ pub enum Rest {
 }
 
 // On which side of a midpoint a size lies.
-#[derive(Drop)]
+#[derive(Clone, Copy)]
 pub enum Side {
     Under,
     Midway,
@@ -31,7 +31,7 @@ pub enum Side {
 }
 
 // How every string of a characteristic begins after its sign: direction, regime and characteristic bits, and the regime.
-#[derive(Drop)]
+#[derive(Clone, Copy)]
 struct Start {
     bits: u64,
     r: u32,
@@ -39,7 +39,7 @@ struct Start {
 
 // A positive word beside the size that it is nearest to. `past`: the size lies past this end word, and the other two tell nothing. Else `exact`: the
 // word is the size. Else `up`: the word is above the size, or below it.
-#[derive(Drop)]
+#[derive(Clone, Copy)]
 struct Near {
     word: u64,
     past: bool,

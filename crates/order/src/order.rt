@@ -8,7 +8,7 @@ use bounds::answer::Answer;
 use bounds::refusal::{Refusal, Verdict};
 use bounds::width::Width;
 
-#[derive(Drop)]
+#[derive(Clone, Copy)]
 pub enum Comparison {
     Is(i32),
     Refused(Refusal),

@@ -1,4 +1,6 @@
 // Two promises as functions over the public calls: a word negated twice, and a chain of strict moves that comes home. The laws of moving are in laws.rt.
+#![tactic(auto)]
+
 pub mod laws;
 
 ghost use Rattle.promises.specs.Demands.{ComesBack};

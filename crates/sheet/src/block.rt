@@ -8,7 +8,7 @@ use crate::testing::test;
 use crate::words::unpack;
 use bounds::refusal::{Refusal, Verdict};
 
-#[derive(Drop)]
+#[derive(Clone, Copy)]
 pub enum Block {
     Read { width: u32, number: u32, count: u32 },
     Refused(Refusal),

@@ -1,4 +1,6 @@
 // Sheet blocks of 512 bytes: read into a lent slice of words, and written into a lent buffer.
+#![tactic(auto)]
+
 pub mod block;
 mod fields;
 mod numbers;

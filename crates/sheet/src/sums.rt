@@ -6,7 +6,7 @@ ghost use Rattle.sheet.specs.Sums.{sum_a, sum_b};
 use crate::numbers::four_bytes;
 use std::num::wrapping_add_u32;
 
-#[derive(Drop)]
+#[derive(Clone, Copy)]
 pub(crate) struct Sums {
     pub(crate) a: u32,
     pub(crate) b: u32,

@@ -13,7 +13,7 @@ use bounds::width::Width;
 pub const RETIRED: u32 = 8;
 
 // The block was written, or why not: a refusal of the whole, or of the word at a position.
-#[derive(Drop)]
+#[derive(Clone, Copy)]
 pub enum Writing {
     Written,
     Refused(Refusal),

@@ -7,14 +7,14 @@ use bounds::width::Width;
 use word::fields::cut;
 
 // The size m * 2^(h - 63), m having its top bit set, and its sign.
-#[derive(Drop)]
+#[derive(Clone, Copy)]
 pub struct Size {
     pub negative: bool,
     pub h: i32,
     pub m: u64,
 }
 
-#[derive(Drop)]
+#[derive(Clone, Copy)]
 pub enum WordSize {
     Zero,
     Nar,

@@ -10,13 +10,13 @@ use bounds::width::Width;
 use sizes::size::{Size, WordSize, read_size};
 
 // Nearest rounds, halves to the even number; strict refuses a value that isn't whole.
-#[derive(Drop)]
+#[derive(Clone, Copy)]
 pub enum Taking {
     Nearest,
     Strict,
 }
 
-#[derive(Drop)]
+#[derive(Clone, Copy)]
 pub enum Whole {
     Is(i64),
     Refused(Refusal),

@@ -7,7 +7,7 @@ ghost use Rattle.word.specs.Cuts.{Cuts};
 use crate::bits::{low_bits, power_of_two};
 
 // The characteristic c, and the fraction as f * 2^-64.
-#[derive(Drop)]
+#[derive(Clone, Copy)]
 pub struct Fields {
     pub c: i32,
     pub f: u64,

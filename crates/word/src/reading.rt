@@ -11,7 +11,7 @@ use bounds::refusal::{Refusal, Verdict};
 use bounds::width::Width;
 
 // A number is its sign and the size m * 2^(h - p), with 2^p <= m < 2^(p + 1).
-#[derive(Drop)]
+#[derive(Clone, Copy)]
 pub enum Kind {
     Zero,
     Nar,
@@ -25,7 +25,7 @@ pub enum Kind {
 }
 
 // What a word says, and how fine: how many fraction bits are its own. Zero and NaR have none, and a refusal comes with none.
-#[derive(Drop)]
+#[derive(Clone, Copy)]
 pub struct Reading {
     pub kind: Kind,
     pub own: u32,

@@ -8,7 +8,7 @@ use sheet::writing::Writing;
 
 // The position of the word that was refused; 0 where no word was. Of the words that were moved, `exact` is how many are exact.
 #[repr(C)]
-#[derive(Drop)]
+#[derive(Clone, Copy)]
 pub struct HandedColumn {
     pub refusal: u32,
     pub position: usize,
@@ -45,7 +45,7 @@ pub(crate) fn hand_column(column: MovedColumn) -> HandedColumn
 
 // The position of the word that was refused; 0 where no word was.
 #[repr(C)]
-#[derive(Drop)]
+#[derive(Clone, Copy)]
 pub struct HandedWriting {
     pub refusal: u32,
     pub position: usize,
@@ -71,7 +71,7 @@ pub(crate) fn hand_writing(answer: Writing) -> HandedWriting
 }
 
 #[repr(C)]
-#[derive(Drop)]
+#[derive(Clone, Copy)]
 pub struct HandedBlock {
     pub refusal: u32,
     pub width: u32,

@@ -6,7 +6,7 @@ use binary64::taking::Binary64;
 use whole::taking::Whole;
 
 #[repr(C)]
-#[derive(Drop)]
+#[derive(Clone, Copy)]
 pub struct HandedWhole {
     pub refusal: u32,
     pub whole: i64,
@@ -26,7 +26,7 @@ pub(crate) fn hand_whole(answer: Whole) -> HandedWhole
 
 // Where the word is NaR, `real` is false and the number a NaN, so that who passes over `real` doesn't go on with a 0.
 #[repr(C)]
-#[derive(Drop)]
+#[derive(Clone, Copy)]
 pub struct HandedNumber {
     pub refusal: u32,
     pub real: bool,

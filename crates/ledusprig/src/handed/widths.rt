@@ -5,7 +5,7 @@ ghost use Rattle.ledusprig.specs.Handed.{limit_handed, width_handed};
 use bounds::width::{Limit, Made};
 
 #[repr(C)]
-#[derive(Drop)]
+#[derive(Clone, Copy)]
 pub struct HandedLimit {
     pub refusal: u32,
     pub limit: u64,
@@ -24,7 +24,7 @@ pub(crate) fn hand_limit(answer: Limit) -> HandedLimit
 }
 
 #[repr(C)]
-#[derive(Drop)]
+#[derive(Clone, Copy)]
 pub struct HandedWidth {
     pub refusal: u32,
     pub width: u32,

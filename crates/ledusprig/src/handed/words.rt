@@ -8,7 +8,7 @@ use order::order::Comparison;
 use word::reading::{Kind, Reading};
 
 #[repr(C)]
-#[derive(Drop)]
+#[derive(Clone, Copy)]
 pub struct HandedWord {
     pub refusal: u32,
     pub word: u64,
@@ -28,7 +28,7 @@ pub(crate) fn hand_word(answer: Answer) -> HandedWord
 
 // A word that was written or moved, with the number of its saying.
 #[repr(C)]
-#[derive(Drop)]
+#[derive(Clone, Copy)]
 pub struct HandedSaying {
     pub refusal: u32,
     pub saying: u32,
@@ -55,7 +55,7 @@ pub(crate) fn hand_saying(answer: Written) -> HandedSaying
 // The kind is 0 for zero, 1 for NaR and 2 for a number: its sign and the size m * 2^(h - p), with 2^p <= m < 2^(p + 1). The word's own fraction bits
 // come with every kind.
 #[repr(C)]
-#[derive(Drop)]
+#[derive(Clone, Copy)]
 pub struct HandedReading {
     pub refusal: u32,
     pub kind: u32,
@@ -112,7 +112,7 @@ pub(crate) fn hand_reading(answer: Reading) -> HandedReading
 }
 
 #[repr(C)]
-#[derive(Drop)]
+#[derive(Clone, Copy)]
 pub struct HandedComparison {
     pub refusal: u32,
     pub order: i32,

@@ -1,0 +1,14 @@
+-- `Width::new` meets its contract: the answer follows the verdict. Assumes nothing.
+use mathlib.Core.Path.{refl, sym, ◌∙◌}
+use borrow.Author.Rules.{rules}
+use Rattle.bounds.specs.Refusals.{through, refused}
+use Rattle.bounds.specs.Widths.{Makes}
+use Rattle.bounds.proofs.width.Width.new.Goals as goal
+
+pub returns-in-Through : goal.returns-in-Through
+unfolding Makes
+returns-in-Through c = through (sym c.test.ensures ∙ c.in-Through.is) refl
+
+pub returns-in-Refused : goal.returns-in-Refused
+unfolding Makes
+returns-in-Refused c = refused (sym c.test.ensures ∙ c.in-Refused.is) refl

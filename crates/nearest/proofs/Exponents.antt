@@ -6,7 +6,7 @@ use native.Mathlib.Nat.{mul-one, mul_comm, zero-lt-suc}
 use native.Mathlib.Omega.{arith}
 use borrow.Author.Tests.{lt-ltb, le-ltb, ltb-true, ltb-false}
 use lib.Dec.{ltb}
-use lib.IntN.{ℤ, pos, negsuc, nat_abs, ◌+ℤ◌, ◌-ℤ◌, +ℤ_assoc, +ℤ_idr, +ℤ_neg_ℤ_cancel, pos-ne-negsuc}
+use lib.IntN.{ℤ, pos, negsuc, nat_abs, ◌+ℤ◌, ◌-ℤ◌, +ℤ_assoc, +ℤ_idr, +ℤ-neg_ℤ_cancel, pos-ne-negsuc}
 use lib.Pow.{pow-add, pow_pos}
 use lib.Signed.{mag, lt_z}
 use Rattle.word.specs.Reads.{num, den}
@@ -25,7 +25,7 @@ raised_inj h e f p q = ap nat_abs (sym p ∙ q)
 
 pub raised_same : (h h' : ℤ) (e : ℕ) → IsRaised h e → IsRaised h' e → h ≡ h'
 unfolding IsRaised
-raised_same h h' e p q = sym (+ℤ_neg_ℤ_cancel h (pos 255)) ∙ ap (λ (z : ℤ). z -ℤ pos 255) (p ∙ sym q) ∙ +ℤ_neg_ℤ_cancel h' (pos 255)
+raised_same h h' e p q = sym (+ℤ-neg_ℤ_cancel h (pos 255)) ∙ ap (λ (z : ℤ). z -ℤ pos 255) (p ∙ sym q) ∙ +ℤ-neg_ℤ_cancel h' (pos 255)
 
 -- 2^k with k = x + s, where 2^x is a fraction
 pub shift : (x : ℤ) (s k : ℕ) → x +ℤ pos s ≡ pos k → 2 ^ k * den x ≡ 2 ^ s * num x

@@ -7,7 +7,7 @@ use native.Mathlib.Nat.{mul-le-mul_right, mul-pos, one-mul, zero-mul, mod-lt, le
 use native.Mathlib.Decide.{dec_lt}
 use native.Mathlib.Omega.{arith}
 use lib.Dec.{lit<, lit≤}
-use lib.IntN.{ℤ, pos, ◌+ℤ◌, +ℤ_neg_ℤ_cancel}
+use lib.IntN.{ℤ, pos, ◌+ℤ◌, +ℤ-neg_ℤ_cancel}
 use lib.Pow.{pow_pos, pow_mono, shr_lt, split}
 use Rattle.bounds.specs.declared.answer.Answer.{Answer}
 use Rattle.bounds.specs.declared.refusal.Refusal.{Refusal}
@@ -102,7 +102,7 @@ module _ (n : ℕ) (lo : 2 ≤ n) (hi : n ≤ 64) (i y : ℕ) (k : ℤ) (full : 
   unfolding IsNearest
   class_word rest offered =
       let t = class_nearest n lo hi (k +ℤ pos (suc i) +ℤ pos 63) m rest m_full m_top in
-      (t.0, λ a b some x. t.1 a b some (subst (λ (z : ℤ). IsOffered m rest z a b) (sym (+ℤ_neg_ℤ_cancel (k +ℤ pos (suc i)) (pos 63))) (offered a b x)))
+      (t.0, λ a b some x. t.1 a b some (subst (λ (z : ℤ). IsOffered m rest z a b) (sym (+ℤ-neg_ℤ_cancel (k +ℤ pos (suc i)) (pos 63))) (offered a b x)))
 
   between_nearest : (w : ℕ) × ((a b : ℕ) → 0 < b → Between y k a b → Nearest n false a b w)
   between_nearest = by (dec_lt below (2 ^ i))

@@ -6,7 +6,7 @@ use native.Mathlib.Decide.{dec_lt}
 use native.Mathlib.Omega.{arith}
 use lib.Count.{count_leading_zeros}
 use lib.Dec.{lit≤}
-use lib.IntN.{ℤ, pos, ◌+ℤ◌, ◌-ℤ◌, +ℤ_neg_ℤ_cancel}
+use lib.IntN.{ℤ, pos, ◌+ℤ◌, ◌-ℤ◌, +ℤ-neg_ℤ_cancel}
 use lib.Pow.{shr_lt, split}
 use Rattle.word.specs.Reads.{num, den}
 use Rattle.bounds.proofs.Powers.{pow_sum, not_more, shl_below, shl_out, Log, leading_log}
@@ -101,7 +101,7 @@ module _ (high low : ℕ) (some : zero < high) (fits : high < 2 ^ 64) (low_fits 
   -- the exponent is k + 127 - zeros: the size is as before
   back : (k : ℤ) → k +ℤ pos (127 - zeros) -ℤ pos 127 +ℤ pos zeros ≡ k
   unfolding zeros
-  back k = ap (λ (x : ℕ). k +ℤ pos (127 - zeros) -ℤ pos 127 +ℤ pos x) rest ∙ lower_by (k +ℤ pos (127 - zeros)) (127 - zeros) 127 (omega arith) ∙ +ℤ_neg_ℤ_cancel k (pos (127 - zeros))
+  back k = ap (λ (x : ℕ). k +ℤ pos (127 - zeros) -ℤ pos 127 +ℤ pos x) rest ∙ lower_by (k +ℤ pos (127 - zeros)) (127 - zeros) 127 (omega arith) ∙ +ℤ-neg_ℤ_cancel k (pos (127 - zeros))
     where
       rest : zeros ≡ 127 - (127 - zeros)
       rest = omega (arith, few_zeros)

@@ -4,7 +4,7 @@ use Prim.Native.Nat.{ℕ, zero, suc, ◌-◌, ◌*◌, ◌%◌, ◌^◌, ◌≤�
 use native.Mathlib.Nat.{le_of_suc-le-suc, le_trans, le_of_eq, mul-le-mul_right}
 use native.Mathlib.Omega.{arith}
 use lib.Count.{count_leading_zeros}
-use lib.IntN.{ℤ, pos, ◌+ℤ◌, ◌-ℤ◌, +ℤ_neg_ℤ_cancel}
+use lib.IntN.{ℤ, pos, ◌+ℤ◌, ◌-ℤ◌, +ℤ-neg_ℤ_cancel}
 use lib.Pow.{shl_exact}
 use Rattle.word.specs.Reads.{num, den}
 use Rattle.bounds.proofs.Powers.{pow_sum, Log, leading_log}
@@ -36,7 +36,7 @@ module _ (m : ℕ) (some : zero < m) (fits : m < 2 ^ 64) where
   -- the exponent is k + 63 - zeros: the size is m * 2^k as before
   back : (k : ℤ) → k +ℤ pos (63 - zeros) -ℤ pos 63 +ℤ pos zeros ≡ k
   unfolding zeros
-  back k = ap (λ (x : ℕ). k +ℤ pos (63 - zeros) -ℤ pos 63 +ℤ pos x) rest ∙ lower_by (k +ℤ pos (63 - zeros)) (63 - zeros) 63 (omega arith) ∙ +ℤ_neg_ℤ_cancel k (pos (63 - zeros))
+  back k = ap (λ (x : ℕ). k +ℤ pos (63 - zeros) -ℤ pos 63 +ℤ pos x) rest ∙ lower_by (k +ℤ pos (63 - zeros)) (63 - zeros) 63 (omega arith) ∙ +ℤ-neg_ℤ_cancel k (pos (63 - zeros))
     where
       rest : zeros ≡ 63 - (63 - zeros)
       rest = omega (arith, zeros_le)

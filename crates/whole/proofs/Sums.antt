@@ -5,7 +5,7 @@ use Prim.Native.Nat.{ℕ, zero, suc, ◌+◌, ◌^◌, ◌≤◌}
 use native.Mathlib.Nat.{le_refl}
 use native.Mathlib.Omega.{arith}
 use lib.Dec.{ltb}
-use lib.IntN.{ℤ, pos, negsuc, neg_ℤ, nat_abs, suc_ℤ, pred_ℤ, ◌+ℤ◌, ◌-ℤ◌, ◌*ℤ◌, +ℤ_assoc, +ℤ_comm, +ℤ_idr, +ℤ_suc_ℤ, +ℤ_pred_ℤ, suc_ℤ-*ℤ, pred_ℤ-*ℤ, zero-*ℤ, neg_ℤ-+ℤ}
+use lib.IntN.{ℤ, pos, negsuc, neg_ℤ, nat_abs, suc_ℤ, pred_ℤ, ◌+ℤ◌, ◌-ℤ◌, ◌*ℤ◌, +ℤ_assoc, +ℤ_comm, +ℤ_idr, +ℤ-suc_ℤ, +ℤ-pred_ℤ, suc_ℤ-*ℤ, pred_ℤ-*ℤ, zero-*ℤ, neg_ℤ-+ℤ}
 use Rattle.whole.specs.Wholes.{off_by}
 
 -- ---- a factor comes out of a sum
@@ -16,10 +16,10 @@ times_sum x y k = by y
     none = ap (λ (z : ℤ). z *ℤ k) (+ℤ_idr x) ∙ sym (ap (λ (z : ℤ). x *ℤ k +ℤ z) (zero-*ℤ k) ∙ +ℤ_idr (x *ℤ k))
 
     more : (y : ℤ) → (x +ℤ y) *ℤ k ≡ x *ℤ k +ℤ y *ℤ k → (x +ℤ suc_ℤ y) *ℤ k ≡ x *ℤ k +ℤ suc_ℤ y *ℤ k
-    more y q = ap (λ (z : ℤ). z *ℤ k) (+ℤ_suc_ℤ x y) ∙ suc_ℤ-*ℤ (x +ℤ y) k ∙ ap (λ (z : ℤ). z +ℤ k) q ∙ +ℤ_assoc (x *ℤ k) (y *ℤ k) k ∙ ap (λ (z : ℤ). x *ℤ k +ℤ z) (sym (suc_ℤ-*ℤ y k))
+    more y q = ap (λ (z : ℤ). z *ℤ k) (+ℤ-suc_ℤ x y) ∙ suc_ℤ-*ℤ (x +ℤ y) k ∙ ap (λ (z : ℤ). z +ℤ k) q ∙ +ℤ_assoc (x *ℤ k) (y *ℤ k) k ∙ ap (λ (z : ℤ). x *ℤ k +ℤ z) (sym (suc_ℤ-*ℤ y k))
 
     less : (y : ℤ) → (x +ℤ y) *ℤ k ≡ x *ℤ k +ℤ y *ℤ k → (x +ℤ pred_ℤ y) *ℤ k ≡ x *ℤ k +ℤ pred_ℤ y *ℤ k
-    less y q = ap (λ (z : ℤ). z *ℤ k) (+ℤ_pred_ℤ x y) ∙ pred_ℤ-*ℤ (x +ℤ y) k ∙ ap (λ (z : ℤ). z -ℤ k) q ∙ +ℤ_assoc (x *ℤ k) (y *ℤ k) (neg_ℤ k) ∙ ap (λ (z : ℤ). x *ℤ k +ℤ z) (sym (pred_ℤ-*ℤ y k))
+    less y q = ap (λ (z : ℤ). z *ℤ k) (+ℤ-pred_ℤ x y) ∙ pred_ℤ-*ℤ (x +ℤ y) k ∙ ap (λ (z : ℤ). z -ℤ k) q ∙ +ℤ_assoc (x *ℤ k) (y *ℤ k) (neg_ℤ k) ∙ ap (λ (z : ℤ). x *ℤ k +ℤ z) (sym (pred_ℤ-*ℤ y k))
 
     by : (y : ℤ) → (x +ℤ y) *ℤ k ≡ x *ℤ k +ℤ y *ℤ k
     by (pos zero) = none

@@ -5,7 +5,7 @@ use mathlib.Core.Bool.{Bool, true, false}
 use Prim.Native.Nat.{ℕ, zero, suc, ◌+◌, ◌*◌, ◌^◌, ◌≤◌, ◌<◌}
 use native.Mathlib.Nat.{mul_assoc, mul_comm, zero-mul, le_of_eq, lt_of_lt_of_le, lt_irrefl, le_trans, mul-le-mul_right, mul-lt-mul_of_pos_right, eq_of_mul-eq-mul_right, mul-pos, le_antisymm, zero-lt-suc}
 use native.Mathlib.Omega.{arith}
-use lib.IntN.{ℤ, pos, negsuc, nat_abs, ◌+ℤ◌, ◌-ℤ◌, +ℤ_neg_ℤ_cancel, -ℤ-+ℤ_cancel, pos-ne-negsuc}
+use lib.IntN.{ℤ, pos, negsuc, nat_abs, ◌+ℤ◌, ◌-ℤ◌, +ℤ-neg_ℤ_cancel, -ℤ-+ℤ_cancel, pos-ne-negsuc}
 use lib.Pow.{pow_pos, pow-add, pow_mono}
 use Rattle.word.specs.declared.reading.Kind.{Kind}
 use Rattle.word.specs.declared.reading.Reading.{Reading}
@@ -82,7 +82,7 @@ module _ (p m m' : ℕ) (low : 2 ^ p ≤ m) (high : m < 2 ^ (p + 1)) (low' : 2 ^
       same = same_exponent a b even
 
       shifted : k ≡ k'
-      shifted = sym (+ℤ_neg_ℤ_cancel k (pos 307)) ∙ ap (λ (z : ℤ). z -ℤ pos 307) (balanced x y same) ∙ +ℤ_neg_ℤ_cancel k' (pos 307)
+      shifted = sym (+ℤ-neg_ℤ_cancel k (pos 307)) ∙ ap (λ (z : ℤ). z -ℤ pos 307) (balanced x y same) ∙ +ℤ-neg_ℤ_cancel k' (pos 307)
 
 -- ---- a size that isn't zero
 size_not_zero : (m : ℕ) (k : ℤ) (v : ℕ) → zero < m → IsSize m k v → zero < v

@@ -5,7 +5,7 @@ use Prim.Native.Nat.{ℕ, zero, suc, ◌+◌, ◌-◌, ◌*◌, ◌≤◌}
 use native.Mathlib.Nat.{zero-mul, add_comm}
 use native.Mathlib.Omega.{arith}
 use lib.Dec.{T, eqb, eqb→eq}
-use lib.IntN.{ℤ, pos, negsuc, neg_ℤ, nat_abs, ◌+ℤ◌, ◌-ℤ◌, ◌*ℤ◌, +ℤ_assoc, +ℤ_comm, neg_ℤ-+ℤ, neg_ℤ-neg_ℤ, +ℤ_neg_ℤ_cancel, -ℤ-+ℤ_cancel}
+use lib.IntN.{ℤ, pos, negsuc, neg_ℤ, nat_abs, ◌+ℤ◌, ◌-ℤ◌, ◌*ℤ◌, +ℤ_assoc, +ℤ_comm, neg_ℤ-+ℤ, neg_ℤ-neg_ℤ, +ℤ-neg_ℤ_cancel, -ℤ-+ℤ_cancel}
 
 -- what is taken away and what is added may trade places
 pub sub_add : (x y z : ℤ) → x -ℤ y +ℤ z ≡ x +ℤ z -ℤ y
@@ -13,12 +13,12 @@ sub_add x y z = +ℤ_assoc x (neg_ℤ y) z ∙ ap (λ (v : ℤ). x +ℤ v) (+ℤ
 
 -- a + b less b
 pub pos_sub : (a b : ℕ) → pos (a + b) -ℤ pos b ≡ pos a
-pos_sub a b = +ℤ_neg_ℤ_cancel (pos a) (pos b)
+pos_sub a b = +ℤ-neg_ℤ_cancel (pos a) (pos b)
 
 -- z - a + b = c, solved for z
 solved : (z : ℤ) (a b c : ℕ) → z -ℤ pos a +ℤ pos b ≡ pos c → z ≡ pos (c + a) -ℤ pos b
 solved z a b c h =
-    sym (-ℤ-+ℤ_cancel z (pos a)) ∙ ap (λ (v : ℤ). v +ℤ pos a) (sym (+ℤ_neg_ℤ_cancel (z -ℤ pos a) (pos b))) ∙ ap (λ (v : ℤ). v -ℤ pos b +ℤ pos a) h
+    sym (-ℤ-+ℤ_cancel z (pos a)) ∙ ap (λ (v : ℤ). v +ℤ pos a) (sym (+ℤ-neg_ℤ_cancel (z -ℤ pos a) (pos b))) ∙ ap (λ (v : ℤ). v -ℤ pos b +ℤ pos a) h
     ∙ sub_add (pos c) (pos b) (pos a)
 
 -- the same number z by another sum: z - a + b = c gives z - a' + b' = c' where c + a + b' = c' + a' + b, and the other way round

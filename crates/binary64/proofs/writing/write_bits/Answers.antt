@@ -1,0 +1,98 @@
+-- `write_bits` meets its contract: the fields that it cuts out are those of the value. Assumes nothing.
+use mathlib.Core.Path.{◌≡◌, refl, sym, ap, ◌∙◌, subst}
+use mathlib.Core.Bool.{Bool, cond}
+use Prim.Native.Nat.{ℕ, ◌+◌, ◌*◌, ◌/◌, ◌^◌, ◌<◌}
+use native.Mathlib.Omega.{arith}
+use borrow.Author.Rules.{rules}
+use borrow.Author.Tests.{ne_eqb}
+use lib.Bits.{mask_lt}
+use lib.IntN.{ℤ, pos, ◌-ℤ◌}
+use mir.Facts.{to_z-of_z, to_z_pos}
+use mir.Syntax.{w32}
+use mir.Val.{SFits, to_z, of_z}
+use lib.Ieee.{binary64, of_bits}
+use Rattle.bounds.specs.declared.answer.Answer.{Answer}
+use Rattle.bounds.specs.declared.saying.Saying.TheVariants.{Exact}
+use Rattle.bounds.specs.Refusals.{width_test, Decided, through, refused}
+use Rattle.bounds.specs.Sayings.{exactly}
+use Rattle.bounds.specs.Widths.{nar_word, GivesWord}
+use Rattle.bounds.proofs.Answers.{word_said, refusal_said}
+use Rattle.word.proofs.Signed.{sub_mag}
+use Rattle.write.specs.Writes.{Writes}
+use Rattle.write.specs.Sayings.{WritesAndSays}
+use Rattle.binary64.specs.Writes.{WritesBinary64}
+use Rattle.binary64.specs.Sayings.{WritesBinary64AndSays}
+use Rattle.binary64.proofs.Decisions.{decided_as}
+use Rattle.binary64.proofs.Patterns.{sign_bit, field, digits, lead, Unbounded, pattern_unbounded}
+use Rattle.binary64.proofs.Written.{unbounded_written, unbounded_said, written_with_lead, written_without_lead, said_with_lead, said_without_lead}
+use Rattle.binary64.proofs.writing.write_bits.Goals as goal
+
+-- the fields of a number with a leading digit, as the machine holds them
+module _ (c : goal.Else-exponent-eq0) where
+  abbrev b : ℕ
+  b = c.args.bits
+
+  one : lead (field b) ≡ 1
+  one = ap (λ (t : Bool). cond t 0 1) (ne_eqb (field b) 0 c.if-exponent-eq0.false)
+
+  field_fits : field b < 2 ^ 11
+  field_fits = mask_lt (b / 2 ^ 52) 11
+
+  digits_fit : digits b < 2 ^ 52
+  digits_fit = mask_lt b 52
+
+  difference : to_z w32 (field b) -ℤ pos 1075 ≡ pos (field b) -ℤ pos 1075
+  difference = ap (λ (z : ℤ). z -ℤ pos 1075) (to_z_pos w32 small)
+    where
+      small : field b < 2 ^ 31
+      small = omega (arith, field_fits)
+
+  difference_fits : SFits w32 (pos (field b) -ℤ pos 1075)
+  difference_fits = record { sfits = omega (arith, sub_mag (pos (field b)) (pos 1075), field_fits) }
+
+  exponent : to_z w32 (of_z w32 (to_z w32 (field b) -ℤ pos 1075)) ≡ pos (field b) -ℤ pos 1075
+  exponent = ap (λ (z : ℤ). to_z w32 (of_z w32 z)) difference ∙ to_z-of_z difference_fits
+
+pub returns-then-exponent-eq2047 : goal.returns-then-exponent-eq2047
+unfolding WritesBinary64AndSays WritesBinary64 GivesWord
+returns-then-exponent-eq2047 c = by k.nar.ensures
+  where
+    k : tie.After-nar
+    k = c.before
+
+    s : tie.Start
+    s = k.before.before
+
+    unbounded : Unbounded (of_bits binary64 s.args.bits)
+    unbounded = pattern_unbounded _ k.before.if1.taken
+
+    by : Decided (width_test s.args.width.bits) (λ q. k.nar.result ≡ Answer.Refused q) (k.nar.result ≡ Answer.Word (nar_word s.args.width.bits)) → WritesBinary64AndSays s.args.width.bits s.args.rule (of_bits binary64 s.args.bits) c.exactly.result
+    by (through h x) = subst (WritesBinary64AndSays s.args.width.bits s.args.rule (of_bits binary64 s.args.bits)) (sym (c.exactly.ensures ∙ ap exactly x)) (word_said _ Exact (through h (unbounded_written _ _ _ _ unbounded refl)) (unbounded_said _ _ _ unbounded))
+    by (refused h x) = subst (WritesBinary64AndSays s.args.width.bits s.args.rule (of_bits binary64 s.args.bits)) (sym (c.exactly.ensures ∙ ap exactly x)) (refusal_said _ (refused h refl))
+
+pub returns-then-exponent-eq0 : goal.returns-then-exponent-eq0
+unfolding WritesBinary64AndSays WritesBinary64 WritesAndSays Writes
+returns-then-exponent-eq0 c =
+    let b = c.args.bits in
+    record {
+      answers = decided_as (λ q h. h) (written_without_lead _ _ _ b c.if-exponent-eq2047.false c.if-exponent-eq0.true) c.write.ensures.answers;
+      says = λ w q is. said_without_lead _ w q b c.if-exponent-eq2047.false c.if-exponent-eq0.true (c.write.ensures.says w q is);
+    }
+
+pub overflow_add-m : goal.overflow_add-m
+overflow_add-m c = record { fits = omega (arith, digits_fit c) }
+
+pub overflow_cast-k : goal.overflow_cast-k
+overflow_cast-k c = record { sfits = omega (arith, field_fits c) }
+
+pub overflow_sub-k : goal.overflow_sub-k
+overflow_sub-k c = subst (λ (z : ℤ). SFits w32 z) (sym (difference c)) (difference_fits c)
+
+pub returns : goal.returns
+unfolding WritesBinary64AndSays WritesBinary64 WritesAndSays Writes
+returns c =
+    let x = subst (λ (z : ℤ). WritesAndSays c.args.width.bits c.args.rule (record { negative = sign_bit c.args.bits; m = digits c.args.bits + 2 ^ 52; c.before = z }) c.write-2.result) (exponent c.before) c.write-2.ensures in
+    record {
+      answers = decided_as (λ q h. h) (written_with_lead _ _ _ c.args.bits c.if-exponent-eq2047.false (one c.before)) x.answers;
+      says = λ w q is. said_with_lead _ w q c.args.bits c.if-exponent-eq2047.false (one c.before) (x.says w q is);
+    }

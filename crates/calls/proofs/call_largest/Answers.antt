@@ -1,0 +1,7 @@
+-- `call_largest` meets its contract, by that of `takum_largest`. Assumes nothing.
+use borrow.Author.Rules.{rules}
+use Rattle.promises.proofs.FaceWords.{largest_hands}
+use Rattle.calls.proofs.call_largest.Goals as goal
+
+pub returns : goal.returns
+returns c = largest_hands _ _ c.takum_largest.ensures

@@ -1,0 +1,19 @@
+-- `put_blocks` meets its contract. The invariant of its loop: the text of the blocks before byte i stands, `here` is the place of the next, and the
+-- counts are those of the blocks before byte i. Assumes nothing.
+use Rattle.std.proofs.Common.{◌≡◌, ℕ, ◌+◌, ◌-◌, ◌*◌, ◌<◌, ◌≤◌, List, [], ◌++◌, length, refl, ap, ◌∙◌, subst, zero-le, arith, rules}
+use Rattle.sheet.specs.Reads.{block_test}
+use Rattle.listing.specs.Listing.{most, text_room, ListsBlock, refusal_number}
+use Rattle.listing.specs.Puts.{Puts, PutsSome}
+use Rattle.listing.proofs.Placed as Placed
+use Rattle.listing.proofs.Placed.{nothing_put, joined}
+use Rattle.lister.specs.Counts.{with_one_more}
+use Rattle.lister.proofs.Counted as Counted
+use Rattle.lister.proofs.Gathered.{SoFar, none_yet, one_more, all_of_them}
+use Rattle.lister.proofs.runs.put_blocks.Given as goal
+
+abbrev pub invariant-loop-i : goal.invariant-loop-i
+invariant-loop-i l =
+    (l.i + 512 * l.place ≡ 512 * l.here) × (l.i < length l.piece + 512) × (l.at + 47616 * l.place ≤ 47616 * l.here) × (t : List ℕ) × Puts l.initial.out 0 t l.out l.at × SoFar l.piece l.place l.i l.here t × (length l.counts ≡ length l.initial.counts) × Counted.SoFar l.piece l.initial.counts l.i l.counts
+
+abbrev pub decreases-loop-i : goal.decreases-loop-i
+decreases-loop-i l = length l.piece - l.i

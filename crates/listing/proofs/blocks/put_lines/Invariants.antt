@@ -1,0 +1,22 @@
+-- `put_lines` meets its contract. The invariant of its loop: the lines of the words before i stand. Assumes nothing.
+use mathlib.Core.Path.{sym, subst}
+use mathlib.Core.List.{List, [], ◌++◌}
+use Prim.Native.Nat.{ℕ, ◌+◌, ◌-◌, ◌*◌, ◌≤◌, zero-le}
+use native.Mathlib.Numerals.{add-one-le}
+use native.Mathlib.Omega.{arith}
+use borrow.Author.Count.{falls}
+use borrow.Author.Rules.{rules}
+use lib.ListN.{take}
+use lib.Seq.{length-take-le, get_or-take}
+use Rattle.listing.specs.Puts.{Puts, PutsSome}
+use Rattle.listing.specs.Text.{IsLine}
+use Rattle.listing.proofs.Placed as Placed
+use Rattle.listing.proofs.Placed.{nothing_put, joined}
+use Rattle.listing.proofs.Listed.{SoFar, none_yet, one_more, all_of_them}
+use Rattle.listing.proofs.blocks.put_lines.Given as goal
+
+abbrev pub invariant-loop-i : goal.invariant-loop-i
+invariant-loop-i l = (l.i ≤ l.count) × (l.next ≤ l.at + 96 * l.i) × (t : List ℕ) × Puts l.initial.out l.at t l.out l.next × SoFar l.number l.width (take l.count l.words) l.i t
+
+abbrev pub decreases-loop-i : goal.decreases-loop-i
+decreases-loop-i l = l.count - l.i

@@ -1,0 +1,11 @@
+-- `glyph` meets its contract. Assumes nothing.
+use mathlib.Core.Path.{refl}
+use borrow.Author.Tests.{lt-ltb, le-ltb}
+use borrow.Author.Rules.{rules}
+use Rattle.listing.proofs.text.glyph.Goals as goal
+
+pub returns-then-d-lt10 : goal.returns-then-d-lt10
+returns-then-d-lt10 c = rw (lt-ltb _ _ c.if-d-lt10.true) refl
+
+pub returns : goal.returns
+returns c = rw (le-ltb _ _ c.if-d-lt10.false) refl

@@ -1,0 +1,21 @@
+-- `put_digits` meets its contract. The invariant of its loop: the digits from the last one on stand, and the rest of the number gives those in
+-- front of them. Assumes nothing.
+use mathlib.Core.Path.{◌≡◌, refl, ap, ap₂, ◌∙◌, subst}
+use mathlib.Core.List.{List, ◌++◌}
+use Prim.Native.Nat.{ℕ, ◌+◌, ◌-◌, ◌/◌, ◌%◌, ◌^◌, ◌≤◌, ◌<◌}
+use native.Mathlib.Nat.{le_refl, mod-lt, lt_of_lt_of_le, lt_trans}
+use native.Mathlib.Omega.{arith}
+use borrow.Author.Count.{falls_down}
+use borrow.Author.Rules.{rules}
+use lib.Dec.{lit<}
+use lib.ListN.{length, take, drop, set, length-set}
+use Rattle.io.specs.Digits.{last_digits}
+use Rattle.io.specs.Digits as Digits
+use Rattle.listing.proofs.Digits.{none_yet, whole_left, one_in_front, less_left, all_put}
+use Rattle.listing.proofs.text.put_digits.Given as goal
+
+abbrev pub invariant-loop-left : goal.invariant-loop-left
+invariant-loop-left l = (l.left ≤ l.count) × (l.out ≡ take (l.at + l.left) l.initial.out ++ last_digits l.base (l.count - l.left) l.n ++ drop (l.at + l.count) l.initial.out) × (l.rest ≡ l.n / l.base ^ (l.count - l.left)) × (length l.out ≡ length l.initial.out)
+
+abbrev pub decreases-loop-left : goal.decreases-loop-left
+decreases-loop-left l = l.left

@@ -1,0 +1,85 @@
+-- `write_size` meets its contract: zero, and any other size with its top bit moved to 2^63. Assumes nothing.
+use mathlib.Core.Path.{◌≡◌, refl, sym, ap, ◌∙◌, subst}
+use Prim.Native.Nat.{ℕ, zero, ◌-◌, ◌*◌, ◌%◌, ◌^◌, ◌≤◌, ◌<◌}
+use native.Mathlib.Nat.{pos_of_ne-zero, zero-mul, lt_of_le_of_lt, mul-pos, mod-lt}
+use native.Mathlib.Omega.{arith}
+use borrow.Author.Rules.{rules, sfits_of}
+use lib.Dec.{lit<}
+use lib.Pow.{pow_pos}
+use lib.Count.{count_leading_zeros}
+use lib.IntN.{ℤ, pos, ◌+ℤ◌, ◌-ℤ◌}
+use mir.Val.{SFits, to_z, of_z}
+use mir.Syntax.{w32, w64}
+use Rattle.word.specs.Reads.{num}
+use Rattle.word.proofs.Units.{unit_some, lower_by}
+use Rattle.round.specs.Writes.{WritesShort}
+use Rattle.round.specs.Sayings.{WritesShortAndSays, WritesSizeAndSays}
+use Rattle.nearest.specs.declared.size.Rest.{Rest}
+use Rattle.nearest.specs.Offers.{IsRest}
+use Rattle.nearest.specs.Sayings.{FindsAndSays}
+use Rattle.round.proofs.Normal.{zeros_le, shifted_full, shifted_offer}
+use Rattle.round.proofs.Rules.{zero_answered, settles}
+use Rattle.round.proofs.Held.{lowered_fits, held_difference, wide}
+use Rattle.round.proofs.writing.write_size.Goals as goal
+
+-- what is known of a size that isn't zero
+module _ (c : goal.After-struct_told-1) where
+  abbrev s : goal.Start
+  s = c.before.before.before
+
+  abbrev m : ℕ
+  m = s.args.size.m
+
+  abbrev h : ℤ
+  h = s.args.size.h
+
+  some : zero < m
+  some = pos_of_ne-zero c.if-m-eq0.false
+
+  fits : m < 2 ^ 64
+  fits = c.struct_told-1.given.1.1.0.1
+
+  h_fits : SFits w32 h
+  h_fits = sfits_of c.struct_told-1.given.1.0.1
+
+  few : count_leading_zeros 64 m ≤ 63
+  few = zeros_le m some fits
+
+  small : count_leading_zeros 64 m < 2 ^ 31
+  small = lt_of_le_of_lt few (lit< tt)
+
+  full : 2 ^ 63 ≤ m * 2 ^ count_leading_zeros 64 m % 2 ^ 64
+  full = shifted_full m some fits
+
+  -- the exponent as the machine has it, beside that of the value
+  held : to_z w64 (of_z w64 (to_z w64 (of_z w64 (to_z w32 (of_z w32 h))) -ℤ to_z w64 (count_leading_zeros 64 m))) ≡ h -ℤ pos 63 +ℤ pos (63 - count_leading_zeros 64 m)
+  held = held_difference h h_fits (count_leading_zeros 64 m) small ∙ sym (lower_by h (count_leading_zeros 64 m) 63 few)
+
+pub returns-then-m-eq0 : goal.returns-then-m-eq0
+unfolding WritesSizeAndSays WritesShortAndSays WritesShort
+returns-then-m-eq0 c = let e = c.args.size.h -ℤ pos 63 +ℤ pos 307 in
+    zero_answered _ _ _ _ _ _ (ap (λ (x : ℕ). x * num e) c.if-m-eq0.true ∙ zero-mul (num e)) c.zero_word.ensures
+
+pub overflow_cast-h : goal.overflow_cast-h
+overflow_cast-h c = wide (h c) (h_fits c)
+
+pub overflow_cast-h-2 : goal.overflow_cast-h-2
+overflow_cast-h-2 c = record { sfits = omega (arith, small c) }
+
+pub overflow_sub-h : goal.overflow_sub-h
+overflow_sub-h c = lowered_fits (h c) (h_fits c) (count_leading_zeros 64 (m c)) (small c)
+
+pub overflow_cast-full : goal.overflow_cast-full
+overflow_cast-full c = record { fits = lt_of_le_of_lt (few c) (lit< tt) }
+
+pub overflow_shl-full : goal.overflow_shl-full
+overflow_shl-full c = lt_of_le_of_lt (few c) (lit< tt)
+
+pub returns : goal.returns
+unfolding WritesSizeAndSays WritesShortAndSays WritesShort IsRest
+returns c = let t = s c.before.before in
+    let size = t.args.size in
+    subst (WritesSizeAndSays t.args.width.bits t.args.rule size) (sym c.by_rule.ensures)
+    (settles _ t.args.rule size.negative _ _ _ _ (full c.before.before) (mod-lt _ (pow_pos 64))
+    (subst (λ (z : ℤ). FindsAndSays t.args.width.bits size.negative z (m c.before.before * 2 ^ count_leading_zeros 64 (m c.before.before) % 2 ^ 64) 0 c.nearest-found.result) (held c.before.before) c.nearest-found.ensures)
+    Rest.Nothing refl _ _ (mul-pos (some c.before.before) (unit_some _).0) (unit_some _).1 (shifted_offer _ (some c.before.before) (fits c.before.before) (h c.before.before -ℤ pos 63)))

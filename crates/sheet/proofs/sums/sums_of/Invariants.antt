@@ -1,0 +1,12 @@
+-- `sums_of` meets its contract. The invariant of its loop: a and b are the sums of the first i numbers, in that what is still to come makes them A and B.
+-- The measure is how many numbers are left. Assumes nothing.
+use Rattle.std.proofs.Common.{◌-◌, ◌≤◌, zero-le, arith, rules}
+use Rattle.sheet.specs.Layout.{numbers}
+use Rattle.sheet.proofs.Checks.{Summed, summed_none, block_more, block_all}
+use Rattle.sheet.proofs.sums.sums_of.Given as goal
+
+abbrev pub invariant-loop-i : goal.invariant-loop-i
+invariant-loop-i l = (l.i ≤ 126) × Summed (numbers l.block) l.i l.a l.b
+
+abbrev pub decreases-loop-i : goal.decreases-loop-i
+decreases-loop-i l = 126 - l.i

@@ -5,6 +5,7 @@ use native.Mathlib.Nat.{mul_assoc, mul-div_cancel, zero-lt-suc}
 use native.Mathlib.Omega.{arith}
 use borrow.Author.Rules.{rules, sfits_of}
 use mir.Facts.{to_z-of_z}
+use mir.Syntax.{w32}
 use Rattle.word.specs.Cuts.{Cuts}
 use Rattle.sizes.specs.Sizes.{without_sign}
 use Rattle.word.specs.Takum as Takum
@@ -27,6 +28,6 @@ returns c =
     let x : Cuts t c.cut-fields.result = subst (λ (y : ℕ). Cuts y c.cut-fields.result) c.without_sign.ensures c.cut-fields.ensures in
     record {
       sign = refl;
-      characteristic = to_z-of_z (sfits_of c.struct_told-1.given.0.1) ∙ x.characteristic;
+      characteristic = to_z-of_z {w = w32} (sfits_of c.type_inv.fields.0.1) ∙ x.characteristic;
       significand = ap (λ (f : ℕ). 2 ^ 63 + f / 2) x.fraction ∙ ap (λ (y : ℕ). 2 ^ 63 + y) (halved (Takum.F 64 t) (Takum.p 64 t) (few t));
     }

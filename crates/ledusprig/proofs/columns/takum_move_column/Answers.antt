@@ -6,8 +6,8 @@ use Rattle.ledusprig.proofs.columns.takum_move_column.Goals as goal
 
 pub returns-then-rule-eq0 : goal.returns-then-rule-eq0
 unfolding MovesTheColumn
-returns-then-rule-eq0 c = record { answer = c.move_column.result; given = rw c.if-rule-eq0.true c.move_column.ensures; is = c.hand_column.ensures }
+returns-then-rule-eq0 c = record { answer = c.move_column.result; given = rw c.if-rule-eq0.true (c.move_column.ensures.moves_column, c.move_column.ensures.holds_and_counts); is = c.hand_column.ensures }
 
 pub returns : goal.returns
 unfolding MovesTheColumn
-returns c = record { answer = c.move_column-2.result; given = rw (other_than_0 c.if-rule-eq0.false) c.move_column-2.ensures; is = c.hand_column-2.ensures }
+returns c = record { answer = c.move_column-2.result; given = rw (other_than_0 c.if-rule-eq0.false) (c.move_column-2.ensures.moves_column, c.move_column-2.ensures.holds_and_counts); is = c.hand_column-2.ensures }

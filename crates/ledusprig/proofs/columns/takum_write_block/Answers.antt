@@ -5,4 +5,4 @@ use Rattle.ledusprig.proofs.columns.takum_write_block.Goals as goal
 
 pub returns : goal.returns
 unfolding WritesTheBlock
-returns c = record { answer = c.write_block.result; given = c.write_block.ensures; is = c.hand_writing.ensures }
+returns c = record { answer = c.write_block.result; given = (c.write_block.ensures.writes_block, c.write_block.ensures.fills_buffer); is = c.hand_writing.ensures }

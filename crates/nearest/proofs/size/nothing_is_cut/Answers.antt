@@ -16,9 +16,6 @@ pub returns : goal.returns
 unfolding TellsNothing
 returns c = by c.is_none.result c.is_none.ensures
   where
-    s : tie.Start
-    s = c.before.before
-
-    by : (b : Bool) → b ≡ is_none s.args.rest → TellsNothing s.args.cut s.args.rest b
-    by true q = (c.if-cut-ne0.false, no_rest s.args.rest (sym q))
-    by false q = inr (some_rest s.args.rest (sym q))
+    by : (b : Bool) → b ≡ is_none c.args.rest → TellsNothing c.args.cut c.args.rest b
+    by true q = (c.if-cut-ne0.false, no_rest c.args.rest (sym q))
+    by false q = inr (some_rest c.args.rest (sym q))

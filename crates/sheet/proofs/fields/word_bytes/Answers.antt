@@ -5,4 +5,4 @@ use Rattle.sheet.proofs.fields.word_bytes.Goals as goal
 
 pub returns : goal.returns
 unfolding word_bytes
-returns c = (ap (λ (n : ℕ). n / 8) c.width_of_lem.ensures.0, omega arith)
+returns c = (ap (λ (n : ℕ). n / 8) c.width_of.ensures.0, omega arith)

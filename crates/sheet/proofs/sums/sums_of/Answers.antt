@@ -16,7 +16,7 @@ loop-i-smaller c = omega arith
 
 pub loop-i-preserved : goal.loop-i-preserved
 loop-i-preserved c =
-    (omega arith, block_more _ _ _ _ _ (omega arith) c.four_bytes.ensures c.loop-i.invariant.1 _ _ c.wrapping_add_u32-a.ensures c.wrapping_add_u32-b.ensures)
+    (omega arith, block_more _ _ _ _ _ (omega arith) c.four_bytes.ensures c.loop-i.invariant.1 _ _ c.wrapping_add_u32-a.ensures.value c.wrapping_add_u32-b.ensures.value)
 
 pub returns : goal.returns
 returns c = block_all _ _ _ _ c.loop-i-test.false c.loop-i.invariant.1

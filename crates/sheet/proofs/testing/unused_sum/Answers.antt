@@ -8,7 +8,7 @@ use Rattle.sheet.proofs.Unused.{unused_none, unused_more, unused_all}
 use Rattle.sheet.proofs.testing.unused_sum.Goals as goal
 
 pub loop-at-init : goal.loop-at-init
-loop-at-init c = (zero-le, unused_none c.args.block.now _ c.end_of_lem.ensures)
+loop-at-init c = (zero-le, unused_none c.args.block.now _ c.end_of-at.ensures)
 
 pub one_byte-sum-requires : goal.one_byte-sum-requires
 one_byte-sum-requires c = omega arith

@@ -1,7 +1,7 @@
 -- `nearest_inside` meets its contract: the cut of the first bits is the word at or below, and the side of the midpoint decides. Assumes nothing.
 use mathlib.Core.Bool.{Bool, true, false, not}
 use mathlib.Core.Path.{◌≡◌, sym, ap, ◌∙◌, subst}
-use Prim.Native.Nat.{ℕ, zero, suc, ◌+◌, ◌-◌, ◌*◌, ◌/◌, ◌%◌, ◌^◌, ◌≤◌, ◌<◌}
+use Prim.Native.Nat.{ℕ, zero, ◌+◌, ◌-◌, ◌*◌, ◌/◌, ◌%◌, ◌^◌, ◌≤◌, ◌<◌}
 use native.Mathlib.Omega.{arith}
 use native.Mathlib.Nat.{pos_of_ne-zero, lt_of_lt_of_le}
 use lib.Dec.{eqb}
@@ -19,7 +19,6 @@ use Rattle.nearest.proofs.Hub.{two_shifts, start_lt, below_end, at_zero, at_end,
 use Rattle.nearest.proofs.Sayings.{LowTells, by_end, by_nothing, said_short, said_beyond, said_largest, said_beside}
 use Rattle.nearest.proofs.Sides.{Given, lower_lt, gap_le, upper_small, under_upper}
 use Rattle.nearest.proofs.Exponents.{raise, raised_inj}
-use Rattle.nearest.specs.Offers.{IsNearest}
 use Rattle.nearest.specs.Parts.{Begins, first_bits, IsRaised, TellsPowers, ChoosesByCut, TellsEnd, TellsNothing, chosen_of, saying_of, IsNear}
 use Rattle.nearest.proofs.size.nearest_inside.Goals as goal
 

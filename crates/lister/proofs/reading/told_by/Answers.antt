@@ -5,10 +5,6 @@ use Rattle.io.specs.Counts.{clamp_len}
 use Rattle.lister.proofs.Told.{failed, answered}
 use Rattle.lister.proofs.reading.told_by.Goals as goal
 
--- GONE slice-aggregate-fail: no such goal today
--- slice-aggregate-fail : tie.Need-slice-aggregate-fail
--- slice-aggregate-fail c = search rules
-
 pub returns-then-answer-lt0 : goal.returns-then-answer-lt0
 returns-then-answer-lt0 c = failed c.args.answer _ _ (sym (ap (λ (z : ℤ). lt_z z (pos 0)) (to_z-of_z c.ranges.answer)) ∙ c.if1.true) refl refl
 

@@ -1,5 +1,5 @@
 -- `write_block` meets its contract: the tests are made in the paper's order, then the words are tried, and only then is anything written. Assumes nothing.
-use Rattle.std.proofs.Common.{refl, arith, rules}
+use Rattle.std.proofs.Common.{refl, arith}
 use Rattle.bounds.specs.Refusals.{through, refused}
 use Rattle.sheet.specs.Writes.{IsTried, WritesBlock, FillsBuffer}
 use Rattle.sheet.proofs.Contents.{is_wide, isn't_wide, other_width, old_width, too_many, other_buffer, content_passes, stray_refused, none_stray}
@@ -54,7 +54,7 @@ returns-then-position-words c =
 
 pub put_block-requires : goal.put_block-requires
 put_block-requires c = record {
-  buffer_value = content_passes _ _ _ (is_wide _ c.is_block_width.result c.is_block_width.ensures c.if-not-is_block_width.false) c.if-width-eq-RETIRED.false c.if-words-width.false c.if-buffer-ne512.false;
+  passes = content_passes _ _ _ (is_wide _ c.is_block_width.result c.is_block_width.ensures c.if-not-is_block_width.false) c.if-width-eq-RETIRED.false c.if-words-width.false c.if-buffer-ne512.false;
   fit_up_to = none_stray _ _ _ c.first_stray-position.ensures c.if-position-words.false;
 }
 

@@ -22,7 +22,7 @@ module _ (s : goal.Start) where
       together = omega (arith, s.requires.0)
 
   sum_fits : s.args.high * 2 ^ zeros + s.args.low / 2 ^ (64 - zeros) < 2 ^ 64
-  sum_fits = high_room s.args.high s.args.low zeros s.requires.0 s.requires.1 s.fits.low.fits
+  sum_fits = high_room s.args.high s.args.low zeros s.requires.0 s.requires.1 s.ranges.low.fits
 
   high_bits : s.args.high * 2 ^ zeros % 2 ^ 64 ≡ s.args.high * 2 ^ zeros
   high_bits = mod-eq_of_lt s.requires.1

@@ -1,5 +1,5 @@
--- `try_words` meets its contract. The invariant of its loop: every word before the position is moved to some word. The measure is the number of words that
--- are left. Assumes nothing.
+-- The invariant of the loop of `try_words`: every word before the position is moved to some word. The measure is the number of words that are left.
+-- Assumes nothing.
 use Prim.Native.Nat.{◌-◌, ◌≤◌}
 use lib.ListN.{length}
 use Rattle.column.specs.Columns.{MovableUpTo}

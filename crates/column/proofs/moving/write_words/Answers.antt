@@ -1,5 +1,4 @@
--- `write_words` meets its contract. The invariant of its loop: the first i results are the moved words, the others are as they were. The measure
--- is the number of words that are left. Assumes nothing.
+-- `write_words` meets its contract. Assumes nothing.
 use mathlib.Core.Bool.{Bool, true, false}
 use mathlib.Core.Path.{refl}
 use Prim.Native.Nat.{◌≤◌, zero-le}

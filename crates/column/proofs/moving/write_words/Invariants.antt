@@ -1,5 +1,5 @@
--- `write_words` meets its contract. The invariant of its loop: the first i results are the moved words, the others are as they were. The measure
--- is the number of words that are left. Assumes nothing.
+-- The invariant of the loop of `write_words`: the first i results are the moved words, the others are as they were. The measure is the number of
+-- words that are left. Assumes nothing.
 use Prim.Native.Nat.{◌-◌, ◌≤◌}
 use lib.ListN.{length}
 use Rattle.column.specs.Columns.{AreMoved}

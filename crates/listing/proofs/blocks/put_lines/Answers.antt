@@ -1,4 +1,4 @@
--- `put_lines` meets its contract. The invariant of its loop: the lines of the words before i stand. Assumes nothing.
+-- `put_lines` meets its contract. Assumes nothing.
 use mathlib.Core.Path.{sym, subst}
 use mathlib.Core.List.{[], ◌++◌}
 use Prim.Native.Nat.{ℕ, zero-le}

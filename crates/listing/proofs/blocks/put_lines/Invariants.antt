@@ -1,4 +1,4 @@
--- `put_lines` meets its contract. The invariant of its loop: the lines of the words before i stand. Assumes nothing.
+-- The invariant of the loop of `put_lines`: the lines of the words before i stand. Assumes nothing.
 use mathlib.Core.List.{List}
 use Prim.Native.Nat.{ℕ, ◌+◌, ◌-◌, ◌*◌, ◌≤◌}
 use lib.ListN.{take}

@@ -1,4 +1,4 @@
--- `places` meets its contract. The invariant of its loop: what is left of n after k digits. Assumes nothing.
+-- The invariant of the loop of `places`: what is left of n after k digits. Assumes nothing.
 use mathlib.Core.Path.{◌≡◌}
 use Prim.Native.Nat.{◌-◌, ◌/◌, ◌^◌, ◌≤◌, ◌<◌}
 use Rattle.listing.proofs.text.places.Given as goal

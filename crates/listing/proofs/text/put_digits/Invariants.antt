@@ -1,5 +1,5 @@
--- `put_digits` meets its contract. The invariant of its loop: the digits from the last one on stand, and the rest of the number gives those in
--- front of them. Assumes nothing.
+-- The invariant of the loop of `put_digits`: the digits from the last one on stand, and the rest of the number gives those in front of them.
+-- Assumes nothing.
 use mathlib.Core.Path.{◌≡◌}
 use mathlib.Core.List.{◌++◌}
 use Prim.Native.Nat.{◌+◌, ◌-◌, ◌/◌, ◌^◌, ◌≤◌}

@@ -1,4 +1,4 @@
--- `put_text` meets its contract. The invariant of its loop: the bytes up to i are copied. Assumes nothing.
+-- `put_text` meets its contract. Assumes nothing.
 use mathlib.Core.Path.{◌≡◌, sym, ap, ◌∙◌, subst}
 use mathlib.Core.List.{List}
 use Prim.Native.Nat.{ℕ, ◌+◌, ◌≤◌, ◌<◌, zero-le}

@@ -1,4 +1,4 @@
--- `put_text` meets its contract. The invariant of its loop: the bytes up to i are copied. Assumes nothing.
+-- The invariant of the loop of `put_text`: the bytes up to i are copied. Assumes nothing.
 use mathlib.Core.Path.{◌≡◌}
 use Prim.Native.Nat.{◌-◌, ◌≤◌}
 use lib.ListN.{length}

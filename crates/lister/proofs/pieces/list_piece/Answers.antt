@@ -10,14 +10,14 @@ use Rattle.lister.proofs.pieces.list_piece.Goals as goal
 pub write_out-requires : goal.write_out-requires
 unfolding PutsSome
 write_out-requires c =
-    let p = c.put-arrived.ensures.0.2 in
+    let p = c.put_arrived-run.ensures.0.2 in
     omega (arith, p.place, p.room, Placed.same_length _ _ _ _ _ p)
 
 pub returns-then-write_out : goal.returns-then-write_out
 returns-then-write_out c =
     let s = c.before.before in
-    let p = c.put-arrived.ensures in
-    let g = c.read_at in (
+    let p = c.put_arrived-run.ensures in
+    let g = c.read_at-got in (
       λ e. let some : 0 < g.result.count = pos_of_ne-zero (eqb-false g.result.count 0 e) in
           (omega (arith, some), p.3 some),
       λ e. let none = g.ensures.1 e in

@@ -6,7 +6,7 @@ use Rattle.lister.proofs.report.count_block.Goals as goal
 
 pub returns-then-at-counts : goal.returns-then-at-counts
 unfolding with_one_more
-returns-then-at-counts c = ap (set c.args.counts.now c.args.number) c.wrapping_add_u64.ensures
+returns-then-at-counts c = ap (set c.args.counts.now c.args.number) c.wrapping_add_u64.ensures.value
 
 pub returns-else-at-counts : goal.returns-else-at-counts
 unfolding with_one_more

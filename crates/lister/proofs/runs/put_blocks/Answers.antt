@@ -38,7 +38,7 @@ loop-i-preserved c =
       k.3 ++ p.0.0,
       joined _ _ _ _ _ _ _ _ k.4 p.0.2,
       one_more c.args.piece.now c.args.place l.i l.here k.3 p.0.0 less k.5 (subst (λ (bs : List ℕ). ListsBlock bs l.here p.0.0) b p.0.1),
-      call.auto.1.1.1.1.0 ∙ k.6,
+      call.auto.counts ∙ k.6,
       Counted.one_more c.args.piece.now _ l.i l.counts _ less k.7 (p.2 ∙ ap (λ (bs : List ℕ). with_one_more (refusal_number (block_test bs most)) l.counts) b),
     )
 

@@ -22,15 +22,15 @@ words_in n x y e f g h = words_through n x y (told n x y e f g h)
 
 pub returns-in-Refused : goal.returns-in-Refused
 unfolding Compares
-returns-in-Refused c = refused (told c.args.width.bits c.args.x c.args.y c.test_word.ensures c.test_word-2.ensures c.then-verdict.ensures c.in-Refused.is) refl
+returns-in-Refused c = refused (told _ _ _ c.test_word.ensures c.test_word-2.ensures c.then-verdict.ensures c.in-Refused.is) refl
 
 -- both are words, whichever is asked for: words in the wrong order would be refused where the answer is given and not here
 pub as_signed-requires : goal.as_signed-requires
-as_signed-requires c = let x = (words_in c.args.width.bits c.args.x c.args.y c.test_word.ensures c.test_word-2.ensures c.then-verdict.ensures c.in_default.is).0 in let y = (words_in c.args.width.bits c.args.x c.args.y c.test_word.ensures c.test_word-2.ensures c.then-verdict.ensures c.in_default.is).1 in search rules
+as_signed-requires c = let i = words_in _ _ _ c.test_word.ensures c.test_word-2.ensures c.then-verdict.ensures c.in_default.is in let x = i.0 in let y = i.1 in search rules
 
 pub as_signed-requires-2 : goal.as_signed-requires-2
-as_signed-requires-2 c = let x = (words_in c.args.width.bits c.args.x c.args.y c.test_word.ensures c.test_word-2.ensures c.then-verdict.ensures c.in_default.is).0 in let y = (words_in c.args.width.bits c.args.x c.args.y c.test_word.ensures c.test_word-2.ensures c.then-verdict.ensures c.in_default.is).1 in search rules
+as_signed-requires-2 c = let i = words_in _ _ _ c.test_word.ensures c.test_word-2.ensures c.then-verdict.ensures c.in_default.is in let x = i.0 in let y = i.1 in search rules
 
 pub returns : goal.returns
 unfolding Compares
-returns c = through (told c.args.width.bits c.args.x c.args.y c.test_word.ensures c.test_word-2.ensures c.then-verdict.ensures c.in_default.is) (ap Comparison.Is (to_z-of_z {w = w32} (sfits_of c.sign_of_difference.type_inv) ∙ c.sign_of_difference.ensures ∙ ap₂ order (to_z-of_z {w = w64} (sfits_of c.as_signed.type_inv) ∙ c.as_signed.ensures) (to_z-of_z {w = w64} (sfits_of c.as_signed-2.type_inv) ∙ c.as_signed-2.ensures)))
+returns c = through (told _ _ _ c.test_word.ensures c.test_word-2.ensures c.then-verdict.ensures c.in_default.is) (ap Comparison.Is (to_z-of_z {w = w32} (sfits_of c.sign_of_difference.type_inv) ∙ c.sign_of_difference.ensures ∙ ap₂ order (to_z-of_z {w = w64} (sfits_of c.as_signed.type_inv) ∙ c.as_signed.ensures) (to_z-of_z {w = w64} (sfits_of c.as_signed-2.type_inv) ∙ c.as_signed-2.ensures)))

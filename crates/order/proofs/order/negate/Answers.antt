@@ -3,7 +3,6 @@ use mathlib.Core.Path.{◌≡◌, refl, sym, ap, ◌∙◌}
 use Prim.Native.Nat.{ℕ, ◌+◌, ◌-◌, ◌^◌}
 use native.Mathlib.Omega.{arith}
 use native.Mathlib.Nat.{pos_of_ne-zero}
-use borrow.Author.Rules.{rules}
 use Rattle.word.specs.Orders.{negated}
 use Rattle.order.specs.Orders.{Negates}
 use Rattle.bounds.specs.declared.answer.Answer.{Answer}
@@ -26,18 +25,18 @@ less n w all e f i = omega (arith, e, i.fits, pos_of_ne-zero f) ∙ sym (negated
 
 pub returns-in-Refused : goal.returns-in-Refused
 unfolding Negates
-returns-in-Refused c = refused (told c.args.width.bits c.args.word c.test_word-verdict.ensures c.in-Refused.is) refl
+returns-in-Refused c = refused (told _ _ c.test_word-verdict.ensures c.in-Refused.is) refl
 
 pub returns-then-word-eq0 : goal.returns-then-word-eq0
 unfolding Negates
-returns-then-word-eq0 c = through (told c.args.width.bits c.args.word c.test_word-verdict.ensures c.in_default.is) (ap Answer.Word (sym (ap (negated _) c.if-word-eq0.true ∙ negated_zero _)))
+returns-then-word-eq0 c = through (told _ _ c.test_word-verdict.ensures c.in_default.is) (ap Answer.Word (sym (ap (negated _) c.if-word-eq0.true ∙ negated_zero _)))
 
 pub ones-requires : goal.ones-requires
-ones-requires c = ((word_in c.args.width.bits c.args.word c.test_word-verdict.ensures c.in_default.is).least, (word_in c.args.width.bits c.args.word c.test_word-verdict.ensures c.in_default.is).most)
+ones-requires c = let i = word_in _ _ c.test_word-verdict.ensures c.in_default.is in (i.least, i.most)
 
 pub overflow_sub-result : goal.overflow_sub-result
-overflow_sub-result c = omega (arith, c.ones.ensures, (word_in c.args.width.bits c.args.word c.test_word-verdict.ensures c.in_default.is).fits)
+overflow_sub-result c = omega (arith, c.ones.ensures, (word_in _ _ c.test_word-verdict.ensures c.in_default.is).fits)
 
 pub returns : goal.returns
 unfolding Negates
-returns c = through (told c.args.width.bits c.args.word c.test_word-verdict.ensures c.in_default.is) (ap Answer.Word (less _ _ _ c.ones.ensures c.if-word-eq0.false (word_in c.args.width.bits c.args.word c.test_word-verdict.ensures c.in_default.is)))
+returns c = through (told _ _ c.test_word-verdict.ensures c.in_default.is) (ap Answer.Word (less _ _ _ c.ones.ensures c.if-word-eq0.false (word_in _ _ c.test_word-verdict.ensures c.in_default.is)))

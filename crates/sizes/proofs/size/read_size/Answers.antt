@@ -1,8 +1,7 @@
 -- `read_size` meets its contract: the refusals, zero and NaR, and the size of any other word's string. Assumes nothing.
 use mathlib.Core.Path.{◌≡◌, refl, sym, ap, ◌∙◌, subst}
-use Prim.Native.Nat.{ℕ, ◌-◌}
+use Prim.Native.Nat.{ℕ}
 use native.Mathlib.Omega.{arith}
-use borrow.Author.Rules.{rules}
 use Rattle.bounds.specs.Refusals.{word_test, IsWord, through, refused}
 use Rattle.bounds.specs.declared.refusal.Verdict.{Verdict}
 use Rattle.bounds.proofs.Verdicts.{word_through}
@@ -23,24 +22,25 @@ is_word n w e h = word_through n w (told n w e h)
 
 pub returns-in-Refused : goal.returns-in-Refused
 unfolding ReadsSize
-returns-in-Refused c = refused (told c.args.width.bits c.args.word c.test_word-verdict.ensures c.in-Refused.is) refl
+returns-in-Refused c = refused (told _ _ c.test_word-verdict.ensures c.in-Refused.is) refl
 
 pub returns-then-word-eq0 : goal.returns-then-word-eq0
 unfolding ReadsSize IsWordSize
-returns-then-word-eq0 c = through (told c.args.width.bits c.args.word c.test_word-verdict.ensures c.in_default.is) (ap (takum c.args.width.bits) c.if-word-eq0.true ∙ takum_zero c.args.width.bits)
+returns-then-word-eq0 c = through (told _ _ c.test_word-verdict.ensures c.in_default.is) (ap (takum _) c.if-word-eq0.true ∙ takum_zero _)
 
 pub overflow_sub-string : goal.overflow_sub-string
-overflow_sub-string c = (is_word c.args.width.bits c.args.word c.test_word-verdict.ensures c.in_default.is).most
+overflow_sub-string c = (is_word _ _ c.test_word-verdict.ensures c.in_default.is).most
 
 pub overflow_shl-string : goal.overflow_shl-string
-overflow_shl-string c = omega (arith, (is_word c.args.width.bits c.args.word c.test_word-verdict.ensures c.in_default.is).least)
+overflow_shl-string c = omega (arith, (is_word _ _ c.test_word-verdict.ensures c.in_default.is).least)
 
 pub returns-then-string : goal.returns-then-string
 unfolding ReadsSize IsWordSize
-returns-then-string c = through (told c.args.width.bits c.args.word c.test_word-verdict.ensures c.in_default.is) (takum_NaR c.args.width.bits c.args.word (is_word c.args.width.bits c.args.word c.test_word-verdict.ensures c.in_default.is).least (is_word c.args.width.bits c.args.word c.test_word-verdict.ensures c.in_default.is).most (NaR_at_top c.args.width.bits c.args.word (is_word c.args.width.bits c.args.word c.test_word-verdict.ensures c.in_default.is) c.if-string.true))
+returns-then-string c = let i = is_word _ _ c.test_word-verdict.ensures c.in_default.is in
+    through (told _ _ c.test_word-verdict.ensures c.in_default.is) (takum_NaR _ _ i.least i.most (NaR_at_top _ _ i c.if-string.true))
 
 pub returns : goal.returns
 unfolding ReadsSize IsWordSize
-returns c = let i = is_word c.args.width.bits c.args.word c.test_word-verdict.ensures c.in_default.is in
-    through (told c.args.width.bits c.args.word c.test_word-verdict.ensures c.in_default.is)
-    (word_number c.args.width.bits c.args.word i c.if-word-eq0.false (λ q. c.if-string.false (at_top_NaR c.args.width.bits c.args.word i q)) _ (subst (λ (t : ℕ). Sizes t c.size_of.result) (shifted_is c.args.width.bits c.args.word i) c.size_of.ensures))
+returns c = let i = is_word _ _ c.test_word-verdict.ensures c.in_default.is in
+    through (told _ _ c.test_word-verdict.ensures c.in_default.is)
+    (word_number _ _ i c.if-word-eq0.false (λ q. c.if-string.false (at_top_NaR _ _ i q)) _ (subst (λ (t : ℕ). Sizes t c.size_of.result) (shifted_is _ _ i) c.size_of.ensures))

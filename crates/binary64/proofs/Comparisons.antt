@@ -61,6 +61,15 @@ le_negated (inf false) (inf false) plain_inf plain_inf t = tt
 le_negated (inf false) (fin false n d) plain_inf plain_fin t = absurd t
 le_negated (fin false m e) (inf false) plain_fin plain_inf t = tt
 le_negated (fin false m e) (fin false n d) plain_fin plain_fin t = turned (m * up e * down d) (n * up d * down e) t
+le_negated nan y a _ t = elim a [ ]
+le_negated (inf false) nan _ b t = elim b [ ]
+le_negated (inf false) (inf true) _ b t = elim b [ ]
+le_negated (inf false) (fin true n d) _ b t = elim b [ ]
+le_negated (inf true) y a _ t = elim a [ ]
+le_negated (fin false m e) nan _ b t = elim b [ ]
+le_negated (fin false m e) (inf true) _ b t = elim b [ ]
+le_negated (fin false m e) (fin true n d) _ b t = elim b [ ]
+le_negated (fin true m e) y a _ t = elim a [ ]
 
 sum_or_zero : (a b : ℕ) → T (ltb 0 (a + b) || (eqb a b && eqb a 0))
 sum_or_zero zero zero = tt
@@ -73,6 +82,15 @@ le_across (inf false) (inf false) plain_inf plain_inf = tt
 le_across (inf false) (fin false n d) plain_inf plain_fin = tt
 le_across (fin false m e) (inf false) plain_fin plain_inf = tt
 le_across (fin false m e) (fin false n d) plain_fin plain_fin = sum_or_zero (m * up e * down d) (n * up d * down e)
+le_across nan y a _ = elim a [ ]
+le_across (inf false) nan _ b = elim b [ ]
+le_across (inf false) (inf true) _ b = elim b [ ]
+le_across (inf false) (fin true n d) _ b = elim b [ ]
+le_across (inf true) y a _ = elim a [ ]
+le_across (fin false m e) nan _ b = elim b [ ]
+le_across (fin false m e) (inf true) _ b = elim b [ ]
+le_across (fin false m e) (fin true n d) _ b = elim b [ ]
+le_across (fin true m e) y a _ = elim a [ ]
 
 -- ---- rounded values
 pub rounded_order : (a b : ℤ) → lt_z a b ≡ true → T (le (round binary64 (is_negative a) (nat_abs a) (2 ^ 307)) (round binary64 (is_negative b) (nat_abs b) (2 ^ 307)))

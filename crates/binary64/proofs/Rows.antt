@@ -117,6 +117,7 @@ module _ (b : ℕ) where
       bounded : (x : Float) → T (finite x) → Unbounded x → ⊥
       bounded nan t is_nan = t
       bounded (inf u) t is_inf = t
+      bounded (fin _ _ _) t u = elim u [ ]
 
       inside : Dec (b % 2 ^ 63 < 2047 * 2 ^ 52) → b % 2 ^ 63 < 2047 * 2 ^ 52
       inside (yes h) = h

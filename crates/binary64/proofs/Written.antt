@@ -31,11 +31,13 @@ pub unbounded_written : (n : ℕ) (rule : Rule) (r : Answer) (x : Float) → Unb
 unfolding IsWrittenBinary64
 unbounded_written n rule r nan is_nan q = q
 unbounded_written n rule r (inf s) is_inf q = q
+unbounded_written n rule r (fin _ _ _) u q = elim u [ ]
 
 pub unbounded_said : (n w : ℕ) (x : Float) → Unbounded x → SaysBinary64 n x w Exact
 unfolding SaysBinary64
 unbounded_said n w nan is_nan = refl
 unbounded_said n w (inf s) is_inf = refl
+unbounded_said n w (fin _ _ _) u = elim u [ ]
 
 -- ---- P is of a sign and a fraction, turns on the value alone, and is so of a finite number where Q is
 module _ (P : Bool → ℕ → ℕ → Type 0) (same : (s : Bool) (a b a' b' : ℕ) → 0 < b → 0 < b' → a * b' ≡ a' * b → P s a b → P s a' b') (Q : Float → Type 0) (finite : (s : Bool) (m : ℕ) (e : ℤ) → P s (m * up e * 2 ^ 307) (down e) → Q (fin s m e)) where

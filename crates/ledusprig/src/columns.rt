@@ -13,8 +13,8 @@ use sheet::block::read_block;
 use sheet::writing::write_block;
 
 // The rule's number is asked first, so that each rule has a loop of its own.
-#[unsafe(no_mangle)]
-pub extern "C" fn takum_move_column(
+#[tactic(auto, unfolding(crate::specs::Handed::MovesTheColumn))]
+pub fn takum_move_column(
     from: u32,
     to: u32,
     rule: u32,
@@ -41,21 +41,15 @@ pub extern "C" fn takum_move_column(
     ))
 }
 
-#[unsafe(no_mangle)]
-pub extern "C" fn takum_read_block(block: &[u8], results: &mut [u64]) -> HandedBlock
+pub fn takum_read_block(block: &[u8], results: &mut [u64]) -> HandedBlock
     ensures hands_over { HandsOver block_handed (ReadsBlock block.now (length results.old)) result }
     ensures fills_results { FillsResults block.now results.old results.new }
 {
     hand_block(read_block(block, results))
 }
 
-#[unsafe(no_mangle)]
-pub extern "C" fn takum_write_block(
-    width: u32,
-    number: u32,
-    words: &[u64],
-    buffer: &mut [u8],
-) -> HandedWriting
+#[tactic(auto, unfolding(crate::specs::Handed::WritesTheBlock))]
+pub fn takum_write_block(width: u32, number: u32, words: &[u64], buffer: &mut [u8]) -> HandedWriting
     ensures { HandsOver writing_handed (WritesTheBlock width number words.now buffer.old buffer.new) result }
 {
     hand_writing(write_block(Width { bits: width }, number, words, buffer))

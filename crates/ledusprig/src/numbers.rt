@@ -18,8 +18,7 @@ use whole::shortest::shortest_width;
 use whole::taking::{Taking, take_whole};
 use whole::writing::write_whole;
 
-#[unsafe(no_mangle)]
-pub extern "C" fn takum_write_whole(n: u32, rule: u32, x: i64) -> HandedSaying
+pub fn takum_write_whole(n: u32, rule: u32, x: i64) -> HandedSaying
     ensures { HandsOver saying_handed (WritesWholeAndSays n (rule_of rule) x) result }
 {
     if rule == 0 {
@@ -28,8 +27,7 @@ pub extern "C" fn takum_write_whole(n: u32, rule: u32, x: i64) -> HandedSaying
     hand_saying(write_whole(Width { bits: n }, Rule::Strict, x))
 }
 
-#[unsafe(no_mangle)]
-pub extern "C" fn takum_take_whole(n: u32, taking: u32, word: u64) -> HandedWhole
+pub fn takum_take_whole(n: u32, taking: u32, word: u64) -> HandedWhole
     ensures { HandsOver whole_handed (TakesWhole n (taking_of taking) word) result }
 {
     if taking == 0 {
@@ -38,15 +36,13 @@ pub extern "C" fn takum_take_whole(n: u32, taking: u32, word: u64) -> HandedWhol
     hand_whole(take_whole(Width { bits: n }, Taking::Strict, word))
 }
 
-#[unsafe(no_mangle)]
-pub extern "C" fn takum_shortest_width(x: i64) -> HandedWidth
+pub fn takum_shortest_width(x: i64) -> HandedWidth
     ensures { HandsOver width_handed (GivesShortest x) result }
 {
     hand_width(shortest_width(x))
 }
 
-#[unsafe(no_mangle)]
-pub extern "C" fn takum_write_binary64(n: u32, rule: u32, x: f64) -> HandedSaying
+pub fn takum_write_binary64(n: u32, rule: u32, x: f64) -> HandedSaying
     ensures { HandsOver saying_handed (WritesBinary64AndSays n (rule_of rule) x) result }
 {
     if rule == 0 {
@@ -55,8 +51,7 @@ pub extern "C" fn takum_write_binary64(n: u32, rule: u32, x: f64) -> HandedSayin
     hand_saying(write_binary64(Width { bits: n }, Rule::Strict, x))
 }
 
-#[unsafe(no_mangle)]
-pub extern "C" fn takum_take_binary64(n: u32, word: u64) -> HandedNumber
+pub fn takum_take_binary64(n: u32, word: u64) -> HandedNumber
     ensures { HandsOver number_handed (TakesBinary64 n word) result }
 {
     hand_number(take_binary64(Width { bits: n }, word))

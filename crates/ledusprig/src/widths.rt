@@ -6,32 +6,28 @@ use crate::handed::widths::{HandedLimit, hand_limit};
 use crate::handed::words::{HandedWord, hand_word};
 use bounds::width::Width;
 
-#[unsafe(no_mangle)]
-pub extern "C" fn takum_largest(n: u32) -> HandedWord
+pub fn takum_largest(n: u32) -> HandedWord
     ensures { HandsOver word_handed (GivesWord largest n) result }
 {
     let width = Width { bits: n };
     hand_word(width.largest())
 }
 
-#[unsafe(no_mangle)]
-pub extern "C" fn takum_smallest(n: u32) -> HandedWord
+pub fn takum_smallest(n: u32) -> HandedWord
     ensures { HandsOver word_handed (GivesWord smallest n) result }
 {
     let width = Width { bits: n };
     hand_word(width.smallest())
 }
 
-#[unsafe(no_mangle)]
-pub extern "C" fn takum_nar(n: u32) -> HandedWord
+pub fn takum_nar(n: u32) -> HandedWord
     ensures { HandsOver word_handed (GivesWord nar_word n) result }
 {
     let width = Width { bits: n };
     hand_word(width.nar())
 }
 
-#[unsafe(no_mangle)]
-pub extern "C" fn takum_limit(n: u32) -> HandedLimit
+pub fn takum_limit(n: u32) -> HandedLimit
     ensures { HandsOver limit_handed (GivesLimit n) result }
 {
     let width = Width { bits: n };

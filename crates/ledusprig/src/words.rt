@@ -17,30 +17,26 @@ use write::moving::move_word;
 use write::value::Value;
 use write::writing::write;
 
-#[unsafe(no_mangle)]
-pub extern "C" fn takum_read(n: u32, word: u64) -> HandedReading
+pub fn takum_read(n: u32, word: u64) -> HandedReading
     ensures { HandsOver reading_handed (Reads n word) result }
 {
     hand_reading(read(Width { bits: n }, word))
 }
 
-#[unsafe(no_mangle)]
-pub extern "C" fn takum_compare(n: u32, x: u64, y: u64) -> HandedComparison
+pub fn takum_compare(n: u32, x: u64, y: u64) -> HandedComparison
     ensures { HandsOver comparison_handed (Compares n x y) result }
 {
     hand_comparison(compare(Width { bits: n }, x, y))
 }
 
-#[unsafe(no_mangle)]
-pub extern "C" fn takum_negate(n: u32, word: u64) -> HandedWord
+pub fn takum_negate(n: u32, word: u64) -> HandedWord
     ensures { HandsOver word_handed (Negates n word) result }
 {
     hand_word(negate(Width { bits: n }, word))
 }
 
 // Plus or minus m * 2^k.
-#[unsafe(no_mangle)]
-pub extern "C" fn takum_write(n: u32, rule: u32, negative: bool, m: u64, k: i32) -> HandedSaying
+pub fn takum_write(n: u32, rule: u32, negative: bool, m: u64, k: i32) -> HandedSaying
     ensures { HandsOver saying_handed (WritesAndSays n (rule_of rule) (record { negative = negative; m = m; k = k })) result }
 {
     let value = Value { negative, m, k };
@@ -50,8 +46,7 @@ pub extern "C" fn takum_write(n: u32, rule: u32, negative: bool, m: u64, k: i32)
     hand_saying(write(Width { bits: n }, Rule::Strict, value))
 }
 
-#[unsafe(no_mangle)]
-pub extern "C" fn takum_move(from: u32, to: u32, rule: u32, word: u64) -> HandedSaying
+pub fn takum_move(from: u32, to: u32, rule: u32, word: u64) -> HandedSaying
     ensures { HandsOver saying_handed (MovesAndSays from to (rule_of rule) word) result }
 {
     if rule == 0 {

@@ -3,7 +3,7 @@
 use mathlib.Core.Path.{◌≡◌, refl, sym, ap, ap₂, ◌∙◌, subst}
 use Prim.Native.Nat.{ℕ, zero, suc, ◌+◌, ◌-◌, ◌*◌, ◌/◌, ◌%◌, ◌^◌, ◌≤◌, ◌<◌}
 use mathlib.Core.Logic.{◌⊎◌, inl, inr}
-use native.Mathlib.Nat.{add_comm, eq_of_mul_eq_mul_right, mul-lt-mul_of_pos_right, mul_assoc, mul-le-mul_right, le_of_mul-le-mul_right, lt_of_mul-lt-mul_right, le_of_lt, le_of_eq, le_trans, lt_of_lt_of_le, lt_of_le_of_lt, mod-lt, zero-lt-suc, mul-pos, le-add_right, div-mul-le_self, mul-add-div_right}
+use native.Mathlib.Nat.{add_comm, eq_of_mul-eq-mul_right, mul-lt-mul_of_pos_right, mul_assoc, mul-le-mul_right, le_of_mul-le-mul_right, lt_of_mul-lt-mul_right, le_of_lt, le_of_eq, le_trans, lt_of_lt_of_le, lt_of_le_of_lt, mod-lt, zero-lt-suc, mul-pos, le-add_right, div-mul-le_self, mul-add-div_right}
 use native.Mathlib.Numerals.{add-one}
 use native.Mathlib.Omega.{arith}
 use lib.IntN.{ℤ, pos, ◌+ℤ◌, ◌-ℤ◌}
@@ -123,7 +123,7 @@ module _ (h : ℤ) (raised bits P K : ℕ) (binade : Binade h raised bits P K) (
     pub floor_exact : m % 2 ^ (63 - P) ≡ 0 → rest ≡ Rest.Nothing → size (floor_string bits P m) * b ≡ a
     unfolding Amounts
     floor_exact none nothing =
-        eq_of_mul_eq_mul_right (den x) (unit_some x).1 (size (floor_string bits P m) * b) a
+        eq_of_mul-eq-mul_right (den x) (unit_some x).1 (size (floor_string bits P m) * b) a
         (ap (λ (y : ℕ). y * b * den x) size_floor ∙ scaled (2 ^ P + cut_fraction P m) ∙ ap (λ (y : ℕ). y * unit) (omega (arith, cut_split, none)) ∙ sym (subst (λ (r : Rest). Amounts m r (a * den x) unit) nothing amounts))
 
     pub floor_finer : (zero < m % 2 ^ (63 - P)) ⊎ (rest ≡ Rest.Nothing → ⊥) → size (floor_string bits P m) * b < a
@@ -224,7 +224,7 @@ module _ (h : ℤ) (raised bits P K : ℕ) (binade : Binade h raised bits P K) (
           pub fine_exact : m % 2 ^ (63 - P + (64 - n)) ≡ 0 → rest ≡ Rest.Nothing → grown n (floor_string bits P m / 2 ^ (64 - n)) * b ≡ a
           unfolding Amounts cut
           fine_exact none nothing =
-              eq_of_mul_eq_mul_right (den x) (unit_some x).1 _ a (low_amount ∙ ap (λ (y : ℕ). y * unit) (omega (arith, parts, none)) ∙ sym (subst (λ (r : Rest). Amounts m r (a * den x) unit) nothing amounts))
+              eq_of_mul-eq-mul_right (den x) (unit_some x).1 _ a (low_amount ∙ ap (λ (y : ℕ). y * unit) (omega (arith, parts, none)) ∙ sym (subst (λ (r : Rest). Amounts m r (a * den x) unit) nothing amounts))
 
           pub fine_finer : (zero < m % 2 ^ (63 - P + (64 - n))) ⊎ (rest ≡ Rest.Nothing → ⊥) → grown n (floor_string bits P m / 2 ^ (64 - n)) * b < a
           unfolding cut

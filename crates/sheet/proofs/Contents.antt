@@ -15,13 +15,11 @@ use Rattle.sheet.proofs.Tests.{OneOfFour, each_width, is_width}
 
 -- ---- the tests
 -- a call has told whether the width is one of the four
-pub is_wide : (n : ℕ) (b : Bool) → b ≡ is_block_width n → not b ≡ false → is_block_width n ≡ true
-is_wide n true e h = sym e
-is_wide n false e h = absurd (false≢true (sym h))
+pub is_wide : (n : ℕ) (b : Bool) → b ≡ is_block_width n → b ≡ true → is_block_width n ≡ true
+is_wide n b e h = sym e ∙ h
 
-pub isn't_wide : (n : ℕ) (b : Bool) → b ≡ is_block_width n → not b ≡ true → is_block_width n ≡ false
-isn't_wide n true e h = absurd (false≢true h)
-isn't_wide n false e h = sym e
+pub isn't_wide : (n : ℕ) (b : Bool) → b ≡ is_block_width n → b ≡ false → is_block_width n ≡ false
+isn't_wide n b e h = sym e ∙ h
 
 module _ (n count : ℕ) (buffer : List ℕ) where
   pub other_width : is_block_width n ≡ false → content_test n count buffer ≡ Verdict.Refused Refusal.Width

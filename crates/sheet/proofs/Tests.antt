@@ -1,5 +1,5 @@
 -- What each test of a block finds. Assumes nothing.
-use Rattle.std.proofs.Common.{◌≡◌, ℕ, ◌<◌, ◌≤◌, Bool, true, false, not, ◌||◌, eqb, leb, ◌⊎◌, List, sym, refl, ap, ◌∙◌, subst, inl, inr, ⊎_elim, eq-eqb, ne_eqb, eqb-true, le-leb}
+use Rattle.std.proofs.Common.{◌≡◌, ℕ, ◌<◌, ◌≤◌, Bool, true, false, ◌||◌, eqb, leb, ◌⊎◌, List, sym, refl, ap, ◌∙◌, subst, inl, inr, ⊎_elim, eq-eqb, ne_eqb, eqb-true, le-leb}
 use mathlib.Core.Bool.{false≢true}
 use borrow.Author.Tests.{lt-leb}
 use Rattle.bounds.specs.declared.refusal.Refusal.{Refusal}
@@ -25,12 +25,12 @@ unfolding refused
 not_both h k = false≢true (ap refused (sym h ∙ k))
 
 -- a call has told whether a test holds
-pub lets_through : {v : Verdict} (q : Refusal) (b : Bool) → v ≡ unless q b → not b ≡ false → v ≡ Verdict.Through
+pub lets_through : {v : Verdict} (q : Refusal) (b : Bool) → v ≡ unless q b → b ≡ true → v ≡ Verdict.Through
 lets_through q true e h = e
-lets_through q false e h = absurd (false≢true (sym h))
+lets_through q false e h = absurd (false≢true h)
 
-pub refuses : {v : Verdict} (q : Refusal) (b : Bool) → v ≡ unless q b → not b ≡ true → v ≡ Verdict.Refused q
-refuses q true e h = absurd (false≢true h)
+pub refuses : {v : Verdict} (q : Refusal) (b : Bool) → v ≡ unless q b → b ≡ false → v ≡ Verdict.Refused q
+refuses q true e h = absurd (false≢true (sym h))
 refuses q false e h = e
 
 -- a number n that a call has given as m is tested against a most

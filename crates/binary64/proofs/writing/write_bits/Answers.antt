@@ -1,9 +1,8 @@
 -- `write_bits` meets its contract: the fields that it cuts out are those of the value. Assumes nothing.
 use mathlib.Core.Path.{◌≡◌, refl, sym, ap, ◌∙◌, subst}
 use mathlib.Core.Bool.{Bool, cond}
-use Prim.Native.Nat.{ℕ, ◌+◌, ◌*◌, ◌/◌, ◌^◌, ◌<◌}
+use Prim.Native.Nat.{ℕ, ◌+◌, ◌/◌, ◌^◌, ◌<◌}
 use native.Mathlib.Omega.{arith}
-use borrow.Author.Rules.{rules}
 use borrow.Author.Tests.{ne_eqb}
 use lib.Bits.{mask_lt}
 use lib.IntN.{ℤ, pos, ◌-ℤ◌}
@@ -33,7 +32,7 @@ module _ (c : goal.Else-exponent-eq0) where
   b = c.args.bits
 
   one : lead (field b) ≡ 1
-  one = ap (λ (t : Bool). cond t 0 1) (ne_eqb (field b) 0 c.if-exponent-eq0.false)
+  one = ap (λ (t : Bool). cond t 0 1) (ne_eqb (field b) 0 (λ q. omega (arith, q)))
 
   field_fits : field b < 2 ^ 11
   field_fits = mask_lt (b / 2 ^ 52) 11
@@ -55,28 +54,24 @@ module _ (c : goal.Else-exponent-eq0) where
 
 pub returns-then-exponent-eq2047 : goal.returns-then-exponent-eq2047
 unfolding WritesBinary64AndSays WritesBinary64 GivesWord
-returns-then-exponent-eq2047 c = by k.nar.ensures
+returns-then-exponent-eq2047 c = by c.nar.ensures
   where
-    k : tie.After-nar
-    k = c.before
+    unbounded : Unbounded (of_bits binary64 c.args.bits)
+    unbounded = pattern_unbounded _ (omega arith)
 
-    s : tie.Start
-    s = k.before.before
-
-    unbounded : Unbounded (of_bits binary64 s.args.bits)
-    unbounded = pattern_unbounded _ k.before.if1.taken
-
-    by : Decided (width_test s.args.width.bits) (λ q. k.nar.result ≡ Answer.Refused q) (k.nar.result ≡ Answer.Word (nar_word s.args.width.bits)) → WritesBinary64AndSays s.args.width.bits s.args.rule (of_bits binary64 s.args.bits) c.exactly.result
-    by (through h x) = subst (WritesBinary64AndSays s.args.width.bits s.args.rule (of_bits binary64 s.args.bits)) (sym (c.exactly.ensures ∙ ap exactly x)) (word_said _ Exact (through h (unbounded_written _ _ _ _ unbounded refl)) (unbounded_said _ _ _ unbounded))
-    by (refused h x) = subst (WritesBinary64AndSays s.args.width.bits s.args.rule (of_bits binary64 s.args.bits)) (sym (c.exactly.ensures ∙ ap exactly x)) (refusal_said _ (refused h refl))
+    by : Decided (width_test c.args.width.bits) (λ q. c.nar.result ≡ Answer.Refused q) (c.nar.result ≡ Answer.Word (nar_word c.args.width.bits)) → WritesBinary64AndSays c.args.width.bits c.args.rule (of_bits binary64 c.args.bits) c.exactly.result
+    by (through h x) = subst (WritesBinary64AndSays c.args.width.bits c.args.rule (of_bits binary64 c.args.bits)) (sym (c.exactly.ensures ∙ ap exactly x)) (word_said _ Exact (through h (unbounded_written _ _ _ _ unbounded refl)) (unbounded_said _ _ _ unbounded))
+    by (refused h x) = subst (WritesBinary64AndSays c.args.width.bits c.args.rule (of_bits binary64 c.args.bits)) (sym (c.exactly.ensures ∙ ap exactly x)) (refusal_said _ (refused h refl))
 
 pub returns-then-exponent-eq0 : goal.returns-then-exponent-eq0
 unfolding WritesBinary64AndSays WritesBinary64 WritesAndSays Writes
 returns-then-exponent-eq0 c =
     let b = c.args.bits in
+    let bounded : field b ≡ 2047 → ⊥ = λ q. omega (arith, q) in
+    let none : field b ≡ 0 = omega arith in
     record {
-      answers = decided_as (λ q h. h) (written_without_lead _ _ _ b c.if-exponent-eq2047.false c.if-exponent-eq0.true) c.write.ensures.answers;
-      says = λ w q is. said_without_lead _ w q b c.if-exponent-eq2047.false c.if-exponent-eq0.true (c.write.ensures.says w q is);
+      answers = decided_as (λ q h. h) (written_without_lead _ _ _ b bounded none) c.write.ensures.answers;
+      says = λ w q is. said_without_lead _ w q b bounded none (c.write.ensures.says w q is);
     }
 
 pub overflow_add-m : goal.overflow_add-m
@@ -91,8 +86,9 @@ overflow_sub-k c = subst (λ (z : ℤ). SFits w32 z) (sym (difference c)) (diffe
 pub returns : goal.returns
 unfolding WritesBinary64AndSays WritesBinary64 WritesAndSays Writes
 returns c =
-    let x = subst (λ (z : ℤ). WritesAndSays c.args.width.bits c.args.rule (record { negative = sign_bit c.args.bits; m = digits c.args.bits + 2 ^ 52; c.before = z }) c.write-2.result) (exponent c.before) c.write-2.ensures in
+    let x = subst (λ (z : ℤ). WritesAndSays c.args.width.bits c.args.rule (record { negative = sign_bit c.args.bits; m = digits c.args.bits + 2 ^ 52; k = z }) c.write-2.result) (exponent c.before) c.write-2.ensures in
+    let bounded : field c.args.bits ≡ 2047 → ⊥ = λ q. omega (arith, q) in
     record {
-      answers = decided_as (λ q h. h) (written_with_lead _ _ _ c.args.bits c.if-exponent-eq2047.false (one c.before)) x.answers;
-      says = λ w q is. said_with_lead _ w q c.args.bits c.if-exponent-eq2047.false (one c.before) (x.says w q is);
+      answers = decided_as (λ q h. h) (written_with_lead _ _ _ c.args.bits bounded (one c.before)) x.answers;
+      says = λ w q is. said_with_lead _ w q c.args.bits bounded (one c.before) (x.says w q is);
     }

@@ -3,7 +3,6 @@ use mathlib.Core.Path.{sym}
 use Prim.Native.Nat.{ℕ, ◌-◌, ◌^◌, ◌≤◌, ◌<◌}
 use native.Mathlib.Omega.{arith}
 use native.Mathlib.Nat.{le_of_suc-le-suc, le_of_lt, le_of_eq, le_trans, lt_of_lt_of_le}
-use borrow.Author.Rules.{rules}
 use lib.Count.{count_leading_zeros}
 use Rattle.bounds.proofs.Limits.{none_within, one_more, no_more, below_power}
 use Rattle.bounds.proofs.Powers.{Log, leading_log, one_shl}

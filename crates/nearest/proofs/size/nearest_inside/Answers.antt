@@ -1,189 +1,222 @@
 -- `nearest_inside` meets its contract: the cut of the first bits is the word at or below, and the side of the midpoint decides. Assumes nothing.
-use mathlib.Core.Bool.{Bool, true, false}
-use mathlib.Core.Path.{◌≡◌, sym, ap, ◌∙◌, subst, subst₂}
-use Prim.Native.Nat.{ℕ, zero, ◌+◌, ◌-◌, ◌/◌, ◌^◌, ◌≤◌, ◌<◌}
+use mathlib.Core.Bool.{Bool, true, false, not}
+use mathlib.Core.Path.{◌≡◌, sym, ap, ◌∙◌, subst}
+use Prim.Native.Nat.{ℕ, zero, ◌+◌, ◌-◌, ◌*◌, ◌/◌, ◌%◌, ◌^◌, ◌≤◌, ◌<◌}
 use native.Mathlib.Omega.{arith}
-use native.Mathlib.Nat.{pos_of_ne-zero, lt_of_lt_of_le}
-use borrow.Author.Rules.{rules}
+use native.Mathlib.Nat.{lt_of_lt_of_le}
+use lib.Dec.{eqb}
 use lib.Pow.{pow_mono}
 use lib.IntN.{ℤ}
+use lib.Signed.{mag}
 use mir.Facts.{to_z-of_z}
 use Rattle.bounds.specs.Refusals.{IsWord}
+use Rattle.word.specs.Takum as Takum
+use Rattle.nearest.specs.declared.size.Rest.{Rest}
+use Rattle.nearest.specs.declared.size.Side.{Side}
+use Rattle.nearest.specs.declared.size.Start.{Start}
 use Rattle.nearest.proofs.Hub as Hub
 use Rattle.nearest.proofs.Hub.{two_shifts, start_lt, below_end, at_zero, at_end, by_powers, by_cut}
 use Rattle.nearest.proofs.Sayings.{LowTells, by_end, by_nothing, said_short, said_beyond, said_largest, said_beside}
 use Rattle.nearest.proofs.Sides.{Given, lower_lt, gap_le, upper_small, under_upper}
 use Rattle.nearest.proofs.Exponents.{raise, raised_inj}
-use Rattle.nearest.specs.Parts.{Begins, first_bits, IsRaised, TellsPowers, ChoosesByCut, TellsEnd, TellsNothing, saying_of, IsNear}
+use Rattle.nearest.specs.Parts.{Begins, first_bits, IsRaised, TellsPowers, ChoosesByCut, TellsEnd, TellsNothing, chosen_of, saying_of, IsNear}
 use Rattle.nearest.proofs.size.nearest_inside.Goals as goal
 
--- what is known of the cut
-module _ (c : goal.After-first_bits-bits) where
-  lo : 2 ≤ c.args.n
-  lo = c.requires.0
+-- what is known of the first bits
+record Cut (n : ℕ) (h : ℤ) (m : ℕ) (start : Start) (bits : ℕ) : Type 0 where
+  lo : 2 ≤ n
+  hi : n ≤ 64
+  full : 2 ^ 63 ≤ m
+  near : mag h ≤ 254
+  top : m < 2 ^ 64
+  begins : Begins h start
+  bits_is : bits ≡ first_bits start m
 
-  hi : c.args.n ≤ 64
-  hi = c.requires.1
+abbrev cut : (n : ℕ) (h z : ℤ) (m : ℕ) (start : Start) (bits : ℕ) → (2 ≤ n) × (n ≤ 64) × (2 ^ 63 ≤ m) × (mag h ≤ 254) → z ≡ h → m < 2 ^ 64 → Begins z start → bits ≡ first_bits start m → Cut n h m start bits
+cut n h z m start bits r same top begins is =
+    record {
+      lo = r.0;
+      hi = r.1;
+      full = r.2;
+      near = r.3;
+      top = top;
+      begins = subst (λ (z : ℤ). Begins z start) same begins;
+      bits_is = is;
+    }
 
-  full : 2 ^ 63 ≤ c.args.m
-  full = c.requires.2
+-- an exponent as it was raised
+raised_result : (h z : ℤ) (near : mag h ≤ 254) (e : ℕ) → z ≡ h → IsRaised z e → e ≡ (raise h near).0
+unfolding IsRaised
+raised_result h z near e same is = raised_inj h e (raise h near).0 (subst (λ (z : ℤ). IsRaised z e) same is) (raise h near).1
 
-  top : c.args.m < 2 ^ 64
-  top = c.ranges.m.fits
-
-  begins : Begins c.args.h c.start_of_lem.result
-  begins = subst (λ (z : ℤ). Begins z c.start_of_lem.result) (to_z-of_z c.ranges.h) c.start_of_lem.ensures
-
-  raised_is : IsRaised c.args.h (raise c.args.h c.requires.3).0
-  unfolding IsRaised
-  raised_is = (raise c.args.h c.requires.3).1
-
-  low : ℕ
-  low = c.first_bits-bits.result / 2 ^ (64 - c.args.n)
-
-  is : low ≡ first_bits c.start_of_lem.result c.args.m / 2 ^ (64 - c.args.n)
-  unfolding low
-  is = ap (λ (x : ℕ). x / 2 ^ (64 - c.args.n)) c.first_bits-bits.ensures
-
-  -- whether low is the size or below it
-  abbrev LowIs : Bool → Type 0
-  LowIs = LowTells c.args.n lo hi c.args.h (raise c.args.h c.requires.3).0 c.args.m c.args.rest c.start_of_lem.result raised_is begins full top low is
-
--- neither before the first word nor at the last
-first : (c : goal.Else-low-eq0) → zero < low c.before
-unfolding low
-first c = pos_of_ne-zero c.if-low-eq0.false
-
-room : (c : goal.Else-low-last_word) → low c.before.before.before + 1 < 2 ^ (c.args.n - 1)
-unfolding low
-room c =
-    omega (arith, below_end _ (lo c.before.before.before) (hi c.before.before.before) _ _ _ c.args.rest _ (raised_is c.before.before.before) (begins c.before.before.before) (full c.before.before.before) (top c.before.before.before) _ (is c.before.before.before), not_last c)
-  where
-    not_last : (c : goal.Else-low-last_word) → low c.before.before.before ≡ 2 ^ (c.args.n - 1) - 1 → ⊥
-    not_last c q = c.if-low-last_word.false (q ∙ sym c.last_word.ensures)
-
-power : (c : goal.After-first_bits-bits) → 2 ^ (c.args.n - 1) ≤ 2 ^ 63
-power c = pow_mono {i = c.args.n - 1} {j = 63} (omega (arith, hi c))
-
--- the cut with what its two neighbours need
-given : (c : goal.Else-low-last_word) → Given c.args.n (low c.before.before.before) (raise c.args.h c.requires.3).0 c.args.m c.start_of_lem.result
-unfolding low
-given c = Hub.given _ (lo c.before.before.before) (hi c.before.before.before) _ _ _ c.args.rest _ (raised_is c.before.before.before) (begins c.before.before.before) (full c.before.before.before) (top c.before.before.before) _ (is c.before.before.before) (first c.before.before) (omega (arith, room c))
+-- the word at or below, cut from the bits
+abbrev low : ℕ → ℕ → ℕ
+low n bits = bits / 2 ^ (64 - n)
 
 word_at : (n v : ℕ) → 2 ≤ n → n ≤ 64 → v < 2 ^ (n - 1) → IsWord n v
 word_at n v lo hi b = record { least = lo; most = hi; fits = lt_of_lt_of_le b (pow_mono {i = n - 1} {j = n} (omega arith)) }
 
--- the exponent as it was raised
-raised_result : (c : goal.After-raised) → c.raised.result ≡ (raise c.args.h c.requires.3).0
-raised_result c =
-    raised_inj c.args.h _ _ (subst (λ (z : ℤ). IsRaised z c.raised.result) (to_z-of_z c.ranges.h) c.raised.ensures) (raised_is c.before.before.before.before.before.before.before.before)
+module _ (n : ℕ) (h : ℤ) (m : ℕ) (start : Start) (bits : ℕ) (k : Cut n h m start bits) (rest : Rest) where
+  abbrev e : ℕ
+  e = (raise h k.near).0
+
+  raised_is : IsRaised h e
+  unfolding IsRaised
+  raised_is = (raise h k.near).1
+
+  is : low n bits ≡ first_bits start m / 2 ^ (64 - n)
+  is = ap (λ (x : ℕ). x / 2 ^ (64 - n)) k.bits_is
+
+  ends : low n bits < 2 ^ (n - 1)
+  ends = below_end n k.lo k.hi h e m rest start raised_is k.begins k.full k.top (low n bits) is
+
+  -- not at the last word
+  room : (low n bits ≡ 2 ^ (n - 1) - 1 → ⊥) → low n bits + 1 < 2 ^ (n - 1)
+  room f = omega (arith, f, ends)
+
+  -- below the first word
+  short : low n bits ≡ 0 → IsNear n h m rest (record { word = 1; past = true; exact = false; up = false })
+  unfolding saying_of
+  short q =
+      record {
+        is = at_zero n k.lo k.hi h e m rest start raised_is k.begins k.full k.top (low n bits) is q;
+        lies = said_short n k.lo k.hi h e m rest start raised_is k.begins k.full k.top (low n bits) is q;
+      }
+
+  -- what the test of the end tells of low
+  told : zero < low n bits → (b : Bool) → TellsEnd n (low n bits) bits start.r m rest b → LowTells n k.lo k.hi h e m rest start raised_is k.begins k.full k.top (low n bits) is b
+  told first b t =
+      by_end n k.lo k.hi h e m rest start raised_is k.begins k.full k.top (low n bits) is first b (subst (λ (F : ℕ). TellsEnd n (low n bits) F start.r m rest b) k.bits_is t)
+
+  -- at the largest word
+  largest : zero < low n bits → low n bits ≡ 2 ^ (n - 1) - 1 → TellsEnd n (low n bits) bits start.r m rest true → IsNear n h m rest (record { word = low n bits; past = false; exact = true; up = not (eqb (low n bits) (low n bits)) })
+  unfolding saying_of
+  largest first q t =
+      record {
+        is = at_end n k.lo k.hi h e m rest start raised_is k.begins k.full k.top (low n bits) is q;
+        lies = said_largest n k.lo k.hi h e m rest start raised_is k.begins k.full k.top (low n bits) is q (told first true t);
+      }
+
+  beyond : zero < low n bits → low n bits ≡ 2 ^ (n - 1) - 1 → TellsEnd n (low n bits) bits start.r m rest false → IsNear n h m rest (record { word = low n bits; past = true; exact = false; up = false })
+  unfolding saying_of
+  beyond first q t =
+      record {
+        is = at_end n k.lo k.hi h e m rest start raised_is k.begins k.full k.top (low n bits) is q;
+        lies = said_beyond n k.lo k.hi h e m rest start raised_is k.begins k.full k.top (low n bits) is q (told first false t);
+      }
+
+  -- between two words
+  module _ (first : zero < low n bits) (inner : low n bits + 1 < 2 ^ (n - 1)) where
+    -- the cut with what its two neighbours need
+    given : Given n (low n bits) e m start
+    given = Hub.given n k.lo k.hi h e m rest start raised_is k.begins k.full k.top (low n bits) is first (omega (arith, inner))
+
+    -- where it falls in the regime or the characteristic
+    coarse : (i j : ℕ) → n < 5 + start.r → IsRaised (Takum.c 64 (low n bits * 2 ^ (64 - n))) i → IsRaised (Takum.c 64 ((low n bits + 1) * 2 ^ (64 - n))) j → (f : ℕ) → f ≡ e → (side : Side) → TellsPowers i j f m rest side → (w : ℕ) → w ≡ chosen_of (low n bits) side → (exact : Bool) → TellsEnd n (low n bits) bits start.r m rest exact → IsNear n h m rest (record { word = w; past = false; exact = exact; up = not (eqb w (low n bits)) })
+    coarse i j short i_is j_is f same side t w q exact x = let near = by_powers n k.lo k.hi h e m rest start raised_is k.begins k.full k.top (low n bits) is first (omega (arith, inner)) i j short i_is j_is w side (subst (λ (f : ℕ). TellsPowers i j f m rest side) same t) q in
+        record { is = near; lies = said_beside n k.lo k.hi h e m rest start raised_is k.begins k.full k.top (low n bits) is first (omega (arith, inner)) w near exact (told first exact x) }
+
+    -- where it falls in the fraction
+    fine : 5 + start.r ≤ n → (cut : ℕ) → cut ≡ m * 2 ^ (n - start.r - 4) % 2 ^ 64 → (w : ℕ) → ChoosesByCut (low n bits) cut rest w → (exact : Bool) → TellsNothing cut rest exact → IsNear n h m rest (record { word = w; past = false; exact = exact; up = not (eqb w (low n bits)) })
+    fine l cut same w t exact x = let near = by_cut n k.lo k.hi h e m rest start raised_is k.begins k.full k.top (low n bits) is first (omega (arith, inner)) l w (subst (λ (cut : ℕ). ChoosesByCut (low n bits) cut rest w) same t) in
+        record {
+          is = near;
+          lies =
+              said_beside n k.lo k.hi h e m rest start raised_is k.begins k.full k.top (low n bits) is first (omega (arith, inner)) w near exact
+              (by_nothing n k.lo k.hi h e m rest start raised_is k.begins k.full k.top (low n bits) is first (omega (arith, inner)) l exact (subst (λ (cut : ℕ). TellsNothing cut rest exact) same x));
+        }
+
+-- low + 1 is no longer than the words are
+next_lt : (n v j : ℕ) → n ≤ 64 → v + 1 < 2 ^ (n - 1) → 63 ≤ j → v + 1 < 2 ^ j
+next_lt n v j hi room most = lt_of_lt_of_le room (pow_mono {i = n - 1} {j = j} (omega (arith, hi, most)))
 
 pub first_bits-bits-requires : goal.first_bits-bits-requires
-first_bits-bits-requires c = (c.start_of_lem.ensures.regime, start_lt _ _ c.start_of_lem.ensures, c.requires.2)
+first_bits-bits-requires c = (c.start_of-start.ensures.regime, start_lt _ _ c.start_of-start.ensures, c.requires.2)
 
 pub returns-then-low-eq0 : goal.returns-then-low-eq0
-unfolding low saying_of
-returns-then-low-eq0 c = subst (IsNear _ _ _ _) (sym c.end_word.ensures)
-    (record {
-      is = at_zero _ (lo c.before.before) (hi c.before.before) _ _ _ _ _ (raised_is c.before.before) (begins c.before.before) (full c.before.before) (top c.before.before) _ (is c.before.before) c.if-low-eq0.true;
-      lies = said_short _ (lo c.before.before) (hi c.before.before) _ _ _ _ _ (raised_is c.before.before) (begins c.before.before) (full c.before.before) (top c.before.before) _ (is c.before.before) c.if-low-eq0.true;
-    })
-
--- at the largest word
-at_last : (c : goal.Then-low-last_word) → low c.before.before.before ≡ 2 ^ (c.args.n - 1) - 1
-unfolding low
-at_last c = c.if-low-last_word.true ∙ c.last_word.ensures
+returns-then-low-eq0 c =
+    let k : Cut c.args.n c.args.h c.args.m c.start_of-start.result c.first_bits-bits.result = cut c.args.n c.args.h _ c.args.m c.start_of-start.result c.first_bits-bits.result c.requires (to_z-of_z c.ranges.h) c.ranges.m.fits c.start_of-start.ensures c.first_bits-bits.ensures in
+    subst (IsNear _ _ _ _) (sym c.end_word.ensures) (short c.args.n c.args.h c.args.m c.start_of-start.result c.first_bits-bits.result k c.args.rest c.if-low-eq0.true)
 
 pub ends_at-requires : goal.ends_at-requires
-unfolding low
-ends_at-requires c = (lo c.before.before.before, hi c.before.before.before, below_end _ (lo c.before.before.before) (hi c.before.before.before) _ _ _ c.args.rest _ (raised_is c.before.before.before) (begins c.before.before.before) (full c.before.before.before) (top c.before.before.before) _ (is c.before.before.before), c.start_of_lem.ensures.regime)
-
--- what the test of the end tells of low
-told : (c : goal.After-ends_at) (b : Bool) → c.ends_at.result ≡ b → LowIs c.before.before.before.before b
-unfolding low
-told c b q = by_end _ (lo c.before.before.before.before) (hi c.before.before.before.before) _ _ _ _ _ (raised_is c.before.before.before.before) (begins c.before.before.before.before) (full c.before.before.before.before) (top c.before.before.before.before) _ (is c.before.before.before.before) (first c.before.before.before) b
-    (subst₂ (λ (F : ℕ) (b : Bool). TellsEnd c.args.n (low c.before.before.before.before) F c.start_of_lem.result.r c.args.m c.args.rest b) c.first_bits-bits.ensures q c.ends_at.ensures)
+ends_at-requires c =
+    let k : Cut c.args.n c.args.h c.args.m c.start_of-start.result c.first_bits-bits.result = cut c.args.n c.args.h _ c.args.m c.start_of-start.result c.first_bits-bits.result c.requires (to_z-of_z c.ranges.h) c.ranges.m.fits c.start_of-start.ensures c.first_bits-bits.ensures in
+    (k.lo, k.hi, ends c.args.n c.args.h c.args.m c.start_of-start.result c.first_bits-bits.result k c.args.rest, c.start_of-start.ensures.regime)
 
 pub returns-then-ends_at : goal.returns-then-ends_at
-unfolding low saying_of
-returns-then-ends_at c = subst (IsNear _ _ _ _) (sym c.beside.ensures)
-    (record {
-      is = at_end _ (lo c.before.before.before.before.before.before) (hi c.before.before.before.before.before.before) _ _ _ _ _ (raised_is c.before.before.before.before.before.before) (begins c.before.before.before.before.before.before) (full c.before.before.before.before.before.before) (top c.before.before.before.before.before.before) _ (is c.before.before.before.before.before.before) (at_last c.before.before.before);
-      lies = said_largest _ (lo c.before.before.before.before.before.before) (hi c.before.before.before.before.before.before) _ _ _ _ _ (raised_is c.before.before.before.before.before.before) (begins c.before.before.before.before.before.before) (full c.before.before.before.before.before.before) (top c.before.before.before.before.before.before) _ (is c.before.before.before.before.before.before) (at_last c.before.before.before) (told c.before.before true c.if-ends_at.true);
-    })
+returns-then-ends_at c =
+    let k : Cut c.args.n c.args.h c.args.m c.start_of-start.result c.first_bits-bits.result = cut c.args.n c.args.h _ c.args.m c.start_of-start.result c.first_bits-bits.result c.requires (to_z-of_z c.ranges.h) c.ranges.m.fits c.start_of-start.ensures c.first_bits-bits.ensures in
+    let first : zero < low c.args.n c.first_bits-bits.result = omega arith in
+    subst (IsNear _ _ _ _) (sym c.beside.ensures)
+    (largest c.args.n c.args.h c.args.m c.start_of-start.result c.first_bits-bits.result k c.args.rest first (c.if-low-last_word.true ∙ c.last_word.ensures) (subst (λ (b : Bool). TellsEnd c.args.n (low c.args.n c.first_bits-bits.result) c.first_bits-bits.result c.start_of-start.result.r c.args.m c.args.rest b) c.if-ends_at.true c.ends_at.ensures))
 
 pub returns-then-low-last_word : goal.returns-then-low-last_word
-unfolding low saying_of
-returns-then-low-last_word c = subst (IsNear _ _ _ _) (sym c.end_word-then-low-last_word.ensures)
-    (record {
-      is = at_end _ (lo c.before.before.before.before.before.before) (hi c.before.before.before.before.before.before) _ _ _ _ _ (raised_is c.before.before.before.before.before.before) (begins c.before.before.before.before.before.before) (full c.before.before.before.before.before.before) (top c.before.before.before.before.before.before) _ (is c.before.before.before.before.before.before) (at_last c.before.before.before);
-      lies = said_beyond _ (lo c.before.before.before.before.before.before) (hi c.before.before.before.before.before.before) _ _ _ _ _ (raised_is c.before.before.before.before.before.before) (begins c.before.before.before.before.before.before) (full c.before.before.before.before.before.before) (top c.before.before.before.before.before.before) _ (is c.before.before.before.before.before.before) (at_last c.before.before.before) (told c.before.before false c.if-ends_at.false);
-    })
+returns-then-low-last_word c =
+    let k : Cut c.args.n c.args.h c.args.m c.start_of-start.result c.first_bits-bits.result = cut c.args.n c.args.h _ c.args.m c.start_of-start.result c.first_bits-bits.result c.requires (to_z-of_z c.ranges.h) c.ranges.m.fits c.start_of-start.ensures c.first_bits-bits.ensures in
+    let first : zero < low c.args.n c.first_bits-bits.result = omega arith in
+    subst (IsNear _ _ _ _) (sym c.end_word-then-low-last_word.ensures)
+    (beyond c.args.n c.args.h c.args.m c.start_of-start.result c.first_bits-bits.result k c.args.rest first (c.if-low-last_word.true ∙ c.last_word.ensures) (subst (λ (b : Bool). TellsEnd c.args.n (low c.args.n c.first_bits-bits.result) c.first_bits-bits.result c.start_of-start.result.r c.args.m c.args.rest b) c.if-ends_at.false c.ends_at.ensures))
 
 pub exponent-requires : goal.exponent-requires
-unfolding low
-exponent-requires c = let g = given c.before.before in
-    (word_at _ _ g.lo g.hi (omega (arith, g.room)), g.first, omega (arith, g.room))
+exponent-requires c =
+    let k : Cut c.args.n c.args.h c.args.m c.start_of-start.result c.first_bits-bits.result = cut c.args.n c.args.h _ c.args.m c.start_of-start.result c.first_bits-bits.result c.requires (to_z-of_z c.ranges.h) c.ranges.m.fits c.start_of-start.ensures c.first_bits-bits.ensures in
+    let first : zero < low c.args.n c.first_bits-bits.result = omega arith in
+    let b = ends c.args.n c.args.h c.args.m c.start_of-start.result c.first_bits-bits.result k c.args.rest in
+    (word_at _ _ k.lo k.hi b, first, b)
 
 pub overflow_add-low : goal.overflow_add-low
-unfolding low
-overflow_add-low c = let g = given c.before.before.before in
-    record { fits = lt_of_lt_of_le g.room (pow_mono {i = c.args.n - 1} {j = 64} (omega (arith, g.hi))) }
+overflow_add-low c =
+    let k : Cut c.args.n c.args.h c.args.m c.start_of-start.result c.first_bits-bits.result = cut c.args.n c.args.h _ c.args.m c.start_of-start.result c.first_bits-bits.result c.requires (to_z-of_z c.ranges.h) c.ranges.m.fits c.start_of-start.ensures c.first_bits-bits.ensures in
+    let inner = room c.args.n c.args.h c.args.m c.start_of-start.result c.first_bits-bits.result k c.args.rest (λ q. c.if-low-last_word.false (q ∙ sym c.last_word.ensures)) in
+    record { fits = next_lt c.args.n _ 64 k.hi inner (omega arith) }
 
 pub exponent-requires-then-n-start : goal.exponent-requires-then-n-start
-unfolding low
-exponent-requires-then-n-start c = let g = given c.before.before.before in
-    (word_at _ _ g.lo g.hi g.room, omega arith, g.room)
+exponent-requires-then-n-start c =
+    let k : Cut c.args.n c.args.h c.args.m c.start_of-start.result c.first_bits-bits.result = cut c.args.n c.args.h _ c.args.m c.start_of-start.result c.first_bits-bits.result c.requires (to_z-of_z c.ranges.h) c.ranges.m.fits c.start_of-start.ensures c.first_bits-bits.ensures in
+    let inner = room c.args.n c.args.h c.args.m c.start_of-start.result c.first_bits-bits.result k c.args.rest (λ q. c.if-low-last_word.false (q ∙ sym c.last_word.ensures)) in
+    (word_at _ _ k.lo k.hi inner, omega arith, inner)
 
 pub side_of_powers-side-requires : goal.side_of_powers-side-requires
-unfolding low
 side_of_powers-side-requires c =
-    let g = given c.before.before.before.before.before in
+    let k : Cut c.args.n c.args.h c.args.m c.start_of-start.result c.first_bits-bits.result = cut c.args.n c.args.h _ c.args.m c.start_of-start.result c.first_bits-bits.result c.requires (to_z-of_z c.ranges.h) c.ranges.m.fits c.start_of-start.ensures c.first_bits-bits.ensures in
+    let first : zero < low c.args.n c.first_bits-bits.result = omega arith in
+    let inner = room c.args.n c.args.h c.args.m c.start_of-start.result c.first_bits-bits.result k c.args.rest (λ q. c.if-low-last_word.false (q ∙ sym c.last_word.ensures)) in
+    let g = given c.args.n c.args.h c.args.m c.start_of-start.result c.first_bits-bits.result k c.args.rest first inner in
     let short = c.if-n-start.true in
     let i = c.exponent.ensures in
     let j = c.exponent-then-n-start.ensures in
-    (lower_lt _ _ _ _ _ g short _ _ i j, gap_le _ _ _ _ _ g short _ _ i j, subst (λ (e : ℕ). e < c.exponent-then-n-start.result) (sym (raised_result c)) (under_upper _ _ _ _ _ g short _ _ i j), upper_small _ _ _ _ _ g short _ _ i j, g.full)
+    (lower_lt _ _ _ _ _ g short _ _ i j, gap_le _ _ _ _ _ g short _ _ i j, subst (λ (e : ℕ). e < c.exponent-then-n-start.result) (sym (raised_result c.args.h _ k.near _ (to_z-of_z c.ranges.h) c.raised.ensures)) (under_upper _ _ _ _ _ g short _ _ i j), upper_small _ _ _ _ _ g short _ _ i j, k.full)
 
 pub chosen-word-requires : goal.chosen-word-requires
-unfolding low
-chosen-word-requires c = let g = given c.before.before.before.before.before.before in
-    lt_of_lt_of_le g.room (pow_mono {i = c.args.n - 1} {j = 63} (omega (arith, g.hi)))
+chosen-word-requires c =
+    let k : Cut c.args.n c.args.h c.args.m c.start_of-start.result c.first_bits-bits.result = cut c.args.n c.args.h _ c.args.m c.start_of-start.result c.first_bits-bits.result c.requires (to_z-of_z c.ranges.h) c.ranges.m.fits c.start_of-start.ensures c.first_bits-bits.ensures in
+    let inner = room c.args.n c.args.h c.args.m c.start_of-start.result c.first_bits-bits.result k c.args.rest (λ q. c.if-low-last_word.false (q ∙ sym c.last_word.ensures)) in
+    next_lt c.args.n _ 63 k.hi inner (omega arith)
 
 pub ends_at-requires-then-n-start : goal.ends_at-requires-then-n-start
-unfolding low
-ends_at-requires-then-n-start c = let g = given c.before.before.before.before.before.before.before in
-    (g.lo, g.hi, omega (arith, g.room), c.start_of_lem.ensures.regime)
+ends_at-requires-then-n-start c =
+    let k : Cut c.args.n c.args.h c.args.m c.start_of-start.result c.first_bits-bits.result = cut c.args.n c.args.h _ c.args.m c.start_of-start.result c.first_bits-bits.result c.requires (to_z-of_z c.ranges.h) c.ranges.m.fits c.start_of-start.ensures c.first_bits-bits.ensures in
+    (k.lo, k.hi, ends c.args.n c.args.h c.args.m c.start_of-start.result c.first_bits-bits.result k c.args.rest, c.start_of-start.ensures.regime)
 
 pub returns-then-n-start : goal.returns-then-n-start
-unfolding low
 returns-then-n-start c =
-    let near = by_powers _ (lo c.before.before.before.before.before.before.before.before.before.before.before.before) (hi c.before.before.before.before.before.before.before.before.before.before.before.before) _ _ _ _ _ (raised_is c.before.before.before.before.before.before.before.before.before.before.before.before) (begins c.before.before.before.before.before.before.before.before.before.before.before.before) (full c.before.before.before.before.before.before.before.before.before.before.before.before) (top c.before.before.before.before.before.before.before.before.before.before.before.before) _ (is c.before.before.before.before.before.before.before.before.before.before.before.before) (first c.before.before.before.before.before.before.before.before.before.before.before) (omega (arith, room c.before.before.before.before.before.before.before.before.before)) _ _ c.if-n-start.true c.exponent.ensures c.exponent-then-n-start.ensures _ _
-    (subst (λ (e : ℕ). TellsPowers c.exponent.result c.exponent-then-n-start.result e c.args.m c.args.rest c.side_of_powers-side.result) (raised_result c.before.before.before.before) c.side_of_powers-side.ensures) c.chosen-word.ensures in
+    let k : Cut c.args.n c.args.h c.args.m c.start_of-start.result c.first_bits-bits.result = cut c.args.n c.args.h _ c.args.m c.start_of-start.result c.first_bits-bits.result c.requires (to_z-of_z c.ranges.h) c.ranges.m.fits c.start_of-start.ensures c.first_bits-bits.ensures in
+    let first : zero < low c.args.n c.first_bits-bits.result = omega arith in
+    let inner = room c.args.n c.args.h c.args.m c.start_of-start.result c.first_bits-bits.result k c.args.rest (λ q. c.if-low-last_word.false (q ∙ sym c.last_word.ensures)) in
     subst (IsNear _ _ _ _) (sym c.beside-then-n-start.ensures)
-    (record {
-      is = near;
-      lies = said_beside _ (lo c.before.before.before.before.before.before.before.before.before.before.before.before) (hi c.before.before.before.before.before.before.before.before.before.before.before.before) _ _ _ _ _ (raised_is c.before.before.before.before.before.before.before.before.before.before.before.before) (begins c.before.before.before.before.before.before.before.before.before.before.before.before) (full c.before.before.before.before.before.before.before.before.before.before.before.before) (top c.before.before.before.before.before.before.before.before.before.before.before.before) _ (is c.before.before.before.before.before.before.before.before.before.before.before.before) (first c.before.before.before.before.before.before.before.before.before.before.before) (omega (arith, room c.before.before.before.before.before.before.before.before.before)) _ near _
-          (by_end _ (lo c.before.before.before.before.before.before.before.before.before.before.before.before) (hi c.before.before.before.before.before.before.before.before.before.before.before.before) _ _ _ _ _ (raised_is c.before.before.before.before.before.before.before.before.before.before.before.before) (begins c.before.before.before.before.before.before.before.before.before.before.before.before) (full c.before.before.before.before.before.before.before.before.before.before.before.before) (top c.before.before.before.before.before.before.before.before.before.before.before.before) _ (is c.before.before.before.before.before.before.before.before.before.before.before.before) (first c.before.before.before.before.before.before.before.before.before.before.before) _
-          (subst (λ (F : ℕ). TellsEnd c.args.n (low c.before.before.before.before.before.before.before.before.before.before.before.before) F c.start_of_lem.result.r c.args.m c.args.rest c.ends_at-then-n-start.result) c.first_bits-bits.ensures c.ends_at-then-n-start.ensures));
-    })
+    (coarse c.args.n c.args.h c.args.m c.start_of-start.result c.first_bits-bits.result k c.args.rest first inner _ _ c.if-n-start.true c.exponent.ensures c.exponent-then-n-start.ensures _ (raised_result c.args.h _ k.near _ (to_z-of_z c.ranges.h) c.raised.ensures) _ c.side_of_powers-side.ensures _ c.chosen-word.ensures _ c.ends_at-then-n-start.ensures)
 
 pub chosen_by_cut-word-requires : goal.chosen_by_cut-word-requires
-unfolding low
-chosen_by_cut-word-requires c = let g = given c.before.before.before in
-    lt_of_lt_of_le g.room (pow_mono {i = c.args.n - 1} {j = 63} (omega (arith, g.hi)))
+chosen_by_cut-word-requires c =
+    let k : Cut c.args.n c.args.h c.args.m c.start_of-start.result c.first_bits-bits.result = cut c.args.n c.args.h _ c.args.m c.start_of-start.result c.first_bits-bits.result c.requires (to_z-of_z c.ranges.h) c.ranges.m.fits c.start_of-start.ensures c.first_bits-bits.ensures in
+    let inner = room c.args.n c.args.h c.args.m c.start_of-start.result c.first_bits-bits.result k c.args.rest (λ q. c.if-low-last_word.false (q ∙ sym c.last_word.ensures)) in
+    next_lt c.args.n _ 63 k.hi inner (omega arith)
 
 pub returns : goal.returns
-unfolding low
 returns c =
-    let fine = c.if-n-start.false in
-    let kept = c.args.n - c.start_of_lem.result.r in
-    let shifts = two_shifts c.args.m (kept - 5) (kept - 4) (omega (arith, hi c.before.before.before.before.before.before.before.before.before)) (omega (arith, fine)) in
-    let near = by_cut _ (lo c.before.before.before.before.before.before.before.before.before) (hi c.before.before.before.before.before.before.before.before.before) _ _ _ _ _ (raised_is c.before.before.before.before.before.before.before.before.before) (begins c.before.before.before.before.before.before.before.before.before) (full c.before.before.before.before.before.before.before.before.before) (top c.before.before.before.before.before.before.before.before.before) _ (is c.before.before.before.before.before.before.before.before.before) (first c.before.before.before.before.before.before.before.before) (omega (arith, room c.before.before.before.before.before.before)) fine _
-    (subst (λ (cut : ℕ). ChoosesByCut (low c.before.before.before.before.before.before.before.before.before) cut c.args.rest c.chosen_by_cut-word.result) shifts c.chosen_by_cut-word.ensures) in
-    subst (IsNear _ _ _ _) (sym c.beside-2.ensures)
-    (record {
-      is = near;
-      lies = said_beside _ (lo c.before.before.before.before.before.before.before.before.before) (hi c.before.before.before.before.before.before.before.before.before) _ _ _ _ _ (raised_is c.before.before.before.before.before.before.before.before.before) (begins c.before.before.before.before.before.before.before.before.before) (full c.before.before.before.before.before.before.before.before.before) (top c.before.before.before.before.before.before.before.before.before) _ (is c.before.before.before.before.before.before.before.before.before) (first c.before.before.before.before.before.before.before.before) (omega (arith, room c.before.before.before.before.before.before)) _ near _
-          (by_nothing _ (lo c.before.before.before.before.before.before.before.before.before) (hi c.before.before.before.before.before.before.before.before.before) _ _ _ _ _ (raised_is c.before.before.before.before.before.before.before.before.before) (begins c.before.before.before.before.before.before.before.before.before) (full c.before.before.before.before.before.before.before.before.before) (top c.before.before.before.before.before.before.before.before.before) _ (is c.before.before.before.before.before.before.before.before.before) (first c.before.before.before.before.before.before.before.before) (omega (arith, room c.before.before.before.before.before.before)) fine _
-          (subst (λ (cut : ℕ). TellsNothing cut c.args.rest c.nothing_is_cut.result) shifts c.nothing_is_cut.ensures));
-    })
+    let k : Cut c.args.n c.args.h c.args.m c.start_of-start.result c.first_bits-bits.result = cut c.args.n c.args.h _ c.args.m c.start_of-start.result c.first_bits-bits.result c.requires (to_z-of_z c.ranges.h) c.ranges.m.fits c.start_of-start.ensures c.first_bits-bits.ensures in
+    let first : zero < low c.args.n c.first_bits-bits.result = omega arith in
+    let inner = room c.args.n c.args.h c.args.m c.start_of-start.result c.first_bits-bits.result k c.args.rest (λ q. c.if-low-last_word.false (q ∙ sym c.last_word.ensures)) in
+    let kept = c.args.n - c.start_of-start.result.r in
+    let shifts = two_shifts c.args.m (kept - 5) (kept - 4) (omega (arith, k.hi)) (omega (arith, c.if-n-start.false)) in
+    subst (IsNear _ _ _ _) (sym c.beside-2.ensures) (fine c.args.n c.args.h c.args.m c.start_of-start.result c.first_bits-bits.result k c.args.rest first inner c.if-n-start.false _ shifts _ c.chosen_by_cut-word.ensures _ c.nothing_is_cut.ensures)

@@ -1,9 +1,8 @@
 -- `nearest_word` meets its contract: past the ends the end words, inside the cut decides. Assumes nothing.
-use mathlib.Core.Bool.{Bool, true, false}
+use mathlib.Core.Bool.{Bool, true, false, true≢false}
 use mathlib.Core.Path.{◌≡◌, sym, subst, subst₂}
 use Prim.Native.Nat.{ℕ, ◌≤◌, ◌<◌}
-use borrow.Author.Rules.{rules}
-use lib.IntN.{ℤ, pos, negsuc}
+use lib.IntN.{ℤ}
 use lib.Signed.{mag}
 use mir.Syntax.{w64}
 use mir.Facts.{to_z-of_z}
@@ -15,42 +14,38 @@ use Rattle.nearest.proofs.Sayings.{outside_said}
 use Rattle.nearest.proofs.size.nearest_word.Goals as goal
 
 -- what the test tells
-told : (k : goal.After-is_characteristic) (b : Bool) → k.is_characteristic.result ≡ b → TellsCharacteristic k.args.h b
-told k b q = subst₂ (λ (z : ℤ) (b : Bool). TellsCharacteristic z b) (to_z-of_z k.ranges.h) q k.is_characteristic.ensures
-
-module _ (c : goal.Then-is_characteristic) where
-  abbrev s : goal.Start
-  s = c.before.before
-
-  inside : mag s.args.h ≤ 254
-  unfolding TellsCharacteristic
-  inside = told c.before true c.if-is_characteristic.true
-
-outside : (c : goal.Else-is_characteristic) → 254 < mag c.args.h
+inside : (h : ℤ) (b : Bool) → TellsCharacteristic h b → b ≡ true → mag h ≤ 254
 unfolding TellsCharacteristic
-outside c = told c.before false c.if-is_characteristic.false
+inside h true t q = t
+inside h false t q = absurd (true≢false (sym q))
+
+outside : (h z : ℤ) (b : Bool) → z ≡ h → TellsCharacteristic z b → b ≡ false → 254 < mag h
+unfolding TellsCharacteristic
+outside h z true same t q = absurd (true≢false q)
+outside h z false same t q = subst (λ (z : ℤ). 254 < mag z) same t
 
 pub nearest_inside-requires : goal.nearest_inside-requires
-nearest_inside-requires c = ((s c).requires.0, (s c).requires.1, (s c).requires.2, subst (λ (z : ℤ). mag z ≤ 254) (sym (to_z-of_z (s c).ranges.h)) (inside c))
+nearest_inside-requires c = (c.requires.0, c.requires.1, c.requires.2, inside _ _ c.is_characteristic.ensures c.if-is_characteristic.true)
 
 pub returns-then-is_characteristic : goal.returns-then-is_characteristic
-returns-then-is_characteristic c = let t = s c.before in
-    subst (λ (z : ℤ). IsNear t.args.n z t.args.m t.args.rest c.nearest_inside.result) (to_z-of_z t.fits.h) c.nearest_inside.ensures
+returns-then-is_characteristic c = subst (λ (z : ℤ). IsNear c.args.n z c.args.m c.args.rest c.nearest_inside.result) (to_z-of_z c.ranges.h) c.nearest_inside.ensures
 
 pub returns-then-h-lt0 : goal.returns-then-h-lt0
 unfolding saying_of
-returns-then-h-lt0 c = let h = is_negative c.args.h (tested w64 tt c.ranges.h c.if-h-lt0.true) in
+returns-then-h-lt0 c = let far = outside c.args.h _ _ (to_z-of_z c.ranges.h) c.is_characteristic.ensures c.if-is_characteristic.false in
+    let h = is_negative c.args.h (tested w64 tt c.ranges.h c.if-h-lt0.true) in
     subst (IsNear _ _ _ _) (sym c.end_word.ensures)
     (record {
-      is = subst (λ (z : ℤ). IsNearest c.args.n z c.args.m c.args.rest 1) (sym h) (before_first c.args.n c.requires.0 c.requires.1 (mag c.args.h) c.args.m c.args.rest (outside c.before.before) c.requires.2 c.ranges.m.fits);
-      lies = outside_said c.args.n c.requires.0 c.requires.1 c.args.h c.args.m c.args.rest 1 (outside c.before.before) c.requires.2 c.ranges.m.fits;
+      is = subst (λ (z : ℤ). IsNearest c.args.n z c.args.m c.args.rest 1) (sym h) (before_first c.args.n c.requires.0 c.requires.1 (mag c.args.h) c.args.m c.args.rest far c.requires.2 c.ranges.m.fits);
+      lies = outside_said c.args.n c.requires.0 c.requires.1 c.args.h c.args.m c.args.rest 1 far c.requires.2 c.ranges.m.fits;
     })
 
 pub returns : goal.returns
 unfolding saying_of
-returns c = let h = not_negative c.args.h (tested w64 tt c.ranges.h c.if-h-lt0.false) in
+returns c = let far = outside c.args.h _ _ (to_z-of_z c.ranges.h) c.is_characteristic.ensures c.if-is_characteristic.false in
+    let h = not_negative c.args.h (tested w64 tt c.ranges.h c.if-h-lt0.false) in
     subst (IsNear _ _ _ _) (sym c.end_word-2.ensures)
     (record {
-      is = subst₂ (λ (z : ℤ) (w : ℕ). IsNearest c.args.n z c.args.m c.args.rest w) (sym h) (sym c.last_word.ensures) (past_last c.args.n c.requires.0 c.requires.1 (mag c.args.h) c.args.m c.args.rest (outside c.before.before.before) c.requires.2);
-      lies = outside_said c.args.n c.requires.0 c.requires.1 c.args.h c.args.m c.args.rest _ (outside c.before.before.before) c.requires.2 c.ranges.m.fits;
+      is = subst₂ (λ (z : ℤ) (w : ℕ). IsNearest c.args.n z c.args.m c.args.rest w) (sym h) (sym c.last_word.ensures) (past_last c.args.n c.requires.0 c.requires.1 (mag c.args.h) c.args.m c.args.rest far c.requires.2);
+      lies = outside_said c.args.n c.requires.0 c.requires.1 c.args.h c.args.m c.args.rest _ far c.requires.2 c.ranges.m.fits;
     })

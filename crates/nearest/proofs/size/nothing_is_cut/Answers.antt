@@ -1,9 +1,8 @@
 -- `nothing_is_cut` meets its contract: the bits cut off, and then the rest. Assumes nothing.
 use mathlib.Core.Bool.{Bool, true, false}
 use mathlib.Core.Logic.{inl, inr}
-use mathlib.Core.Path.{◌≡◌, refl, sym}
+use mathlib.Core.Path.{◌≡◌, sym}
 use native.Mathlib.Nat.{pos_of_ne-zero}
-use borrow.Author.Rules.{rules}
 use Rattle.nearest.specs.Parts.{TellsNothing, is_none}
 use Rattle.nearest.proofs.Halves.{no_rest, some_rest}
 use Rattle.nearest.proofs.size.nothing_is_cut.Goals as goal
@@ -16,9 +15,6 @@ pub returns : goal.returns
 unfolding TellsNothing
 returns c = by c.is_none.result c.is_none.ensures
   where
-    s : tie.Start
-    s = c.before.before
-
-    by : (b : Bool) → b ≡ is_none s.args.rest → TellsNothing s.args.cut s.args.rest b
-    by true q = (c.if-cut-ne0.false, no_rest s.args.rest (sym q))
-    by false q = inr (some_rest s.args.rest (sym q))
+    by : (b : Bool) → b ≡ is_none c.args.rest → TellsNothing c.args.cut c.args.rest b
+    by true q = (c.if-cut-ne0.false, no_rest c.args.rest (sym q))
+    by false q = inr (some_rest c.args.rest (sym q))

@@ -3,7 +3,6 @@ use mathlib.Core.Path.{◌≡◌, sym, ap, ◌∙◌, subst}
 use Prim.Native.Nat.{ℕ, ◌-◌, ◌*◌, ◌%◌, ◌^◌, ◌≤◌, ◌<◌}
 use native.Mathlib.Nat.{lt_of_lt_of_le}
 use native.Mathlib.Omega.{arith}
-use borrow.Author.Rules.{rules}
 use lib.Pow.{pow_mono, pow_pos}
 use lib.IntN.{ℤ, negsuc, ◌-ℤ◌}
 use mir.Syntax.{w64}
@@ -33,14 +32,14 @@ module _ (n w all : ℕ) (is : all ≡ 2 ^ n - 1) (word : IsWord n w) (half : 2 
   high = to_z-of_z high_fits ∙ less ∙ ap (λ (x : ℕ). negsuc (x - w)) is ∙ sym (signed_high n w half word.fits)
 
 -- the word of NaR, as the machine shifts a bit to it
-nar : (s : goal.Start) → 1 * 2 ^ (s.args.n - 1) % 2 ^ 64 ≡ 2 ^ (s.args.n - 1)
-nar s = one_shl 64 (s.args.n - 1) (omega (arith, s.requires.most, s.requires.least))
+nar : (n w : ℕ) → IsWord n w → 1 * 2 ^ (n - 1) % 2 ^ 64 ≡ 2 ^ (n - 1)
+nar n w i = one_shl 64 (n - 1) (omega (arith, i.most, i.least))
 
 below : (c : goal.Then-word-n) → c.args.word < 2 ^ (c.args.n - 1)
-below c = subst (λ (x : ℕ). c.args.word < x) (nar c.before) c.if-word-n.true
+below c = subst (λ (x : ℕ). c.args.word < x) (nar c.args.n c.args.word c.requires) c.if-word-n.true
 
 from_half : (c : goal.After-ones) → 2 ^ (c.args.n - 1) ≤ c.args.word
-from_half c = subst (λ (x : ℕ). x ≤ c.args.word) (nar c.before.before) c.if-word-n.false
+from_half c = subst (λ (x : ℕ). x ≤ c.args.word) (nar c.args.n c.args.word c.requires) c.if-word-n.false
 
 pub overflow_cast-result : goal.overflow_cast-result
 overflow_cast-result c = record { sfits = small _ _ c.requires (below c) }

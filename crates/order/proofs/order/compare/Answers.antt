@@ -1,7 +1,9 @@
 -- `compare` meets its contract: a verdict that refuses is the answer, and one that lets both words through is followed by the order of their numbers. Assumes nothing.
 use mathlib.Core.Path.{◌≡◌, refl, sym, ap, ap₂, ◌∙◌}
+use Prim.Native.Nat.{ℕ}
 use borrow.Author.Rules.{rules, sfits_of}
 use mir.Facts.{to_z-of_z}
+use mir.Syntax.{w32, w64}
 use Rattle.word.specs.Orders.{order}
 use Rattle.order.specs.Orders.{Compares}
 use Rattle.order.specs.declared.order.Comparison.{Comparison}
@@ -11,24 +13,24 @@ use Rattle.bounds.specs.declared.refusal.Verdict.{Verdict}
 use Rattle.order.proofs.order.compare.Goals as goal
 
 -- the verdict as the tests in their order
-told : (c : goal.After-then-verdict) {u : Verdict} → c.then-verdict.result ≡ u → word_test c.args.width.bits c.args.x then stray_test c.args.width.bits c.args.y ≡ u
-told c h = sym (once (width_test _) (stray_test _ _) (stray_test _ _)) ∙ told_two c.test_word.ensures c.test_word-2.ensures c.then-verdict.ensures h
+told : (n x y : ℕ) {a b v u : Verdict} → a ≡ word_test n x → b ≡ word_test n y → v ≡ a then b → v ≡ u → word_test n x then stray_test n y ≡ u
+told n x y e f g h = sym (once (width_test n) (stray_test n x) (stray_test n y)) ∙ told_two e f g h
 
 -- what is known once the verdict has let the words through
-words_in : (c : goal.In_default) → IsWord c.args.width.bits c.args.x × IsWord c.args.width.bits c.args.y
-words_in c = words_through _ _ _ (told c.before.before c.in_default.is)
+words_in : (n x y : ℕ) {a b v : Verdict} → a ≡ word_test n x → b ≡ word_test n y → v ≡ a then b → v ≡ Verdict.Through → IsWord n x × IsWord n y
+words_in n x y e f g h = words_through n x y (told n x y e f g h)
 
 pub returns-in-Refused : goal.returns-in-Refused
 unfolding Compares
-returns-in-Refused c = refused (told c.before.before.before c.in-Refused.is) refl
+returns-in-Refused c = refused (told _ _ _ c.test_word.ensures c.test_word-2.ensures c.then-verdict.ensures c.in-Refused.is) refl
 
 -- both are words, whichever is asked for: words in the wrong order would be refused where the answer is given and not here
 pub as_signed-requires : goal.as_signed-requires
-as_signed-requires c = let x = (words_in c).0 in let y = (words_in c).1 in search rules
+as_signed-requires c = let i = words_in _ _ _ c.test_word.ensures c.test_word-2.ensures c.then-verdict.ensures c.in_default.is in let x = i.0 in let y = i.1 in search rules
 
 pub as_signed-requires-2 : goal.as_signed-requires-2
-as_signed-requires-2 c = let x = (words_in c.before).0 in let y = (words_in c.before).1 in search rules
+as_signed-requires-2 c = let i = words_in _ _ _ c.test_word.ensures c.test_word-2.ensures c.then-verdict.ensures c.in_default.is in let x = i.0 in let y = i.1 in search rules
 
 pub returns : goal.returns
 unfolding Compares
-returns c = through (told c.before.before.before.before.before c.in_default.is) (ap Comparison.Is (to_z-of_z (sfits_of c.sign_of_difference.type_inv) ∙ c.sign_of_difference.ensures ∙ ap₂ order (to_z-of_z (sfits_of c.as_signed.type_inv) ∙ c.as_signed.ensures) (to_z-of_z (sfits_of c.as_signed-2.type_inv) ∙ c.as_signed-2.ensures)))
+returns c = through (told _ _ _ c.test_word.ensures c.test_word-2.ensures c.then-verdict.ensures c.in_default.is) (ap Comparison.Is (to_z-of_z {w = w32} (sfits_of c.sign_of_difference.type_inv) ∙ c.sign_of_difference.ensures ∙ ap₂ order (to_z-of_z {w = w64} (sfits_of c.as_signed.type_inv) ∙ c.as_signed.ensures) (to_z-of_z {w = w64} (sfits_of c.as_signed-2.type_inv) ∙ c.as_signed-2.ensures)))

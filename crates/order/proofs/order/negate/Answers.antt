@@ -3,7 +3,6 @@ use mathlib.Core.Path.{◌≡◌, refl, sym, ap, ◌∙◌}
 use Prim.Native.Nat.{ℕ, ◌+◌, ◌-◌, ◌^◌}
 use native.Mathlib.Omega.{arith}
 use native.Mathlib.Nat.{pos_of_ne-zero}
-use borrow.Author.Rules.{rules}
 use Rattle.word.specs.Orders.{negated}
 use Rattle.order.specs.Orders.{Negates}
 use Rattle.bounds.specs.declared.answer.Answer.{Answer}
@@ -14,30 +13,30 @@ use Rattle.bounds.specs.declared.refusal.Verdict.{Verdict}
 use Rattle.order.proofs.order.negate.Goals as goal
 
 -- what the verdict tells of the word
-told : (c : goal.After-test_word-verdict) {u : Verdict} → c.test_word-verdict.result ≡ u → word_test c.args.width.bits c.args.word ≡ u
-told c h = sym c.test_word-verdict.ensures ∙ h
+told : (n w : ℕ) {v u : Verdict} → v ≡ word_test n w → v ≡ u → word_test n w ≡ u
+told n w e h = sym e ∙ h
 
 -- what is known once the verdict has let the word through
-word_in : (c : goal.In_default) → IsWord c.args.width.bits c.args.word
-word_in c = word_through _ _ (told c.before.before c.in_default.is)
+word_in : (n w : ℕ) {v : Verdict} → v ≡ word_test n w → v ≡ Verdict.Through → IsWord n w
+word_in n w e h = word_through n w (told n w e h)
 
 less : (n w all : ℕ) → all ≡ 2 ^ n - 1 → (w ≡ 0 → ⊥) → IsWord n w → all - w + 1 ≡ negated n w
 less n w all e f i = omega (arith, e, i.fits, pos_of_ne-zero f) ∙ sym (negated_other n w (pos_of_ne-zero f) i.fits)
 
 pub returns-in-Refused : goal.returns-in-Refused
 unfolding Negates
-returns-in-Refused c = refused (told c.before.before.before c.in-Refused.is) refl
+returns-in-Refused c = refused (told _ _ c.test_word-verdict.ensures c.in-Refused.is) refl
 
 pub returns-then-word-eq0 : goal.returns-then-word-eq0
 unfolding Negates
-returns-then-word-eq0 c = through (told c.before.before.before c.in_default.is) (ap Answer.Word (sym (ap (negated _) c.if-word-eq0.true ∙ negated_zero _)))
+returns-then-word-eq0 c = through (told _ _ c.test_word-verdict.ensures c.in_default.is) (ap Answer.Word (sym (ap (negated _) c.if-word-eq0.true ∙ negated_zero _)))
 
 pub ones-requires : goal.ones-requires
-ones-requires c = ((word_in c.before).least, (word_in c.before).most)
+ones-requires c = let i = word_in _ _ c.test_word-verdict.ensures c.in_default.is in (i.least, i.most)
 
 pub overflow_sub-result : goal.overflow_sub-result
-overflow_sub-result c = omega (arith, c.ones.ensures, (word_in c.before.before).fits)
+overflow_sub-result c = omega (arith, c.ones.ensures, (word_in _ _ c.test_word-verdict.ensures c.in_default.is).fits)
 
 pub returns : goal.returns
 unfolding Negates
-returns c = through (told c.before.before.before.before c.in_default.is) (ap Answer.Word (less _ _ _ c.ones.ensures c.if-word-eq0.false (word_in c.before.before)))
+returns c = through (told _ _ c.test_word-verdict.ensures c.in_default.is) (ap Answer.Word (less _ _ _ c.ones.ensures c.if-word-eq0.false (word_in _ _ c.test_word-verdict.ensures c.in_default.is)))

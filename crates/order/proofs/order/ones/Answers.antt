@@ -1,6 +1,5 @@
 -- `ones` meets its contract: 64 ones, shifted right by 64 - n, are n ones. Assumes nothing.
 use native.Mathlib.Omega.{arith}
-use borrow.Author.Rules.{rules}
 use Rattle.bounds.proofs.Powers.{ones_shr}
 use Rattle.order.proofs.order.ones.Goals as goal
 

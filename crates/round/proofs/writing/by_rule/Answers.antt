@@ -1,6 +1,5 @@
 -- `by_rule` meets its contract, rule by rule. Assumes nothing.
-use mathlib.Core.Path.{◌≡◌, sym, ap, ◌∙◌}
-use borrow.Author.Rules.{rules}
+use mathlib.Core.Path.{sym, ap, ◌∙◌}
 use Rattle.round.specs.declared.value.Rule.{Rule}
 use Rattle.round.specs.Offers.{settled}
 use Rattle.round.proofs.writing.by_rule.Goals as goal

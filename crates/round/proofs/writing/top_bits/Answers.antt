@@ -1,11 +1,9 @@
 -- `top_bits` meets its contract: the bits of both numbers side by side. Assumes nothing.
 use mathlib.Core.Path.{◌≡◌, sym, ap, ap₂, ◌∙◌, subst}
-use Prim.Native.Nat.{ℕ, ◌+◌, ◌-◌, ◌*◌, ◌/◌, ◌%◌, ◌^◌, ◌≤◌, ◌<◌}
-use native.Mathlib.Nat.{mod-eq_of_lt, mul-le-mul_right}
+use Prim.Native.Nat.{ℕ, ◌+◌, ◌-◌, ◌*◌, ◌/◌, ◌%◌, ◌^◌, ◌<◌}
+use native.Mathlib.Nat.{mod-eq_of_lt}
 use native.Mathlib.Omega.{arith}
-use borrow.Author.Rules.{rules}
-use lib.Pow.{pow_pos, shr_lt, shr-shr}
-use Rattle.bounds.proofs.Powers.{pow_sum}
+use lib.Pow.{shr-shr}
 use Rattle.round.specs.Offers.{top_bits}
 use Rattle.round.proofs.Long.{high_room}
 use Rattle.round.proofs.writing.top_bits.Goals as goal
@@ -22,7 +20,7 @@ module _ (s : goal.Start) where
       together = omega (arith, s.requires.0)
 
   sum_fits : s.args.high * 2 ^ zeros + s.args.low / 2 ^ (64 - zeros) < 2 ^ 64
-  sum_fits = high_room s.args.high s.args.low zeros s.requires.0 s.requires.1 s.fits.low.fits
+  sum_fits = high_room s.args.high s.args.low zeros s.requires.0 s.requires.1 s.ranges.low.fits
 
   high_bits : s.args.high * 2 ^ zeros % 2 ^ 64 ≡ s.args.high * 2 ^ zeros
   high_bits = mod-eq_of_lt s.requires.1

@@ -1,9 +1,8 @@
 -- `write_full` meets its contract: the first 64 bits, and what lies below them. Assumes nothing.
-use mathlib.Core.Path.{◌≡◌, sym, ap, ◌∙◌, subst, subst₂}
+use mathlib.Core.Path.{◌≡◌, sym, subst}
 use Prim.Native.Nat.{ℕ, ◌+◌, ◌-◌, ◌*◌, ◌%◌, ◌^◌, ◌≤◌, ◌<◌}
 use native.Mathlib.Nat.{lt_of_le_of_lt, mul-pos, mod-lt}
 use native.Mathlib.Omega.{arith}
-use borrow.Author.Rules.{rules}
 use lib.Dec.{lit<}
 use lib.Count.{count_leading_zeros}
 use lib.IntN.{ℤ, pos, ◌+ℤ◌, ◌-ℤ◌}
@@ -26,7 +25,7 @@ module _ (s : goal.Start) where
   zeros = count_leading_zeros 64 s.args.high
 
   few : zeros ≤ 63
-  few = few_zeros s.args.high s.args.low s.requires s.fits.high.fits s.fits.low.fits
+  few = few_zeros s.args.high s.args.low s.requires s.ranges.high.fits s.ranges.low.fits
 
   small : 127 - zeros < 2 ^ 31
   small = omega arith
@@ -50,7 +49,7 @@ module _ (s : goal.Start) where
   offered : (m : ℕ) → m ≡ top_bits s.args.high s.args.low zeros → IsOffered (m * 2 ^ 64 + below) Rest.Nothing (h -ℤ pos 127) (X * num (s.args.k +ℤ pos 307)) (den (s.args.k +ℤ pos 307))
   offered m q =
       subst (λ (m : ℕ). IsOffered (m * 2 ^ 64 + below) Rest.Nothing (h -ℤ pos 127) (X * num (s.args.k +ℤ pos 307)) (den (s.args.k +ℤ pos 307))) (sym q)
-      (long_offer s.args.high s.args.low s.requires s.fits.high.fits s.fits.low.fits s.args.k)
+      (long_offer s.args.high s.args.low s.requires s.ranges.high.fits s.ranges.low.fits s.args.k)
 
 full : (c : goal.After-top_bits-m) → 2 ^ 63 ≤ c.top_bits-m.result
 full c = subst (λ (m : ℕ). 2 ^ 63 ≤ m) (sym c.top_bits-m.ensures) (top_full c.args.high c.args.low c.requires c.ranges.high.fits c.ranges.low.fits)

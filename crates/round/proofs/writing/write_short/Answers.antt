@@ -3,7 +3,6 @@ use mathlib.Core.Path.{◌≡◌, refl, sym, ap, ◌∙◌, subst}
 use Prim.Native.Nat.{ℕ, zero, ◌-◌, ◌*◌, ◌%◌, ◌^◌, ◌≤◌, ◌<◌}
 use native.Mathlib.Nat.{pos_of_ne-zero, zero-mul, lt_of_le_of_lt, mul-pos, mod-lt}
 use native.Mathlib.Omega.{arith}
-use borrow.Author.Rules.{rules}
 use lib.Dec.{lit<}
 use lib.Pow.{pow_pos}
 use lib.Count.{count_leading_zeros}
@@ -21,18 +20,12 @@ use Rattle.round.proofs.Held.{raised_fits, held_sum, wide}
 use Rattle.round.proofs.writing.write_short.Goals as goal
 
 -- what is known of a significand that isn't zero
-module _ (c : goal.Else-m-eq0) where
-  abbrev s : goal.Start
-  s = c.before
-
-  abbrev m : ℕ
-  m = s.args.m
-
+module _ (m : ℕ) (other : m ≡ 0 → ⊥) (fits : m < 2 ^ 64) where
   some : zero < m
-  some = pos_of_ne-zero c.if-m-eq0.false
+  some = pos_of_ne-zero other
 
   few : count_leading_zeros 64 m ≤ 63
-  few = zeros_le m some s.fits.m.fits
+  few = zeros_le m some fits
 
   small : 63 - count_leading_zeros 64 m < 2 ^ 31
   small = omega arith
@@ -42,24 +35,26 @@ unfolding WritesShortAndSays WritesShort
 returns-then-m-eq0 c = zero_answered _ _ _ _ _ _ (ap (λ (x : ℕ). x * num (c.args.k +ℤ pos 307)) c.if-m-eq0.true ∙ zero-mul (num (c.args.k +ℤ pos 307))) c.zero_word.ensures
 
 pub overflow_cast-h : goal.overflow_cast-h
-overflow_cast-h c = wide (s c).args.k (s c).ranges.k
+overflow_cast-h c = wide c.args.k c.ranges.k
 
 pub overflow_sub-h : goal.overflow_sub-h
-overflow_sub-h c = few c
+overflow_sub-h c = few c.args.m c.if-m-eq0.false c.ranges.m.fits
 
 pub overflow_add-h : goal.overflow_add-h
-overflow_add-h c = raised_fits (s c).args.k (s c).ranges.k (63 - count_leading_zeros 64 (m c)) (small c)
+overflow_add-h c = raised_fits c.args.k c.ranges.k (63 - count_leading_zeros 64 c.args.m) (small c.args.m c.if-m-eq0.false c.ranges.m.fits)
 
 pub overflow_cast-full : goal.overflow_cast-full
-overflow_cast-full c = record { fits = lt_of_le_of_lt (few c) (lit< tt) }
+overflow_cast-full c = record { fits = lt_of_le_of_lt (few c.args.m c.if-m-eq0.false c.ranges.m.fits) (lit< tt) }
 
 pub overflow_shl-full : goal.overflow_shl-full
-overflow_shl-full c = lt_of_le_of_lt (few c) (lit< tt)
+overflow_shl-full c = lt_of_le_of_lt (few c.args.m c.if-m-eq0.false c.ranges.m.fits) (lit< tt)
 
 pub returns : goal.returns
 unfolding WritesShortAndSays WritesShort IsRest
-returns c = let t = s c.before.before in
-    subst (WritesShortAndSays t.args.width.bits t.args.rule t.args.negative (m c.before.before) t.args.k) (sym c.by_rule.ensures)
-    (settles _ t.args.rule t.args.negative _ _ _ _ (shifted_full _ (some c.before.before) t.fits.m.fits) (mod-lt _ (pow_pos 64))
-    (subst (λ (z : ℤ). FindsAndSays t.args.width.bits t.args.negative z (m c.before.before * 2 ^ count_leading_zeros 64 (m c.before.before) % 2 ^ 64) 0 c.nearest-found.result) (held_sum t.args.k t.fits.k (63 - count_leading_zeros 64 (m c.before.before)) (small c.before.before)) c.nearest-found.ensures)
-    Rest.Nothing refl _ _ (mul-pos (some c.before.before) (unit_some _).0) (unit_some _).1 (shifted_offer _ (some c.before.before) t.fits.m.fits t.args.k))
+returns c = let m = c.args.m in
+    let fits = c.ranges.m.fits in
+    let positive = some m c.if-m-eq0.false fits in
+    subst (WritesShortAndSays c.args.width.bits c.args.rule c.args.negative m c.args.k) (sym c.by_rule.ensures)
+    (settles _ c.args.rule c.args.negative _ _ _ _ (shifted_full _ positive fits) (mod-lt _ (pow_pos 64))
+    (subst (λ (z : ℤ). FindsAndSays c.args.width.bits c.args.negative z (m * 2 ^ count_leading_zeros 64 m % 2 ^ 64) 0 c.nearest-found.result) (held_sum c.args.k c.ranges.k (63 - count_leading_zeros 64 m) (small m c.if-m-eq0.false fits)) c.nearest-found.ensures)
+    Rest.Nothing refl _ _ (mul-pos positive (unit_some _).0) (unit_some _).1 (shifted_offer _ positive fits c.args.k))

@@ -3,7 +3,7 @@ use mathlib.Core.Path.{◌≡◌, refl, sym, ap, ◌∙◌, subst}
 use Prim.Native.Nat.{ℕ, zero, ◌-◌, ◌*◌, ◌%◌, ◌^◌, ◌≤◌, ◌<◌}
 use native.Mathlib.Nat.{pos_of_ne-zero, zero-mul, lt_of_le_of_lt, mul-pos, mod-lt}
 use native.Mathlib.Omega.{arith}
-use borrow.Author.Rules.{rules, sfits_of}
+use borrow.Author.Rules.{rules}
 use lib.Dec.{lit<}
 use lib.Pow.{pow_pos}
 use lib.Count.{count_leading_zeros}
@@ -23,24 +23,9 @@ use Rattle.round.proofs.Held.{lowered_fits, held_difference, wide}
 use Rattle.round.proofs.writing.write_size.Goals as goal
 
 -- what is known of a size that isn't zero
-module _ (c : goal.After-struct_told-1) where
-  abbrev s : goal.Start
-  s = c.before.before.before
-
-  abbrev m : ℕ
-  m = s.args.size.m
-
-  abbrev h : ℤ
-  h = s.args.size.h
-
+module _ (m : ℕ) (h : ℤ) (other : m ≡ 0 → ⊥) (fits : m < 2 ^ 64) (h_fits : SFits w32 h) where
   some : zero < m
-  some = pos_of_ne-zero c.if-m-eq0.false
-
-  fits : m < 2 ^ 64
-  fits = c.struct_told-1.given.1.1.0.1
-
-  h_fits : SFits w32 h
-  h_fits = sfits_of c.struct_told-1.given.1.0.1
+  some = pos_of_ne-zero other
 
   few : count_leading_zeros 64 m ≤ 63
   few = zeros_le m some fits
@@ -61,25 +46,38 @@ returns-then-m-eq0 c = let e = c.args.size.h -ℤ pos 63 +ℤ pos 307 in
     zero_answered _ _ _ _ _ _ (ap (λ (x : ℕ). x * num e) c.if-m-eq0.true ∙ zero-mul (num e)) c.zero_word.ensures
 
 pub overflow_cast-h : goal.overflow_cast-h
-overflow_cast-h c = wide (h c) (h_fits c)
+overflow_cast-h c = let h_fits : SFits w32 c.args.size.h = search rules in wide c.args.size.h h_fits
 
 pub overflow_cast-h-2 : goal.overflow_cast-h-2
-overflow_cast-h-2 c = record { sfits = omega (arith, small c) }
+overflow_cast-h-2 c = let fits : c.args.size.m < 2 ^ 64 = search rules in
+    let h_fits : SFits w32 c.args.size.h = search rules in
+    record { sfits = omega (arith, small c.args.size.m c.args.size.h c.if-m-eq0.false fits h_fits) }
 
 pub overflow_sub-h : goal.overflow_sub-h
-overflow_sub-h c = lowered_fits (h c) (h_fits c) (count_leading_zeros 64 (m c)) (small c)
+overflow_sub-h c = let fits : c.args.size.m < 2 ^ 64 = search rules in
+    let h_fits : SFits w32 c.args.size.h = search rules in
+    lowered_fits c.args.size.h h_fits (count_leading_zeros 64 c.args.size.m) (small c.args.size.m c.args.size.h c.if-m-eq0.false fits h_fits)
 
 pub overflow_cast-full : goal.overflow_cast-full
-overflow_cast-full c = record { fits = lt_of_le_of_lt (few c) (lit< tt) }
+overflow_cast-full c = let fits : c.args.size.m < 2 ^ 64 = search rules in
+    let h_fits : SFits w32 c.args.size.h = search rules in
+    record { fits = lt_of_le_of_lt (few c.args.size.m c.args.size.h c.if-m-eq0.false fits h_fits) (lit< tt) }
 
 pub overflow_shl-full : goal.overflow_shl-full
-overflow_shl-full c = lt_of_le_of_lt (few c) (lit< tt)
+overflow_shl-full c = let fits : c.args.size.m < 2 ^ 64 = search rules in
+    let h_fits : SFits w32 c.args.size.h = search rules in
+    lt_of_le_of_lt (few c.args.size.m c.args.size.h c.if-m-eq0.false fits h_fits) (lit< tt)
 
 pub returns : goal.returns
 unfolding WritesSizeAndSays WritesShortAndSays WritesShort IsRest
-returns c = let t = s c.before.before in
-    let size = t.args.size in
-    subst (WritesSizeAndSays t.args.width.bits t.args.rule size) (sym c.by_rule.ensures)
-    (settles _ t.args.rule size.negative _ _ _ _ (full c.before.before) (mod-lt _ (pow_pos 64))
-    (subst (λ (z : ℤ). FindsAndSays t.args.width.bits size.negative z (m c.before.before * 2 ^ count_leading_zeros 64 (m c.before.before) % 2 ^ 64) 0 c.nearest-found.result) (held c.before.before) c.nearest-found.ensures)
-    Rest.Nothing refl _ _ (mul-pos (some c.before.before) (unit_some _).0) (unit_some _).1 (shifted_offer _ (some c.before.before) (fits c.before.before) (h c.before.before -ℤ pos 63)))
+returns c = let m = c.args.size.m in
+    let h = c.args.size.h in
+    let n = c.args.width.bits in
+    let negative = c.args.size.negative in
+    let fits : c.args.size.m < 2 ^ 64 = search rules in
+    let h_fits : SFits w32 c.args.size.h = search rules in
+    let positive = some m h c.if-m-eq0.false fits h_fits in
+    subst (WritesSizeAndSays n c.args.rule c.args.size) (sym c.by_rule.ensures)
+    (settles _ c.args.rule negative _ _ _ _ (full m h c.if-m-eq0.false fits h_fits) (mod-lt _ (pow_pos 64))
+    (subst (λ (z : ℤ). FindsAndSays n negative z (m * 2 ^ count_leading_zeros 64 m % 2 ^ 64) 0 c.nearest-found.result) (held m h c.if-m-eq0.false fits h_fits) c.nearest-found.ensures)
+    Rest.Nothing refl _ _ (mul-pos positive (unit_some _).0) (unit_some _).1 (shifted_offer _ positive fits (h -ℤ pos 63)))

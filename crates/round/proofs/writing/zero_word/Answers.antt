@@ -1,6 +1,5 @@
 -- `zero_word` meets its contract: the width, and zero. Assumes nothing.
-use mathlib.Core.Path.{◌≡◌, refl, sym, ◌∙◌}
-use borrow.Author.Rules.{rules}
+use mathlib.Core.Path.{refl, sym, ◌∙◌}
 use Rattle.bounds.specs.Refusals.{through, refused}
 use Rattle.round.specs.Offers.{WritesZero}
 use Rattle.round.proofs.writing.zero_word.Goals as goal

@@ -1,8 +1,7 @@
 -- `sums_of` meets its contract. The invariant of its loop: a and b are the sums of the first i numbers, in that what is still to come makes them A and B.
 -- The measure is how many numbers are left. Assumes nothing.
-use Rattle.std.proofs.Common.{◌-◌, ◌≤◌, zero-le, arith, rules}
-use Rattle.sheet.specs.Layout.{numbers}
-use Rattle.sheet.proofs.Checks.{Summed, summed_none, block_more, block_all}
+use Rattle.std.proofs.Common.{zero-le, arith}
+use Rattle.sheet.proofs.Checks.{summed_none, block_more, block_all}
 use Rattle.sheet.proofs.sums.sums_of.Goals as goal
 
 pub loop-i-init : goal.loop-i-init
@@ -16,7 +15,7 @@ loop-i-smaller c = omega arith
 
 pub loop-i-preserved : goal.loop-i-preserved
 loop-i-preserved c =
-    (omega arith, block_more _ _ _ _ _ (omega arith) c.four_bytes.ensures c.loop-i.invariant.1 _ _ c.wrapping_add_u32-a.ensures c.wrapping_add_u32-b.ensures)
+    (omega arith, block_more _ _ _ _ _ (omega arith) c.four_bytes.ensures c.loop-i.invariant.1 _ _ c.wrapping_add_u32-a.ensures.value c.wrapping_add_u32-b.ensures.value)
 
 pub returns : goal.returns
 returns c = block_all _ _ _ _ c.loop-i-test.false c.loop-i.invariant.1

@@ -1,25 +1,20 @@
 -- `unpack` meets its contract. The invariant of its loop: the results are the first i words and then what stood there, and their length is as it was.
 -- The measure is how many words are left. Assumes nothing.
-use Rattle.std.proofs.Common.{◌≡◌, ◌+◌, ◌-◌, ◌*◌, ◌≤◌, ◌++◌, length, take, drop, refl, ◌∙◌, arith, length-set, rules}
-use Rattle.sheet.specs.Layout.{packed}
+use Rattle.std.proofs.Common.{refl, ◌∙◌, arith, length-set}
 use Rattle.sheet.proofs.Packing.{word_inside, unpacked_more, unpacked_all}
 use Rattle.sheet.proofs.words.unpack.Goals as goal
-
--- in a turn the word is within the block
-inside : (c : goal.In-loop-i invariant-loop decreases-loop) → c.before.before.before.before.args.size * c.before.loop.i + c.before.before.before.before.args.size ≤ c.before.before.before.before.args.size * c.before.before.before.before.args.count
-inside c = word_inside _ _ _ c.loop-test.true
 
 pub loop-i-init : goal.loop-i-init
 loop-i-init c = (omega arith, (refl, refl))
 
 pub overflow_mul-size : goal.overflow_mul-size
-overflow_mul-size c = record { fits = omega (arith, inside c) }
+overflow_mul-size c = record { fits = omega (arith, word_inside c.args.size c.args.count c.loop-i.i c.loop-i-test.true) }
 
 pub overflow_add-size : goal.overflow_add-size
-overflow_add-size c = record { fits = omega (arith, inside c) }
+overflow_add-size c = record { fits = omega (arith, word_inside c.args.size c.args.count c.loop-i.i c.loop-i-test.true) }
 
 pub word_at-requires : goal.word_at-requires
-word_at-requires c = (c.requires.0, omega (arith, inside c))
+word_at-requires c = (c.requires.0, omega (arith, word_inside c.args.size c.args.count c.loop-i.i c.loop-i-test.true))
 
 pub bounds-results-i : goal.bounds-results-i
 bounds-results-i c = omega arith

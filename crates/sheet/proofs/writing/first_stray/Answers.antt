@@ -1,13 +1,13 @@
 -- `first_stray` meets its contract. The invariant of its loop: no word before the position is above all ones of n bits. The measure is how many words
 -- are left. Assumes nothing.
-use Rattle.std.proofs.Common.{◌≡◌, ◌-◌, ◌/◌, ◌^◌, ◌≤◌, length, arith, rules}
+use Rattle.std.proofs.Common.{◌≡◌, ℕ, ◌-◌, ◌/◌, ◌^◌, ◌≤◌, arith, rules}
 use Rattle.bounds.proofs.Powers.{ones_shr}
-use Rattle.sheet.proofs.Contents.{NoneAbove, none_above, one_more, found, not_found}
+use Rattle.sheet.proofs.Contents.{none_above, one_more, found, not_found}
 use Rattle.sheet.proofs.writing.first_stray.Goals as goal
 
 -- all ones of n bits
-ones : (c : goal.Start invariant-loop decreases-loop) → (2 ^ 64 - 1) / 2 ^ (64 - c.args.n) ≡ 2 ^ c.args.n - 1
-ones c = ones_shr c.args.n (64 - c.args.n) 64 (omega (arith, c.requires.1))
+ones : (n : ℕ) → n ≤ 64 → (2 ^ 64 - 1) / 2 ^ (64 - n) ≡ 2 ^ n - 1
+ones n h = ones_shr n (64 - n) 64 (omega (arith, h))
 
 pub overflow_sub-most : goal.overflow_sub-most
 overflow_sub-most c = c.requires.1
@@ -23,10 +23,10 @@ loop-position-init c = (search rules, none_above _ _)
 
 pub returns-then-words-position : goal.returns-then-words-position
 returns-then-words-position c =
-    found _ _ _ (ones c.before.before.before.before) _ c.loop-position.invariant.1 c.loop-position-test.true c.if-words-position.true
+    found _ _ _ (ones _ c.requires.1) _ c.loop-position.invariant.1 c.loop-position-test.true c.if-words-position.true
 
 pub loop-position-preserved : goal.loop-position-preserved
 loop-position-preserved c = (search rules, one_more _ _ _ c.loop-position.invariant.1 c.if-words-position.false)
 
 pub returns : goal.returns
-returns c = not_found _ _ _ (ones c.before.before) _ c.loop-position.invariant.0 c.loop-position-test.false c.loop-position.invariant.1
+returns c = not_found _ _ _ (ones _ c.requires.1) _ c.loop-position.invariant.0 c.loop-position-test.false c.loop-position.invariant.1

@@ -3,8 +3,10 @@ use mathlib.Core.Path.{◌≡◌, refl, sym, ap, ◌∙◌, subst}
 use Prim.Native.Nat.{ℕ, ◌+◌, ◌-◌, ◌*◌, ◌/◌, ◌^◌, ◌≤◌}
 use native.Mathlib.Nat.{mul_assoc, mul-div_cancel, zero-lt-suc}
 use native.Mathlib.Omega.{arith}
-use borrow.Author.Rules.{rules, sfits_of}
+use borrow.Author.Rules.{rules}
 use mir.Facts.{to_z-of_z}
+use mir.Syntax.{w32}
+use mir.Val.{SFits}
 use Rattle.word.specs.Cuts.{Cuts}
 use Rattle.sizes.specs.Sizes.{without_sign}
 use Rattle.word.specs.Takum as Takum
@@ -25,8 +27,9 @@ pub returns : goal.returns
 returns c =
     let t = without_sign (2 ^ 63) c.args.t in
     let x : Cuts t c.cut-fields.result = subst (λ (y : ℕ). Cuts y c.cut-fields.result) c.without_sign.ensures c.cut-fields.ensures in
+    let fits : SFits w32 c.cut-fields.result.c = search rules in
     record {
       sign = refl;
-      characteristic = to_z-of_z (sfits_of c.struct_told-1.given.0.1) ∙ x.characteristic;
+      characteristic = to_z-of_z fits ∙ x.characteristic;
       significand = ap (λ (f : ℕ). 2 ^ 63 + f / 2) x.fraction ∙ ap (λ (y : ℕ). 2 ^ 63 + y) (halved (Takum.F 64 t) (Takum.p 64 t) (few t));
     }

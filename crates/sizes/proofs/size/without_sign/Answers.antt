@@ -1,7 +1,6 @@
 -- `without_sign` meets its contract. Assumes nothing.
 use mathlib.Core.Path.{refl}
 use native.Mathlib.Omega.{arith}
-use borrow.Author.Rules.{rules}
 use borrow.Author.Tests.{lt-ltb, le-ltb}
 use Rattle.sizes.specs.Sizes.{without_sign}
 use Rattle.sizes.proofs.size.without_sign.Goals as goal

@@ -1,8 +1,7 @@
 -- `shortest_width` meets its contract: zero has a word at width 2, and the words of every other number begin at its length. Assumes nothing.
-use mathlib.Core.Path.{sym, ap, ◌∙◌, subst}
+use mathlib.Core.Path.{◌≡◌, sym, ap, ◌∙◌, subst}
 use Prim.Native.Nat.{ℕ, zero, ◌^◌, ◌<◌}
 use native.Mathlib.Omega.{arith}
-use borrow.Author.Rules.{rules}
 use lib.IntN.{ℤ, pos, negsuc, nat_abs}
 use mir.Facts.{to_z-of_z}
 use mir.Syntax.{w64}
@@ -20,17 +19,17 @@ fits (pos i) h = omega (arith, h.sfits)
 fits (negsuc i) h = omega (arith, h.sfits)
 
 -- its words begin at the length that was counted
-counted : (c : goal.After-length-bits) → BeginsAt (nat_abs c.args.x) c.length-bits.result
-counted c = begins c.args.x c.length-bits.result (fits c.args.x c.ranges.x) (subst (λ (m : ℕ). IsLength m c.length-bits.result) (c.size.ensures ∙ ap nat_abs (to_z-of_z c.ranges.x)) c.length-bits.ensures)
+counted : (x : ℤ) (m l : ℕ) → SFits w64 x → m ≡ nat_abs (to_z w64 (of_z w64 x)) → IsLength m l → BeginsAt (nat_abs x) l
+counted x m l small q is = begins x l (fits x small) (subst (λ (m : ℕ). IsLength m l) (q ∙ ap nat_abs (to_z-of_z {w = w64} small)) is)
 
 pub returns-then-x-eq0 : goal.returns-then-x-eq0
-returns-then-x-eq0 c = subst (λ (x : ℤ). GivesShortest x (Made.Width (record { bits = 2 }))) (sym (sym (to_z-of_z c.ranges.x) ∙ ap (to_z w64) c.if-x-eq0.true)) given_for_zero
+returns-then-x-eq0 c = subst (λ (x : ℤ). GivesShortest x (Made.Width (record { bits = 2 }))) (sym (sym (to_z-of_z {w = w64} c.ranges.x) ∙ ap (to_z w64) c.if-x-eq0.true)) given_for_zero
 
 pub length-bits-requires : goal.length-bits-requires
-length-bits-requires c = subst (λ (m : ℕ). zero < m) (sym (c.size.ensures ∙ ap nat_abs (to_z-of_z c.ranges.x))) (has_size c.args.x (λ e. c.if-x-eq0.false (ap (of_z w64) e)))
+length-bits-requires c = subst (λ (m : ℕ). zero < m) (sym (c.size.ensures ∙ ap nat_abs (to_z-of_z {w = w64} c.ranges.x))) (has_size c.args.x (λ e. c.if-x-eq0.false (ap (of_z w64) e)))
 
 pub returns-then-bits-gt-GREATEST : goal.returns-then-bits-gt-GREATEST
-returns-then-bits-gt-GREATEST c = refused_past _ _ (counted c.before) c.if-bits-gt-GREATEST.true
+returns-then-bits-gt-GREATEST c = refused_past _ _ (counted c.args.x _ _ c.ranges.x c.size.ensures c.length-bits.ensures) (omega arith)
 
 pub returns : goal.returns
-returns c = given_at _ _ (counted c.before) c.if-bits-gt-GREATEST.false
+returns c = given_at _ _ (counted c.args.x _ _ c.ranges.x c.size.ensures c.length-bits.ensures) (omega arith)

@@ -1,9 +1,8 @@
 -- `take_number` meets its contract: what is below a half, and any other size with its exponent raised by one. Assumes nothing.
 use mathlib.Core.Path.{◌≡◌, refl, sym, ap, ◌∙◌, subst, subst₂}
 use mathlib.Core.Bool.{Bool, true, false}
-use Prim.Native.Nat.{ℕ, zero, suc, ◌+◌, ◌≤◌}
+use Prim.Native.Nat.{ℕ, zero, suc, ◌+◌, ◌^◌, ◌≤◌, ◌<◌}
 use native.Mathlib.Omega.{arith}
-use borrow.Author.Rules.{rules, sfits_of}
 use borrow.Author.Tests.{ltb-true, ltb-false}
 use lib.Dec.{T}
 use lib.IntN.{ℤ, pos, negsuc, nat_abs, ◌+ℤ◌, ◌-ℤ◌}
@@ -11,7 +10,6 @@ use lib.Signed.{lt_z, non_neg, mag}
 use mir.Facts.{to_z-of_z}
 use mir.Syntax.{w32}
 use mir.Val.{Fits, SFits, to_z, of_z}
-use Rattle.sizes.specs.declared.size.Size.{Size}
 use Rattle.word.proofs.Signed.{difference}
 use Rattle.whole.specs.declared.taking.Whole.{Whole}
 use Rattle.whole.specs.Parts.{TakesSize, WholeWhereLarge}
@@ -36,45 +34,53 @@ raised (negsuc zero) q = record { k = 0; up = refl; back = refl; few = omega ari
 raised (negsuc (suc i)) q = absurd (omega (arith, ltb-false 0 (suc i) q))
 
 -- the exponent as the machine holds it
-module _ (k : goal.After-struct_told-1) where
-  abbrev size : Size
-  size = k.args.size
+module _ (h : ℤ) (small : mag h ≤ 254) where
+  fits : SFits w32 h
+  fits = record { sfits = omega (arith, small) }
 
-  fits : SFits w32 size.h
-  fits = sfits_of k.struct_told-1.given.1.0.1
+  tested : {b : Bool} → lt_z (to_z w32 (of_z w32 h)) (negsuc 0) ≡ b → lt_z h (negsuc 0) ≡ b
+  tested q = ap (λ (z : ℤ). lt_z z (negsuc 0)) (sym (to_z-of_z {w = w32} fits)) ∙ q
 
-  tested : {b : Bool} → lt_z (to_z w32 (of_z w32 size.h)) (negsuc 0) ≡ b → lt_z size.h (negsuc 0) ≡ b
-  tested q = ap (λ (z : ℤ). lt_z z (negsuc 0)) (sym (to_z-of_z fits)) ∙ q
+  module _ (left : lt_z (to_z w32 (of_z w32 h)) (negsuc 0) ≡ false) where
+    up : Raised h
+    up = raised h (tested left)
 
-  module _ (left : lt_z (to_z w32 (of_z w32 size.h)) (negsuc 0) ≡ false) where
-    up : Raised size.h
-    up = raised size.h (tested left)
-
-    sum : to_z w32 (of_z w32 size.h) +ℤ pos 1 ≡ pos up.k
-    sum = ap (λ (z : ℤ). z +ℤ pos 1) (to_z-of_z fits) ∙ up.up
+    sum : to_z w32 (of_z w32 h) +ℤ pos 1 ≡ pos up.k
+    sum = ap (λ (z : ℤ). z +ℤ pos 1) (to_z-of_z {w = w32} fits) ∙ up.up
 
     sum_fits : SFits w32 (pos up.k)
-    sum_fits = record { sfits = omega (arith, up.few, k.requires.1) }
+    sum_fits = record { sfits = omega (arith, up.few, small) }
 
-    held : to_z w32 (of_z w32 (to_z w32 (of_z w32 size.h) +ℤ pos 1)) ≡ pos up.k
-    held = ap (λ (z : ℤ). to_z w32 (of_z w32 z)) sum ∙ to_z-of_z sum_fits
+    held : to_z w32 (of_z w32 (to_z w32 (of_z w32 h) +ℤ pos 1)) ≡ pos up.k
+    held = ap (λ (z : ℤ). to_z w32 (of_z w32 z)) sum ∙ to_z-of_z {w = w32} sum_fits
 
-    lowered : pos (nat_abs (to_z w32 (of_z w32 (to_z w32 (of_z w32 size.h) +ℤ pos 1)))) -ℤ pos 1 ≡ size.h
+    lowered : pos (nat_abs (to_z w32 (of_z w32 (to_z w32 (of_z w32 h) +ℤ pos 1)))) -ℤ pos 1 ≡ h
     lowered = ap (λ (z : ℤ). pos (nat_abs z) -ℤ pos 1) held ∙ sym up.back
 
 pub returns-then-size-ltminus1 : goal.returns-then-size-ltminus1
-returns-then-size-ltminus1 c = let x = under (size c.before.before).h (tested c.before.before c.if-size-ltminus1.true) in
-    subst₂ (λ (z : ℤ) (a : Whole). TakesSize c.args.rule (size c.before.before).negative z (size c.before.before).m a) (sym x.1) (sym c.below_half.ensures)
-    (takes_under_half c.args.rule (size c.before.before).negative (size c.before.before).m c.requires.0 c.struct_told-1.given.1.1.0.1 x.0)
+returns-then-size-ltminus1 c =
+    let below : lt_z (to_z w32 (of_z w32 c.args.size.h)) (negsuc 0) ≡ true = cc in
+    let x = under c.args.size.h (tested c.args.size.h c.requires.1 below) in
+    let few : c.args.size.m < 2 ^ 64 = omega arith in
+    subst₂ (λ (z : ℤ) (a : Whole). TakesSize c.args.rule c.args.size.negative z c.args.size.m a) (sym x.1) (sym c.below_half.ensures)
+    (takes_under_half c.args.rule c.args.size.negative c.args.size.m c.requires.0 few x.0)
 
 pub overflow_add-size : goal.overflow_add-size
-overflow_add-size c = subst (λ (z : ℤ). SFits w32 z) (sym (sum c.before.before.before c.if-size-ltminus1.false)) (sum_fits c.before.before.before c.if-size-ltminus1.false)
+overflow_add-size c =
+    let left : lt_z (to_z w32 (of_z w32 c.args.size.h)) (negsuc 0) ≡ false = cc in
+    subst (λ (z : ℤ). SFits w32 z) (sym (sum c.args.size.h c.requires.1 left)) (sum_fits c.args.size.h c.requires.1 left)
 
 pub overflow_cast-size : goal.overflow_cast-size
-overflow_cast-size c = subst (λ (z : ℤ). T (non_neg z) × Fits w32 (nat_abs z)) (sym (held c.before.before.before c.if-size-ltminus1.false)) (tt, record { fits = omega (arith, (sum_fits c.before.before.before c.if-size-ltminus1.false).sfits) })
+overflow_cast-size c =
+    let left : lt_z (to_z w32 (of_z w32 c.args.size.h)) (negsuc 0) ≡ false = cc in
+    subst (λ (z : ℤ). T (non_neg z) × Fits w32 (nat_abs z)) (sym (held c.args.size.h c.requires.1 left)) (tt, record { fits = omega (arith, (sum_fits c.args.size.h c.requires.1 left).sfits) })
 
 pub take_size-requires : goal.take_size-requires
-take_size-requires c = (c.requires.0, subst (λ (z : ℤ). WholeWhereLarge z (size c.before.before.before).m) (sym (lowered c.before.before.before c.if-size-ltminus1.false)) c.requires.2)
+take_size-requires c =
+    let left : lt_z (to_z w32 (of_z w32 c.args.size.h)) (negsuc 0) ≡ false = cc in
+    (c.requires.0, subst (λ (z : ℤ). WholeWhereLarge z c.args.size.m) (sym (lowered c.args.size.h c.requires.1 left)) c.requires.2)
 
 pub returns : goal.returns
-returns c = subst (λ (z : ℤ). TakesSize c.args.rule (size c.before.before.before.before).negative z (size c.before.before.before.before).m c.take_size.result) (lowered c.before.before.before.before c.if-size-ltminus1.false) c.take_size.ensures
+returns c =
+    let left : lt_z (to_z w32 (of_z w32 c.args.size.h)) (negsuc 0) ≡ false = cc in
+    subst (λ (z : ℤ). TakesSize c.args.rule c.args.size.negative z c.args.size.m c.take_size.result) (lowered c.args.size.h c.requires.1 left) c.take_size.ensures

@@ -4,17 +4,17 @@ use mathlib.Core.Bool.{Bool, true}
 use Prim.Native.Nat.{ℕ, ◌+◌, ◌-◌, ◌*◌, ◌/◌, ◌%◌, ◌^◌, ◌≤◌, ◌<◌}
 use native.Mathlib.Nat.{lt_of_le_of_lt, add-zero}
 use native.Mathlib.Omega.{arith}
-use borrow.Author.Rules.{rules, sfits_of}
+use borrow.Author.Rules.{sfits_of}
 use borrow.Author.Tests.{eq-eqb, ne_eqb}
 use lib.Dec.{eqb}
 use lib.IntN.{pos, ◌-ℤ◌}
-use lib.Pow.{pow_pos, shr_lt, shr_le, shl-shr, shr_shr, split}
+use lib.Pow.{pow_pos, shr_lt, shr_le, shl-shr, shr-shr, split}
 use mir.Facts.{to_z-of_z}
 use mir.Syntax.{w64}
 use Rattle.word.specs.Reads.{signed_size}
 use Rattle.whole.specs.declared.taking.Taking.{Taking}
 use Rattle.whole.specs.declared.taking.Whole.{Whole}
-use Rattle.whole.specs.Parts.{NearestSize, by_rule, TakesSize, TakesByEitherRule}
+use Rattle.whole.specs.Parts.{NearestSize, by_rule, TakesSize, TakesByEitherRule, WholeWhereLarge}
 use Rattle.whole.proofs.NearestWholes.{a_nearest, itself}
 use Rattle.whole.proofs.Takings.{takes_rounded, stays_below}
 use Rattle.whole.proofs.taking.take_size.Goals as goal
@@ -25,7 +25,7 @@ module _ (m k : ℕ) (most : k ≤ 63) where
   above =
       let short : 1 + (63 - k) ≡ 64 - k = omega (arith, most) in
       let long : k + (64 - k) ≡ 64 = omega (arith, most) in
-      shr_shr m 1 (63 - k) ∙ ap (λ (j : ℕ). m / 2 ^ j) short ∙ ap (λ (x : ℕ). x / 2 ^ (64 - k)) (sym (shl-shr m k)) ∙ shr_shr (m * 2 ^ k) k (64 - k)
+      shr-shr m 1 (63 - k) ∙ ap (λ (j : ℕ). m / 2 ^ j) short ∙ ap (λ (x : ℕ). x / 2 ^ (64 - k)) (sym (shl-shr m k)) ∙ shr-shr (m * 2 ^ k) k (64 - k)
       ∙ ap (λ (j : ℕ). m * 2 ^ k / 2 ^ j) long
 
   together : m / 2 ^ 1 / 2 ^ (63 - k) * 2 ^ 64 + m * 2 ^ k % 2 ^ 64 ≡ m * 2 ^ k
@@ -35,30 +35,27 @@ few : (m j : ℕ) → m < 2 ^ 64 → m / 2 ^ 1 / 2 ^ j < 2 ^ 63
 few m j h = lt_of_le_of_lt (shr_le (m / 2 ^ 1) j) (shr_lt 63 1 h)
 
 -- what is answered from a half up to 2^63, by the rule that was told
-module _ (e : goal.Else-k-gt63) where
-  abbrev s : goal.Start
-  s = e.before
-
+module _ (rule : Taking) (negative : Bool) (k m : ℕ) (high : 2 ^ 63 ≤ m) (fits : m < 2 ^ 64) (large : WholeWhereLarge (pos k -ℤ pos 1) m) (most : k ≤ 63) where
   abbrev size : ℕ
-  size = s.args.m * 2 ^ s.args.k
+  size = m * 2 ^ k
 
   abbrev whole : ℕ
-  whole = s.args.m / 2 ^ 1 / 2 ^ (63 - s.args.k)
+  whole = m / 2 ^ 1 / 2 ^ (63 - k)
 
   below : (i : ℕ) → NearestSize (2 ^ 64) size i → i < 2 ^ 63
-  below i x = stays_below s.args.rule s.args.negative s.args.m s.requires.0 s.args.k e.if-k-gt63.left s.fits.m.fits s.requires.1 i x
+  below i x = stays_below rule negative m high k most fits large i x
 
-  takes : (rule : Taking) (i : ℕ) → s.args.rule ≡ rule → NearestSize (2 ^ 64) size i → TakesSize s.args.rule s.args.negative (pos s.args.k -ℤ pos 1) s.args.m (by_rule rule (eqb (size % 2 ^ 64) 0) (signed_size s.args.negative i))
-  takes rule i told x =
-      subst (λ (r : Taking). TakesSize s.args.rule s.args.negative (pos s.args.k -ℤ pos 1) s.args.m (by_rule r (eqb (s.args.m * 2 ^ s.args.k % 2 ^ 64) 0) (signed_size s.args.negative i))) told
-      (takes_rounded s.args.rule s.args.negative s.args.m s.requires.0 s.args.k e.if-k-gt63.left i (below i x) x)
+  takes : (told : Taking) (i : ℕ) → rule ≡ told → NearestSize (2 ^ 64) size i → TakesSize rule negative (pos k -ℤ pos 1) m (by_rule told (eqb (size % 2 ^ 64) 0) (signed_size negative i))
+  takes told i is x =
+      subst (λ (r : Taking). TakesSize rule negative (pos k -ℤ pos 1) m (by_rule r (eqb (m * 2 ^ k % 2 ^ 64) 0) (signed_size negative i))) is
+      (takes_rounded rule negative m high k most i (below i x) x)
 
   -- as the bits above the fraction and the fraction have it
   rounded : (i : ℕ) → NearestSize (2 ^ 64) (whole * 2 ^ 64 + size % 2 ^ 64) i → NearestSize (2 ^ 64) size i
-  rounded i x = subst (λ (a : ℕ). NearestSize (2 ^ 64) a i) (together s.args.m s.args.k e.if-k-gt63.left) x
+  rounded i x = subst (λ (a : ℕ). NearestSize (2 ^ 64) a i) (together m k most) x
 
   all_whole : size % 2 ^ 64 ≡ 0 → NearestSize (2 ^ 64) size whole
-  all_whole none = rounded _ (subst (λ (f : ℕ). NearestSize (2 ^ 64) (whole * 2 ^ 64 + f) whole) (sym none) (subst (λ (a : ℕ). NearestSize (2 ^ 64) a whole) (sym (add-zero (whole * 2 ^ 64))) (itself (2 ^ 64) (pow_pos 64) whole)))
+  all_whole none = rounded whole (subst (λ (f : ℕ). NearestSize (2 ^ 64) (whole * 2 ^ 64 + f) whole) (sym none) (subst (λ (a : ℕ). NearestSize (2 ^ 64) a whole) (sym (add-zero (whole * 2 ^ 64))) (itself (2 ^ 64) (pow_pos 64) whole)))
 
 pub returns-then-k-gt63 : goal.returns-then-k-gt63
 unfolding TakesByEitherRule
@@ -68,24 +65,35 @@ pub nearest-requires : goal.nearest-requires
 nearest-requires c = few _ _ c.ranges.m.fits
 
 pub with_sign-requires : goal.with_sign-requires
-with_sign-requires c = below c.before.before.before c.nearest.result (rounded c.before.before.before _ c.nearest.ensures)
+with_sign-requires c =
+    let i = c.nearest.result in
+    below c.args.rule c.args.negative c.args.k c.args.m c.requires.0 c.ranges.m.fits c.requires.1 c.if-k-gt63.false i (rounded c.args.rule c.args.negative c.args.k c.args.m c.requires.0 c.ranges.m.fits c.requires.1 c.if-k-gt63.false i c.nearest.ensures)
 
 pub with_sign-requires-then-fraction-eq0 : goal.with_sign-requires-then-fraction-eq0
 with_sign-requires-then-fraction-eq0 c = few _ _ c.ranges.m.fits
 
 pub returns-then-fraction-eq0 : goal.returns-then-fraction-eq0
 unfolding by_rule
-returns-then-fraction-eq0 c = let exact : eqb (size c.before.before.before.before % 2 ^ 64) 0 ≡ true = eq-eqb _ _ c.if-fraction-eq0.true in
+returns-then-fraction-eq0 c =
+    let k = c.args.k in
+    let m = c.args.m in
+    let i = m / 2 ^ 1 / 2 ^ (63 - k) in
+    let x = c.with_sign-then-fraction-eq0 in
+    let none : m * 2 ^ k % 2 ^ 64 ≡ 0 = omega arith in
+    let exact : eqb (m * 2 ^ k % 2 ^ 64) 0 ≡ true = eq-eqb _ _ none in
     subst (TakesSize _ _ _ _)
-    (ap (λ (b : Bool). by_rule Taking.Strict b (signed_size (s c.before.before.before.before).args.negative (whole c.before.before.before.before))) exact ∙ ap Whole.Is (sym (to_z-of_z {w = w64} {z = c.with_sign-then-fraction-eq0.result} (sfits_of c.with_sign-then-fraction-eq0.type_inv) ∙ c.with_sign-then-fraction-eq0.ensures)))
-    (takes c.before.before.before.before Taking.Strict (whole c.before.before.before.before) c.in-Strict.is (all_whole c.before.before.before.before c.if-fraction-eq0.true))
+    (ap (λ (b : Bool). by_rule Taking.Strict b (signed_size c.args.negative i)) exact ∙ ap Whole.Is (sym (to_z-of_z {w = w64} {z = x.result} (sfits_of x.type_inv) ∙ x.ensures)))
+    (takes c.args.rule c.args.negative k m c.requires.0 c.ranges.m.fits c.requires.1 c.if-k-gt63.false Taking.Strict i c.in-Strict.is (all_whole c.args.rule c.args.negative k m c.requires.0 c.ranges.m.fits c.requires.1 c.if-k-gt63.false none))
 
 pub returns-in-Nearest : goal.returns-in-Nearest
 unfolding by_rule
-returns-in-Nearest c = subst (TakesSize _ _ _ _) (ap Whole.Is (sym (to_z-of_z {w = w64} {z = c.with_sign.result} (sfits_of c.with_sign.type_inv) ∙ c.with_sign.ensures)))
-    (takes c.before.before.before.before Taking.Nearest c.nearest.result c.in-Nearest.is (rounded c.before.before.before.before _ c.nearest.ensures))
+returns-in-Nearest c =
+    let i = c.nearest.result in
+    subst (TakesSize _ _ _ _) (ap Whole.Is (sym (to_z-of_z {w = w64} {z = c.with_sign.result} (sfits_of c.with_sign.type_inv) ∙ c.with_sign.ensures)))
+    (takes c.args.rule c.args.negative c.args.k c.args.m c.requires.0 c.ranges.m.fits c.requires.1 c.if-k-gt63.false Taking.Nearest i c.in-Nearest.is (rounded c.args.rule c.args.negative c.args.k c.args.m c.requires.0 c.ranges.m.fits c.requires.1 c.if-k-gt63.false i c.nearest.ensures))
 
 pub returns-else-fraction-eq0 : goal.returns-else-fraction-eq0
 unfolding by_rule
-returns-else-fraction-eq0 c = let i = a_nearest (2 ^ 64) (pow_pos 64) (size c.before.before.before) in
-    subst (TakesSize _ _ _ _) (ap (λ (b : Bool). by_rule Taking.Strict b (signed_size (s c.before.before.before).args.negative i.0)) (ne_eqb _ _ c.if-fraction-eq0.false)) (takes c.before.before.before Taking.Strict i.0 c.in-Strict.is i.1)
+returns-else-fraction-eq0 c =
+    let i = a_nearest (2 ^ 64) (pow_pos 64) (c.args.m * 2 ^ c.args.k) in
+    subst (TakesSize _ _ _ _) (ap (λ (b : Bool). by_rule Taking.Strict b (signed_size c.args.negative i.0)) (ne_eqb _ _ (λ q. omega (arith, q)))) (takes c.args.rule c.args.negative c.args.k c.args.m c.requires.0 c.ranges.m.fits c.requires.1 c.if-k-gt63.false Taking.Strict i.0 c.in-Strict.is i.1)

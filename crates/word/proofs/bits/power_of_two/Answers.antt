@@ -1,5 +1,4 @@
 -- `power_of_two` meets its contract: below 64 the shift loses nothing. Assumes nothing.
-use borrow.Author.Rules.{rules}
 use Rattle.bounds.proofs.Powers.{one_shl}
 use Rattle.word.proofs.bits.power_of_two.Goals as goal
 

@@ -1,5 +1,4 @@
 -- `direction` meets its contract: the second bit from the top. Assumes nothing.
-use borrow.Author.Rules.{rules}
 use Rattle.word.specs.Takum.{D}
 use Rattle.word.proofs.fields.direction.Goals as goal
 

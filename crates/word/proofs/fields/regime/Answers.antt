@@ -1,6 +1,5 @@
 -- `regime` meets its contract, by the direction bit. Assumes nothing.
 use mathlib.Core.Path.{sym}
-use borrow.Author.Rules.{rules}
 use borrow.Author.Tests.{eq-eqb, ne_eqb}
 use Rattle.word.specs.Takum.{regime_of}
 use Rattle.word.proofs.fields.regime.Goals as goal

@@ -1,6 +1,5 @@
 -- `regime_of` meets its contract: the three bits after the direction, as the direction takes them. Assumes nothing.
 use mathlib.Core.Path.{ap₂, ◌∙◌}
-use borrow.Author.Rules.{rules}
 use Rattle.word.specs.Takum as Takum
 use Rattle.word.specs.Takum.{regime_of, R}
 use Rattle.word.proofs.fields.regime_of.Goals as goal

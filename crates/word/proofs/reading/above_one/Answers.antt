@@ -1,6 +1,5 @@
 -- `above_one` meets its contract, by the sign. Assumes nothing.
 use mathlib.Core.Path.{refl}
-use borrow.Author.Rules.{rules}
 use Rattle.word.proofs.reading.above_one.Goals as goal
 
 pub returns-then-negative : goal.returns-then-negative

@@ -13,7 +13,7 @@ use Rattle.word.proofs.reading.exponent.Goals as goal
 -- a small number is the same as the machine holds it, and -1 less it fits
 module _ (c : ℤ) (small : mag c ≤ 254) where
   held : to_z w32 (of_z w32 c) ≡ c
-  held = to_z-of_z (record { sfits = omega (arith, small) })
+  held = to_z-of_z {w = w32} (record { sfits = omega (arith, small) })
 
   less_fits : SFits w32 (negsuc 0 -ℤ to_z w32 (of_z w32 c))
   less_fits = subst (λ (z : ℤ). SFits w32 (negsuc 0 -ℤ z)) (sym held) (record { sfits = omega (arith, sub_mag (negsuc 0) c, small) })

@@ -3,7 +3,7 @@ use mathlib.Core.Path.{◌≡◌, sym, ap, ap₂, ◌∙◌, subst}
 use mathlib.Core.Bool.{cond}
 use Prim.Native.Nat.{ℕ, ◌+◌, ◌-◌, ◌*◌, ◌/◌, ◌%◌, ◌^◌, ◌≤◌, ◌<◌}
 use native.Mathlib.Omega.{arith}
-use borrow.Author.Rules.{rules, sfits_of}
+use borrow.Author.Rules.{sfits_of}
 use lib.Dec.{eqb}
 use lib.IntN.{ℤ, pos, neg_ℤ, ◌+ℤ◌}
 use lib.Pow.{shr_lt}
@@ -23,86 +23,61 @@ use Rattle.word.proofs.reading.number.Goals as goal
 regime_small : (c : goal.After-regime_of) → c.regime_of.result ≤ 7
 regime_small c = subst (λ (x : ℕ). x ≤ 7) (sym c.regime_of.ensures) (regime_le _ _)
 
-module _ (c : goal.After-regime_of) where
-  abbrev n : ℕ
-  n = c.args.n
+-- a characteristic is the same as the machine holds it
+held : (c : ℤ) → mag c ≤ 254 → to_z w32 (of_z w32 c) ≡ c
+held c small = to_z-of_z {w = w32} {z = c} (record { sfits = omega (arith, small) })
 
-  abbrev t : ℕ
-  t = c.args.t
-
-  -- the string, and its fraction bit count
+-- the string at the top of t, and its fraction bit count
+module _ (n t : ℕ) where
   abbrev T : ℕ
   T = t / 2 ^ (64 - n)
 
   abbrev P : ℕ
   P = Takum.p n T
 
-  fits : T < 2 ^ n
-  fits = let all : 64 ≡ n + (64 - n) = omega (arith, c.requires.1) in
-      shr_lt n (64 - n) (subst (λ (k : ℕ). t < 2 ^ k) all c.ranges.t.fits)
+  -- its characteristic, and its exponent, which fits the machine with its carry
+  small : (c : ℤ) → c ≡ Takum.c n T → mag c ≤ 254
+  small c e = subst (λ (z : ℤ). mag z ≤ 254) (sym e) (characteristic_of_string _ _)
 
-  few : P ≤ 63
+  sum_fits : (z : ℤ) → z ≡ Takum.e n T → (x : ℕ) → x ≤ 1 → SFits w32 (z +ℤ to_z w32 x)
+  sum_fits z e x low =
+      subst (λ (y : ℤ). SFits w32 (z +ℤ y)) (sym (to_z_pos w32 {n = x} (omega (arith, low))))
+      (record { sfits = omega (arith, add_mag z (pos x), ap mag e, exponent_of_string n T, low) })
+
+module _ (n t : ℕ) (long : 12 ≤ n) (most : n ≤ 64) (behind : t % 2 ^ (64 - n) ≡ 0) where
+  fits : t < 2 ^ 64 → T n t < 2 ^ n
+  fits h = let all : 64 ≡ n + (64 - n) = omega (arith, most) in
+      shr_lt n (64 - n) (subst (λ (k : ℕ). t < 2 ^ k) all h)
+
+  few : P n t ≤ 63
   unfolding Takum.p
-  few = omega (arith, c.requires.1)
+  few = omega (arith, most)
 
-  count_is : n - c.regime_of.result - 5 ≡ P
+  count_is : (r : ℕ) → r ≡ Takum.r 64 t → n - r - 5 ≡ P n t
   unfolding Takum.p top.string
-  count_is = ap (λ (x : ℕ). n - x - 5) (c.regime_of.ensures ∙ top.regime_at_top n t c.requires.0 c.requires.1 c.requires.2)
+  count_is r e = ap (λ (x : ℕ). n - x - 5) (e ∙ top.regime_at_top n t long most behind)
 
-  sign_is : t / 2 ^ 63 ≡ S n T
+  sign_is : t / 2 ^ 63 ≡ S n (T n t)
   unfolding top.string S
-  sign_is = top.sign_at_top n t c.requires.0 c.requires.1 c.requires.2
+  sign_is = top.sign_at_top n t long most behind
 
--- what the size has above 1, in steps of 2^-63
-module _ (c : goal.After-above_one-above) where
-  abbrev start : goal.After-regime_of
-  start = c.before.before.before
-
-  above_is : c.above_one-above.result ≡ above_one (n start) (T start) * 2 ^ (63 - P start)
+  -- what the size has above 1, in steps of 2^-63, and its carry
+  above_is : (f above : ℕ) → f ≡ F 64 t * 2 ^ (64 - Takum.p 64 t) → above ≡ cond (eqb (t / 2 ^ 63) 1) (2 ^ 63 - f / 2 ^ 1) (f / 2 ^ 1) → above ≡ above_one n (T n t) * 2 ^ (63 - P n t)
   unfolding top.string above_one
-  above_is =
-      let pre = start.requires in
-      c.above_one-above.ensures
-      ∙ ap₂ (λ (x f : ℕ). cond (eqb x 1) (2 ^ 63 - f) f) (sign_is start) (ap (λ (x : ℕ). x / 2 ^ 1) c.cut-fields.ensures.fraction ∙ top.fraction_at_top (n start) (t start) pre.0 pre.1 pre.2)
-      ∙ top.above_at_top (P start) (few start) (eqb (S (n start) (T start)) 1) (F (n start) (T start))
+  above_is f above e h =
+      h ∙ ap₂ (λ (x y : ℕ). cond (eqb x 1) (2 ^ 63 - y) y) sign_is (ap (λ (x : ℕ). x / 2 ^ 1) e ∙ top.fraction_at_top n t long most behind)
+      ∙ top.above_at_top (P n t) few (eqb (S n (T n t)) 1) (F n (T n t))
 
-  abbrev carry : ℕ
-  carry = c.above_one-above.result / 2 ^ 63
+  carry_is : (above : ℕ) → above ≡ above_one n (T n t) * 2 ^ (63 - P n t) → above / 2 ^ 63 ≡ above_one n (T n t) / 2 ^ P n t
+  carry_is above h = ap (λ (x : ℕ). x / 2 ^ 63) h ∙ top.carry_at_top (P n t) few (above_one n (T n t))
 
-  carry_is : carry ≡ above_one (n start) (T start) / 2 ^ P start
-  carry_is = ap (λ (x : ℕ). x / 2 ^ 63) above_is ∙ top.carry_at_top (P start) (few start) (above_one (n start) (T start))
-
-  carry_held : to_z w32 carry ≡ pos carry
-  carry_held = to_z_pos w32 {n = carry} (omega (arith, c.above_one-above.type_inv))
-
--- the characteristic as the machine holds it
-module _ (c : goal.After-struct_told-1) where
-  abbrev whole : goal.After-above_one-above
-  whole = c.before
-
-  abbrev first : goal.After-regime_of
-  first = start whole
-
-  characteristic_is : whole.cut-fields.result.c ≡ Takum.c (n first) (T first)
+  characteristic_is : (c : ℤ) → c ≡ Takum.c 64 t → c ≡ Takum.c n (T n t)
   unfolding top.string
-  characteristic_is = whole.cut-fields.ensures.characteristic ∙ top.characteristic_at_top (n first) (t first) first.requires.0 first.requires.1 first.requires.2
+  characteristic_is c e = e ∙ top.characteristic_at_top n t long most behind
 
-  characteristic_small : mag whole.cut-fields.result.c ≤ 254
-  characteristic_small = subst (λ (z : ℤ). mag z ≤ 254) (sym characteristic_is) (characteristic_of_string _ _)
-
-  held : to_z w32 (of_z w32 whole.cut-fields.result.c) ≡ whole.cut-fields.result.c
-  held = to_z-of_z (record { sfits = omega (arith, characteristic_small) })
-
--- the exponent, and with its carry
-module _ (c : goal.After-exponent) where
-  exponent_is : to_z w32 (of_z w32 c.exponent.result) ≡ Takum.e (n (first c.before)) (T (first c.before))
+  exponent_is : (c : ℤ) → c ≡ Takum.c n (T n t) → (x : ℤ) → SFits w32 x → x ≡ cond (eqb (t / 2 ^ 63) 1) (neg_ℤ (to_z w32 (of_z w32 c) +ℤ pos 1)) (to_z w32 (of_z w32 c)) → to_z w32 (of_z w32 x) ≡ Takum.e n (T n t)
   unfolding Takum.e
-  exponent_is = to_z-of_z (sfits_of c.exponent.type_inv) ∙ c.exponent.ensures ∙ ap₂ (λ (x : ℕ) (z : ℤ). cond (eqb x 1) (neg_ℤ (z +ℤ pos 1)) z) (sign_is (first c.before)) (held c.before ∙ characteristic_is c.before)
-
-  sum_fits : (x : ℕ) → x ≤ 1 → SFits w32 (to_z w32 (of_z w32 c.exponent.result) +ℤ to_z w32 x)
-  sum_fits x low =
-      subst (λ (z : ℤ). SFits w32 (to_z w32 (of_z w32 c.exponent.result) +ℤ z)) (sym (to_z_pos w32 {n = x} (omega (arith, low))))
-      (record { sfits = omega (arith, add_mag (to_z w32 (of_z w32 c.exponent.result)) (pos x), ap mag exponent_is, exponent_of_string (n (first c.before)) (T (first c.before)), low) })
+  exponent_is c e x f h = to_z-of_z {w = w32} {z = x} f ∙ h ∙ ap₂ (λ (y : ℕ) (z : ℤ). cond (eqb y 1) (neg_ℤ (z +ℤ pos 1)) z) sign_is (held c (small n t c e) ∙ e)
 
 pub overflow_sub-p : goal.overflow_sub-p
 overflow_sub-p c = omega (arith, regime_small c)
@@ -111,16 +86,38 @@ pub overflow_sub-p-2 : goal.overflow_sub-p-2
 overflow_sub-p-2 c = omega (arith, regime_small c, c.requires.0)
 
 pub exponent-requires : goal.exponent-requires
-exponent-requires c = subst (λ (z : ℤ). mag z ≤ 254) (sym (held c)) (characteristic_small c)
+exponent-requires c = let n = c.args.n in
+    let t = c.args.t in
+    let x = c.cut-fields.result.c in
+    let low = small n t x (characteristic_is n t c.requires.0 c.requires.1 c.requires.2 x c.cut-fields.ensures.characteristic) in
+    subst (λ (z : ℤ). mag z ≤ 254) (sym (held x low)) low
+
+-- the exponent, and what is carried into it
+module _ (c : goal.After-exponent) where
+  e_is : to_z w32 (of_z w32 c.exponent.result) ≡ Takum.e c.args.n (T c.args.n c.args.t)
+  e_is =
+      let n = c.args.n in
+      let t = c.args.t in
+      exponent_is n t c.requires.0 c.requires.1 c.requires.2 _ (characteristic_is n t c.requires.0 c.requires.1 c.requires.2 _ c.cut-fields.ensures.characteristic) _ (sfits_of c.exponent.type_inv) c.exponent.ensures
+
+  h_fits : SFits w32 (to_z w32 (of_z w32 c.exponent.result) +ℤ to_z w32 (c.above_one-above.result / 2 ^ 63))
+  h_fits = sum_fits c.args.n c.args.t _ e_is (c.above_one-above.result / 2 ^ 63) (omega (arith, c.above_one-above.type_inv))
 
 pub overflow_add-h : goal.overflow_add-h
-overflow_add-h c = sum_fits c (c.above_one-above.result / 2 ^ 63) (omega (arith, c.above_one-above.type_inv))
+overflow_add-h c = h_fits c
 
 pub returns : goal.returns
 unfolding IsKind
 returns c =
-    let s = start c.before.before.before in
-    let pre = s.requires in
-    same_number _ _ (ap (λ (y : ℕ). eqb y 1) (sign_is s)) (to_z-of_z (sum_fits c.before (carry c.before.before.before) (omega (arith, c.above_one-above.type_inv))) ∙ ap₂ (λ (y z : ℤ). y +ℤ z) (exponent_is c.before) (carry_held c.before.before.before ∙ ap pos (carry_is c.before.before.before)))
-    (ap₂ (λ (y k : ℕ). (2 ^ 63 + y) / 2 ^ (63 - k)) (c.low_bits.ensures ∙ ap (λ (y : ℕ). y % 2 ^ 63) (above_is c.before.before.before)) (count_is s) ∙ top.size_at_top (P s) (few s) (above_one (n s) (T s))) (count_is s)
-    (number_of_string (n s) (T s) pre.0 pre.1 (fits s))
+    let n = c.args.n in
+    let t = c.args.t in
+    let long = c.requires.0 in
+    let most = c.requires.1 in
+    let behind = c.requires.2 in
+    let above = above_is n t long most behind _ _ c.cut-fields.ensures.fraction c.above_one-above.ensures in
+    let carry : to_z w32 (c.above_one-above.result / 2 ^ 63) ≡ pos (c.above_one-above.result / 2 ^ 63) = to_z_pos w32 {n = c.above_one-above.result / 2 ^ 63} (omega (arith, c.above_one-above.type_inv)) in
+    let count = count_is n t long most behind _ c.regime_of.ensures in
+    same_number _ _ (ap (λ (y : ℕ). eqb y 1) (sign_is n t long most behind))
+    (to_z-of_z {w = w32} (h_fits c.before) ∙ ap₂ (λ (y z : ℤ). y +ℤ z) (e_is c.before) (carry ∙ ap pos (carry_is n t long most behind _ above)))
+    (ap₂ (λ (y k : ℕ). (2 ^ 63 + y) / 2 ^ (63 - k)) (c.low_bits.ensures ∙ ap (λ (y : ℕ). y % 2 ^ 63) above) count ∙ top.size_at_top (P n t) (few n t long most behind) (above_one n (T n t))) count
+    (number_of_string n (T n t) long most (fits n t long most behind c.ranges.t.fits))

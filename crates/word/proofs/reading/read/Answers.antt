@@ -3,7 +3,6 @@ use mathlib.Core.Path.{◌≡◌, refl, sym, ap, ap₂, ◌∙◌, subst₂}
 use Prim.Native.Nat.{ℕ, ◌+◌, ◌*◌, ◌-◌, ◌/◌, ◌%◌, ◌^◌, ◌≤◌, max}
 use native.Mathlib.Nat.{mul_assoc, mul-mod_left}
 use native.Mathlib.Omega.{arith}
-use borrow.Author.Rules.{rules}
 use lib.IntN.{pos, ◌-ℤ◌}
 use lib.Pow.{shl-shr}
 use Rattle.bounds.specs.Refusals.{word_test, IsWord, through, refused}
@@ -19,12 +18,12 @@ use Rattle.word.proofs.Top as top
 use Rattle.word.proofs.reading.read.Goals as goal
 
 -- what the verdict tells of the word
-told : (c : goal.After-test_word-verdict) {u : Verdict} → c.test_word-verdict.result ≡ u → word_test c.args.width.bits c.args.word ≡ u
-told c h = sym c.test_word-verdict.ensures ∙ h
+told : (n w : ℕ) {v u : Verdict} → v ≡ word_test n w → v ≡ u → word_test n w ≡ u
+told n w e h = sym e ∙ h
 
 -- what is known once the verdict has let the word through
-word_in : (c : goal.In_default) → IsWord c.args.width.bits c.args.word
-word_in c = word_through _ _ (told c.before.before c.in_default.is)
+word_in : (n w : ℕ) {v : Verdict} → v ≡ word_test n w → v ≡ Verdict.Through → IsWord n w
+word_in n w e h = word_through n w (told n w e h)
 
 -- the word at the top of 64 bits: its string, of m bits, stands there too, with zeros behind it
 module _ (n w : ℕ) (i : IsWord n w) (x : ℕ) (at_top : x ≡ w * 2 ^ (64 - n)) (m : ℕ) (long : m ≡ N n) where
@@ -58,31 +57,31 @@ module _ (n w : ℕ) (i : IsWord n w) (x : ℕ) (at_top : x ≡ w * 2 ^ (64 - n)
 
 pub returns-in-Refused : goal.returns-in-Refused
 unfolding Reads
-returns-in-Refused c = refused (told c.before.before.before c.in-Refused.is) refl
+returns-in-Refused c = refused (told _ _ c.test_word-verdict.ensures c.in-Refused.is) refl
 
 pub returns-then-word-eq0 : goal.returns-then-word-eq0
 unfolding Reads IsKind
-returns-then-word-eq0 c = through (told c.before.before.before c.in_default.is) (record { what = ap (takum _) c.if-word-eq0.true ∙ takum_zero _; fine = sym (zero_has_none _ _ c.if-word-eq0.true) })
+returns-then-word-eq0 c = through (told _ _ c.test_word-verdict.ensures c.in_default.is) (record { what = ap (takum _) c.if-word-eq0.true ∙ takum_zero _; fine = sym (zero_has_none _ _ c.if-word-eq0.true) })
 
 pub overflow_sub-string : goal.overflow_sub-string
-overflow_sub-string c = (word_in c.before).most
+overflow_sub-string c = (word_in _ _ c.test_word-verdict.ensures c.in_default.is).most
 
 pub overflow_shl-string : goal.overflow_shl-string
-overflow_shl-string c = omega (arith, (word_in c.before).least)
+overflow_shl-string c = omega (arith, (word_in _ _ c.test_word-verdict.ensures c.in_default.is).least)
 
 pub returns-then-string : goal.returns-then-string
 unfolding Reads IsKind
-returns-then-string c = let i = word_in c.before.before in
+returns-then-string c = let i = word_in _ _ c.test_word-verdict.ensures c.in_default.is in
     let NaR = top.NaR_at_top _ _ i c.if-string.true in
-    through (told c.before.before.before.before c.in_default.is) (record { what = takum_NaR _ _ i.least i.most NaR; fine = sym (NaR_has_none _ _ NaR) })
+    through (told _ _ c.test_word-verdict.ensures c.in_default.is) (record { what = takum_NaR _ _ i.least i.most NaR; fine = sym (NaR_has_none _ _ NaR) })
 
 pub number-requires : goal.number-requires
-number-requires c = let i = word_in c.before.before.before in
+number-requires c = let i = word_in _ _ c.test_word-verdict.ensures c.in_default.is in
     let l = c.string_length-length.ensures in
     (longer _ _ i _ (top.shifted_is _ _ i) _ l, most _ _ i _ (top.shifted_is _ _ i) _ l, zeros _ _ i _ (top.shifted_is _ _ i) _ l)
 
 pub returns : goal.returns
 unfolding Reads
-returns c = let i = word_in c.before.before.before.before.before in
-    through (told c.before.before.before.before.before.before.before c.in_default.is)
+returns c = let i = word_in _ _ c.test_word-verdict.ensures c.in_default.is in
+    through (told _ _ c.test_word-verdict.ensures c.in_default.is)
     (of_string _ _ i _ (top.shifted_is _ _ i) _ c.string_length-length.ensures c.if-word-eq0.false (λ q. c.if-string.false (top.at_top_NaR _ _ i q)) _ c.number.ensures c.own_bits.ensures)

@@ -1,8 +1,7 @@
 -- `move_word` meets its contract: the word's size is written at the other width, with its sign. Assumes nothing.
 use mathlib.Core.Path.{◌≡◌, refl, sym, ap, ◌∙◌, subst}
 use mathlib.Core.Bool.{false}
-use Prim.Native.Nat.{ℕ, ◌≤◌}
-use borrow.Author.Rules.{rules}
+use Prim.Native.Nat.{ℕ}
 use Rattle.bounds.specs.declared.answer.Answer.{Answer}
 use Rattle.bounds.specs.declared.answer.Written.{Written}
 use Rattle.bounds.specs.declared.saying.Saying.TheVariants.{Exact}
@@ -12,8 +11,8 @@ use Rattle.bounds.specs.Sayings.{plain, exactly}
 use Rattle.bounds.specs.Widths.{nar_word, GivesWord}
 use Rattle.bounds.proofs.Answers.{word_said, refusal_said}
 use Rattle.bounds.proofs.Verdicts.{told_move, width_through, answered}
-use Rattle.sizes.specs.declared.size.Size.{Size}
 use Rattle.sizes.specs.declared.size.WordSize.{WordSize}
+use Rattle.sizes.specs.Sizes.{ReadsSize}
 use Rattle.word.specs.Reads.{IsNumber}
 use Rattle.word.specs.Takum.{Takum, takum}
 use Rattle.sizes.proofs.Normal.{TellsWord, tells}
@@ -27,31 +26,12 @@ use Rattle.write.proofs.Meanings.{number_moved, number_said}
 use Rattle.write.proofs.moving.move_word.Goals as goal
 
 -- what the word's size tells
-told : (c : goal.After-read_size) {a : WordSize} → c.read_size.result ≡ a → TellsWord c.args.from.bits c.args.word a
-told c q = subst (TellsWord _ _) q (tells _ _ _ c.read_size.ensures)
+told : (n w : ℕ) {a b : WordSize} → ReadsSize n w a → a ≡ b → TellsWord n w b
+told n w h q = subst (TellsWord n w) q (tells n w _ h)
 
 -- both widths and the word, in the order of the paper
-module _ (c : goal.In_default) where
-  abbrev s : goal.Start
-  s = c.before.before.before
-
-  target : width_test s.args.to.bits ≡ Verdict.Through
-  target = sym c.test-verdict.ensures ∙ c.in_default.is
-
-  tested : {v : Verdict} → word_test s.args.from.bits s.args.word ≡ v → width_test s.args.from.bits then width_test s.args.to.bits then stray_test s.args.from.bits s.args.word ≡ v
-  tested q = told_move _ _ _ {a = Verdict.Through} (sym target) refl refl q
-
--- a number
-module _ (k : goal.In-Number) where
-  abbrev g : goal.After-read_size
-  g = k.before.before.before
-
-  abbrev size : Size
-  size = k.in-Number.size
-
-  number : (word_test g.args.from.bits g.args.word ≡ Verdict.Through) × IsNumber (takum g.args.from.bits g.args.word) 63 size.negative size.h size.m 63
-  unfolding TellsWord
-  number = told g k.in-Number.is
+tested : (n n' w : ℕ) → width_test n' ≡ Verdict.Through → {v : Verdict} → word_test n w ≡ v → width_test n then width_test n' then stray_test n w ≡ v
+tested n n' w target q = told_move n n' w {a = Verdict.Through} (sym target) refl refl q
 
 pub returns-in-Refused : goal.returns-in-Refused
 unfolding MovesAndSays Moves
@@ -59,27 +39,46 @@ returns-in-Refused c = refusal_said _ (refused (told_move _ _ _ {a = Verdict.Ref
 
 pub returns-in-Refused-read_size : goal.returns-in-Refused-read_size
 unfolding MovesAndSays Moves TellsWord
-returns-in-Refused-read_size c = refusal_said _ (refused (tested c.before.before.before.before (told c.before.before.before c.in-Refused-read_size.is)) refl)
+returns-in-Refused-read_size c =
+    let n = c.args.from.bits in
+    let n' = c.args.to.bits in
+    let w = c.args.word in
+    refusal_said _ (refused (tested n n' w (sym c.test-verdict.ensures ∙ c.in_default.is) (told n w c.read_size.ensures c.in-Refused-read_size.is)) refl)
 
 pub returns-in-Zero : goal.returns-in-Zero
 unfolding MovesAndSays Moves TellsWord IsMoved SaysMoved is_negative
-returns-in-Zero c = let x = told c.before.before c.in-Zero.is in
-    let t = width_through _ (target c.before.before.before) in
-    word_said 0 Exact (through (tested c.before.before.before x.0) (subst (λ (t : Takum). IsMoved c.args.to.bits c.args.rule t (Answer.Word 0)) (sym x.1) (zero_written c.args.to.bits t.0 t.1 c.args.rule false 0 1 refl)))
-    (subst (λ (t : Takum). SaysMoved c.args.to.bits t 0 Exact) (sym x.1) (size_exact c.args.to.bits t.0 t.1 false 0 0 1 0 (zero_value c.args.to.bits t.0 t.1 false) refl))
+returns-in-Zero c =
+    let n = c.args.from.bits in
+    let n' = c.args.to.bits in
+    let w = c.args.word in
+    let target = sym c.test-verdict.ensures ∙ c.in_default.is in
+    let x = told n w c.read_size.ensures c.in-Zero.is in
+    let t = width_through n' target in
+    word_said 0 Exact (through (tested n n' w target x.0) (subst (λ (t : Takum). IsMoved n' c.args.rule t (Answer.Word 0)) (sym x.1) (zero_written n' t.0 t.1 c.args.rule false 0 1 refl)))
+    (subst (λ (t : Takum). SaysMoved n' t 0 Exact) (sym x.1) (size_exact n' t.0 t.1 false 0 0 1 0 (zero_value n' t.0 t.1 false) refl))
 
 pub returns-in-Nar : goal.returns-in-Nar
 unfolding MovesAndSays Moves TellsWord IsMoved SaysMoved GivesWord
-returns-in-Nar c = let x = told c.before.before.before.before c.in-Nar.is in
-    let is : c.exactly.result ≡ Written.Word (nar_word c.args.to.bits) Exact = c.exactly.ensures ∙ ap exactly (answered (target c.before.before.before.before.before) c.nar.ensures) in
-    subst (MovesAndSays c.args.from.bits c.args.to.bits c.args.rule c.args.word) (sym is)
-    (word_said (nar_word c.args.to.bits) Exact (through (tested c.before.before.before.before.before x.0) (subst (λ (t : Takum). IsMoved c.args.to.bits c.args.rule t (Answer.Word (nar_word c.args.to.bits))) (sym x.1) refl)) (subst (λ (t : Takum). SaysMoved c.args.to.bits t (nar_word c.args.to.bits) Exact) (sym x.1) refl))
+returns-in-Nar c =
+    let n = c.args.from.bits in
+    let n' = c.args.to.bits in
+    let w = c.args.word in
+    let target = sym c.test-verdict.ensures ∙ c.in_default.is in
+    let x = told n w c.read_size.ensures c.in-Nar.is in
+    let is : c.exactly.result ≡ Written.Word (nar_word n') Exact = c.exactly.ensures ∙ ap exactly (answered target c.nar.ensures) in
+    subst (MovesAndSays n n' c.args.rule w) (sym is)
+    (word_said (nar_word n') Exact (through (tested n n' w target x.0) (subst (λ (t : Takum). IsMoved n' c.args.rule t (Answer.Word (nar_word n'))) (sym x.1) refl)) (subst (λ (t : Takum). SaysMoved n' t (nar_word n') Exact) (sym x.1) refl))
 
 pub returns-in-Number : goal.returns-in-Number
-unfolding MovesAndSays Moves WritesSizeAndSays WritesShortAndSays WritesShort
-returns-in-Number c = let s = (g c.before).before.before.before.before in
-    let x = number c.before in
+unfolding MovesAndSays Moves TellsWord WritesSizeAndSays WritesShortAndSays WritesShort
+returns-in-Number c =
+    let n = c.args.from.bits in
+    let n' = c.args.to.bits in
+    let w = c.args.word in
+    let target = sym c.test-verdict.ensures ∙ c.in_default.is in
+    let size = c.in-Number.size in
+    let x : (word_test n w ≡ Verdict.Through) × IsNumber (takum n w) 63 size.negative size.h size.m 63 = told n w c.read_size.ensures c.in-Number.is in
     record {
-      answers = through (tested (g c.before).before x.0) (number_moved s.args.to.bits s.args.rule (plain c.write_size.result) _ 63 (size c.before).negative (size c.before).h (size c.before).m 63 x.1 (answered (target (g c.before).before) c.write_size.ensures.answers));
-      says = λ w q is. number_said s.args.to.bits w q _ 63 (size c.before).negative (size c.before).h (size c.before).m 63 x.1 (c.write_size.ensures.says w q is);
+      answers = through (tested n n' w target x.0) (number_moved n' c.args.rule (plain c.write_size.result) _ 63 size.negative size.h size.m 63 x.1 (answered target c.write_size.ensures.answers));
+      says = λ v q is. number_said n' v q _ 63 size.negative size.h size.m 63 x.1 (c.write_size.ensures.says v q is);
     }

@@ -3,8 +3,8 @@ use mathlib.Core.Path.{◌≡◌, subst}
 use lib.IntN.{ℤ}
 use mir.Facts.{to_z-of_z}
 use mir.Syntax.{w32}
-use mir.Val.{to_z, of_z}
-use borrow.Author.Rules.{rules, sfits_of}
+use mir.Val.{SFits, to_z, of_z}
+use borrow.Author.Rules.{rules}
 use Rattle.round.specs.Writes.{WritesShort}
 use Rattle.round.specs.Sayings.{WritesShortAndSays}
 use Rattle.write.specs.Writes.{Writes}
@@ -14,5 +14,6 @@ use Rattle.write.proofs.writing.write.Goals as goal
 pub returns : goal.returns
 unfolding WritesAndSays Writes WritesShortAndSays WritesShort
 returns c = let v = c.args.value in
-    let held : to_z w32 (of_z w32 v.k) ≡ v.k = to_z-of_z (sfits_of c.struct_told-1.given.1.1.0.1) in
+    let fits : SFits w32 v.k = search rules in
+    let held : to_z w32 (of_z w32 v.k) ≡ v.k = to_z-of_z fits in
     subst (λ (z : ℤ). WritesShortAndSays c.args.width.bits c.args.rule v.negative v.m z c.write_short.result) held c.write_short.ensures

@@ -1,6 +1,5 @@
 -- `Answer::exactly` meets its contract, arm by arm. Assumes nothing.
 use mathlib.Core.Path.{sym, ap}
-use borrow.Author.Rules.{rules}
 use Rattle.bounds.specs.Sayings.{exactly}
 use Rattle.bounds.proofs.answer.Answer.exactly.Goals as goal
 

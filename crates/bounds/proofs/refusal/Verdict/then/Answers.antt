@@ -1,6 +1,5 @@
 -- `Verdict::then` meets its contract, arm by arm. Assumes nothing.
 use mathlib.Core.Path.{sym, ap}
-use borrow.Author.Rules.{rules}
 use Rattle.bounds.specs.declared.refusal.Verdict.{Verdict}
 use Rattle.bounds.specs.Refusals.{◌then◌}
 use Rattle.bounds.proofs.refusal.Verdict.then.Goals as goal

@@ -1,7 +1,6 @@
 -- `Width::limit` meets its contract: the limit is the power of two of its exponent. Assumes nothing.
 use mathlib.Core.Path.{refl, sym, ◌∙◌}
 use Prim.Native.Nat.{◌<◌}
-use borrow.Author.Rules.{rules}
 use Rattle.bounds.specs.Refusals.{through, refused}
 use Rattle.bounds.specs.Widths.{GivesLimit}
 use Rattle.bounds.proofs.Powers.{one_shl}

@@ -1,6 +1,5 @@
 -- `Width::new` meets its contract: the answer follows the verdict. Assumes nothing.
 use mathlib.Core.Path.{refl, sym, ◌∙◌}
-use borrow.Author.Rules.{rules}
 use Rattle.bounds.specs.Refusals.{through, refused}
 use Rattle.bounds.specs.Widths.{Makes}
 use Rattle.bounds.proofs.width.Width.new.Goals as goal

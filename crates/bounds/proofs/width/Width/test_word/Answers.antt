@@ -1,6 +1,5 @@
 -- `Width::test_word` meets its contract: the word is tested where the width is one. Assumes nothing.
 use mathlib.Core.Path.{sym, ◌∙◌}
-use borrow.Author.Rules.{rules}
 use Rattle.bounds.proofs.Verdicts.{width_through}
 use Rattle.bounds.proofs.width.Width.test_word.Goals as goal
 

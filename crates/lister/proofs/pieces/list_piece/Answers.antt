@@ -13,8 +13,8 @@ write_out-requires c =
     let p = c.put_arrived-run.ensures.0.2 in
     omega (arith, p.place, p.room, Placed.same_length _ _ _ _ _ p)
 
-pub returns-then-write_out : goal.returns-then-write_out
-returns-then-write_out c =
+pub returns-in-Whole : goal.returns-in-Whole
+returns-in-Whole c =
     let s = c.before.before in
     let p = c.put_arrived-run.ensures in
     let g = c.read_at-got in (
@@ -25,5 +25,5 @@ returns-then-write_out c =
           (eq-eqb g.result.count 0 none, p.2 none ∙ ap blocks same),
     )
 
-pub returns : goal.returns
-returns c = (λ e. absurd (true≢false e), λ e. absurd (false≢true e))
+pub returns-in-Cut : goal.returns-in-Cut
+returns-in-Cut c = (λ e. absurd (true≢false e), λ e. absurd (false≢true e))

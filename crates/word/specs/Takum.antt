@@ -7,7 +7,7 @@ pub data Takum : Type 0 where
   real : ℤ → Takum
   NaR : Takum
 
--- 2^k as a whole number. Below exponent 0 there is none, and 0 stands for that; no word goes there (`exponent-whole` in proofs/Meaning.antt).
+-- 2^k as a whole number. Below exponent 0 there is none, and 0 stands for that; no word goes there (`exponent_whole` in proofs/Meaning.antt).
 unfoldable pub power : ℤ → ℕ
 power (pos k) = 2 ^ k
 power (negsuc k) = 0

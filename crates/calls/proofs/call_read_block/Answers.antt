@@ -1,5 +1,4 @@
 -- `call_read_block` meets its contract, by that of `takum_read_block`. Assumes nothing.
-use borrow.Author.Rules.{rules}
 use Rattle.promises.proofs.FaceSlices.{block_hands}
 use Rattle.calls.proofs.call_read_block.Goals as goal
 

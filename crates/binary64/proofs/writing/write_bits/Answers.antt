@@ -27,12 +27,9 @@ use Rattle.binary64.proofs.Written.{unbounded_written, unbounded_said, written_w
 use Rattle.binary64.proofs.writing.write_bits.Goals as goal
 
 -- the fields of a number with a leading digit, as the machine holds them
-module _ (c : goal.Else-exponent-eq0) where
-  abbrev b : ℕ
-  b = c.args.bits
-
-  one : lead (field b) ≡ 1
-  one = ap (λ (t : Bool). cond t 0 1) (ne_eqb (field b) 0 (λ q. omega (arith, q)))
+module _ (b : ℕ) where
+  one : (field b ≡ 0 → ⊥) → lead (field b) ≡ 1
+  one some = ap (λ (t : Bool). cond t 0 1) (ne_eqb (field b) 0 some)
 
   field_fits : field b < 2 ^ 11
   field_fits = mask_lt (b / 2 ^ 52) 11
@@ -75,20 +72,22 @@ returns-then-exponent-eq0 c =
     }
 
 pub overflow_add-m : goal.overflow_add-m
-overflow_add-m c = record { fits = omega (arith, digits_fit c) }
+overflow_add-m c = record { fits = omega (arith, digits_fit c.args.bits) }
 
 pub overflow_cast-k : goal.overflow_cast-k
-overflow_cast-k c = record { sfits = omega (arith, field_fits c) }
+overflow_cast-k c = record { sfits = omega (arith, field_fits c.args.bits) }
 
 pub overflow_sub-k : goal.overflow_sub-k
-overflow_sub-k c = subst (λ (z : ℤ). SFits w32 z) (sym (difference c)) (difference_fits c)
+overflow_sub-k c = subst (λ (z : ℤ). SFits w32 z) (sym (difference c.args.bits)) (difference_fits c.args.bits)
 
 pub returns : goal.returns
 unfolding WritesBinary64AndSays WritesBinary64 WritesAndSays Writes
 returns c =
-    let x = subst (λ (z : ℤ). WritesAndSays c.args.width.bits c.args.rule (record { negative = sign_bit c.args.bits; m = digits c.args.bits + 2 ^ 52; k = z }) c.write-2.result) (exponent c.before) c.write-2.ensures in
-    let bounded : field c.args.bits ≡ 2047 → ⊥ = λ q. omega (arith, q) in
+    let b = c.args.bits in
+    let x = subst (λ (z : ℤ). WritesAndSays c.args.width.bits c.args.rule (record { negative = sign_bit b; m = digits b + 2 ^ 52; k = z }) c.write-2.result) (exponent b) c.write-2.ensures in
+    let bounded : field b ≡ 2047 → ⊥ = λ q. omega (arith, q) in
+    let led = one b (λ q. omega (arith, q)) in
     record {
-      answers = decided_as (λ q h. h) (written_with_lead _ _ _ c.args.bits bounded (one c.before)) x.answers;
-      says = λ w q is. said_with_lead _ w q c.args.bits bounded (one c.before) (x.says w q is);
+      answers = decided_as (λ q h. h) (written_with_lead _ _ _ b bounded led) x.answers;
+      says = λ w q is. said_with_lead _ w q b bounded led (x.says w q is);
     }

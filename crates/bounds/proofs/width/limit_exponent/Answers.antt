@@ -12,18 +12,18 @@ leading : (n : ℕ) → 5 ≤ n → n < 2 ^ 32 → (count_leading_zeros 32 (n - 
 leading n five fits = leading_log 32 (n - 4) (omega arith) (omega arith)
 
 pub returns-then-n-lt5 : goal.returns-then-n-lt5
-returns-then-n-lt5 c = none_within _ c.if-n-lt5.true
+returns-then-n-lt5 c = none_within _ (omega arith)
 
 pub overflow_sub-log : goal.overflow_sub-log
-overflow_sub-log c = le_of_suc-le-suc (leading _ c.if-n-lt5.false c.ranges.n.fits).0
+overflow_sub-log c = le_of_suc-le-suc (leading _ (omega arith) c.ranges.n.fits).0
 
 pub overflow_sub-v : goal.overflow_sub-v
-overflow_sub-v c = le_of_lt (lt_of_lt_of_le (below_power _) (leading _ c.if-n-lt5.false c.ranges.n.fits).1.low)
+overflow_sub-v c = le_of_lt (lt_of_lt_of_le (below_power _) (leading _ (omega arith) c.ranges.n.fits).1.low)
 
 pub returns-then-v-log : goal.returns-then-v-log
-returns-then-v-log c = let t = leading _ c.if-n-lt5.false c.ranges.n.fits in
-    one_more _ _ c.if-n-lt5.false t.1.low (lt_of_lt_of_le c.if-v-log.true (le_of_eq (one_shl 32 _ (omega arith))))
+returns-then-v-log c = let t = leading _ (omega arith) c.ranges.n.fits in
+    one_more _ _ (omega arith) t.1.low (lt_of_lt_of_le c.if-v-log.true (le_of_eq (one_shl 32 _ (omega arith))))
 
 pub returns : goal.returns
-returns c = let t = leading _ c.if-n-lt5.false c.ranges.n.fits in
-    no_more _ _ c.if-n-lt5.false t.1.low t.1.high (le_trans (le_of_eq (sym (one_shl 32 _ (omega arith)))) c.if-v-log.false)
+returns c = let t = leading _ (omega arith) c.ranges.n.fits in
+    no_more _ _ (omega arith) t.1.low t.1.high (le_trans (le_of_eq (sym (one_shl 32 _ (omega arith)))) c.if-v-log.false)

@@ -5,7 +5,6 @@ use Rattle.bounds.specs.declared.refusal.Verdict.{Verdict}
 use Rattle.bounds.specs.Refusals.{room_test, through, refused}
 use Rattle.bounds.proofs.Rooms.{room_through}
 use Rattle.listing.specs.Listing.{most, text_room, ListsInto}
-use borrow.Author.Rules.{rules}
 use Rattle.listing.proofs.blocks.list_block.Goals as goal
 
 -- what is known once the test has let the slice through

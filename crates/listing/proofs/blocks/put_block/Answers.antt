@@ -4,7 +4,6 @@ use native.Mathlib.Omega.{arith}
 use Rattle.listing.specs.Listing.{most, text_room, IsListed}
 use Rattle.listing.specs.Puts.{PutsSome}
 use Rattle.listing.proofs.ReadOut.{narrow, few, lines_listed, number_0, refused_listed, number_of_it}
-use borrow.Author.Rules.{rules}
 use Rattle.listing.proofs.blocks.put_block.Goals as goal
 
 pub put_lines-requires : goal.put_lines-requires

@@ -5,7 +5,6 @@ use native.Mathlib.Omega.{arith}
 use Rattle.listing.specs.Puts.{PutsSome}
 use Rattle.listing.specs.Text.{IsDecimal, IsRefusedLine, block_text, refused_text, space, newline}
 use Rattle.listing.proofs.Placed.{joined}
-use borrow.Author.Rules.{rules}
 use Rattle.listing.proofs.blocks.put_refused.Goals as goal
 
 pub returns : goal.returns

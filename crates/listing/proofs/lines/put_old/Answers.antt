@@ -7,7 +7,6 @@ use Rattle.listing.specs.Puts.{Puts}
 use Rattle.listing.specs.Text.{space, old}
 use Rattle.listing.proofs.Old.{is_old, isn't_old}
 use Rattle.listing.proofs.Placed.{nothing_put}
-use borrow.Author.Rules.{rules}
 use Rattle.listing.proofs.lines.put_old.Goals as goal
 
 pub returns-then-width-eq-RETIRED : goal.returns-then-width-eq-RETIRED

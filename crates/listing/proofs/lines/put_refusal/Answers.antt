@@ -6,7 +6,6 @@ use Prim.Native.Nat.{ℕ}
 use borrow.Author.Tests.{eq-eqb, ne_eqb}
 use Rattle.listing.specs.Puts.{Puts}
 use Rattle.listing.specs.Text.{nar, over, refusal_text}
-use borrow.Author.Rules.{rules}
 use Rattle.listing.proofs.lines.put_refusal.Goals as goal
 
 pub returns-then-number-eq5 : goal.returns-then-number-eq5

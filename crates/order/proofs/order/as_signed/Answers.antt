@@ -36,10 +36,10 @@ nar : (n w : ℕ) → IsWord n w → 1 * 2 ^ (n - 1) % 2 ^ 64 ≡ 2 ^ (n - 1)
 nar n w i = one_shl 64 (n - 1) (omega (arith, i.most, i.least))
 
 below : (c : goal.Then-word-n) → c.args.word < 2 ^ (c.args.n - 1)
-below c = subst (λ (x : ℕ). c.args.word < x) (nar c.args.n c.args.word c.requires) c.if-word-n.true
+below c = omega (arith, nar c.args.n c.args.word c.requires)
 
 from_half : (c : goal.After-ones) → 2 ^ (c.args.n - 1) ≤ c.args.word
-from_half c = subst (λ (x : ℕ). x ≤ c.args.word) (nar c.args.n c.args.word c.requires) c.if-word-n.false
+from_half c = omega (arith, nar c.args.n c.args.word c.requires)
 
 pub overflow_cast-result : goal.overflow_cast-result
 overflow_cast-result c = record { sfits = small _ _ c.requires (below c) }

@@ -1,4 +1,4 @@
--- `clear` meets its contract. The invariant of its loop: the bytes up to `at` are zero. The measure is how many bytes are left. Assumes nothing.
+-- `clear` meets its contract. Assumes nothing.
 use Rattle.std.proofs.Common.{le_refl, arith}
 use Rattle.sheet.proofs.Puts.{clears_none, clears_more, clears_all}
 use Rattle.sheet.proofs.parts.clear.Goals as goal

@@ -1,4 +1,4 @@
--- `clear` meets its contract. The invariant of its loop: the bytes up to `at` are zero. The measure is how many bytes are left. Assumes nothing.
+-- The invariant of the loop of `clear`: the bytes up to `at` are zero. The measure is how many bytes are left. Assumes nothing.
 use Rattle.std.proofs.Common.{◌-◌, ◌≤◌}
 use Rattle.sheet.specs.Puts.{Clears}
 use Rattle.sheet.proofs.parts.clear.Given as goal

@@ -1,4 +1,4 @@
--- `pack` meets its contract. The invariant of its loop: the first i words are packed. The measure is how many words are left. Assumes nothing.
+-- The invariant of the loop of `pack`: the first i words are packed. The measure is how many words are left. Assumes nothing.
 use Rattle.std.proofs.Common.{◌-◌, ◌≤◌, length}
 use Rattle.sheet.specs.Puts.{Packs}
 use Rattle.sheet.proofs.parts.pack.Given as goal

@@ -1,5 +1,5 @@
--- `sums_of` meets its contract. The invariant of its loop: a and b are the sums of the first i numbers, in that what is still to come makes them A and B.
--- The measure is how many numbers are left. Assumes nothing.
+-- The invariant of the loop of `sums_of`: a and b are the sums of the first i numbers, in that what is still to come makes them A and B. The measure
+-- is how many numbers are left. Assumes nothing.
 use Rattle.std.proofs.Common.{◌-◌, ◌≤◌}
 use Rattle.sheet.specs.Layout.{numbers}
 use Rattle.sheet.proofs.Checks.{Summed}

@@ -1,5 +1,5 @@
--- `unused_sum` meets its contract. The invariant of its loop: the sum so far and the sum of the bytes still to come are the whole; each byte adds at most 255.
--- The measure is how many bytes are left. Assumes nothing.
+-- The invariant of the loop of `unused_sum`: the sum so far and the sum of the bytes still to come are the whole; each byte adds at most 255. The
+-- measure is how many bytes are left. Assumes nothing.
 use Rattle.std.proofs.Common.{◌≡◌, ◌+◌, ◌-◌, ◌*◌, ◌≤◌}
 use lib.Seq.{slice}
 use Rattle.sheet.specs.Layout.{unused}

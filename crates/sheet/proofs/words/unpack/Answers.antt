@@ -1,5 +1,4 @@
--- `unpack` meets its contract. The invariant of its loop: the results are the first i words and then what stood there, and their length is as it was.
--- The measure is how many words are left. Assumes nothing.
+-- `unpack` meets its contract. Assumes nothing.
 use Rattle.std.proofs.Common.{refl, ◌∙◌, arith, length-set}
 use Rattle.sheet.proofs.Packing.{word_inside, unpacked_more, unpacked_all}
 use Rattle.sheet.proofs.words.unpack.Goals as goal

@@ -1,5 +1,5 @@
--- `unpack` meets its contract. The invariant of its loop: the results are the first i words and then what stood there, and their length is as it was.
--- The measure is how many words are left. Assumes nothing.
+-- The invariant of the loop of `unpack`: the results are the first i words and then what stood there, and their length is as it was. The measure is
+-- how many words are left. Assumes nothing.
 use Rattle.std.proofs.Common.{◌≡◌, ◌-◌, ◌≤◌, ◌++◌, length, take, drop}
 use Rattle.sheet.specs.Layout.{packed}
 use Rattle.sheet.proofs.words.unpack.Given as goal

@@ -1,5 +1,4 @@
--- `first_stray` meets its contract. The invariant of its loop: no word before the position is above all ones of n bits. The measure is how many words
--- are left. Assumes nothing.
+-- `first_stray` meets its contract. Assumes nothing.
 use Rattle.std.proofs.Common.{◌≡◌, ℕ, ◌-◌, ◌/◌, ◌^◌, ◌≤◌, arith, rules}
 use Rattle.bounds.proofs.Powers.{ones_shr}
 use Rattle.sheet.proofs.Contents.{none_above, one_more, found, not_found}

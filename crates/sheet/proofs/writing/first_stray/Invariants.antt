@@ -1,5 +1,5 @@
--- `first_stray` meets its contract. The invariant of its loop: no word before the position is above all ones of n bits. The measure is how many words
--- are left. Assumes nothing.
+-- The invariant of the loop of `first_stray`: no word before the position is above all ones of n bits. The measure is how many words are left.
+-- Assumes nothing.
 use Rattle.std.proofs.Common.{◌-◌, ◌≤◌, length}
 use Rattle.sheet.proofs.Contents.{NoneAbove}
 use Rattle.sheet.proofs.writing.first_stray.Given as goal

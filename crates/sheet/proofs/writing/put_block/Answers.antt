@@ -19,7 +19,7 @@ put_header-requires c =
 pub pack-requires : goal.pack-requires
 pack-requires c =
     let f = fitting _ _ _ c.requires.passes in
-    (sized _ f.wide, more_than_one _ f.wide f.made, omega (arith, f.inside, f.size, c.put_header.ensures.within.size), fit_bytes _ _ f.wide c.requires.fit_up_to)
+    (sized _ f.wide, more_than_one _ f.wide f.made, omega (arith, f.inside, f.size), fit_bytes _ _ f.wide c.requires.fit_up_to)
 
 pub overflow_mul-size : goal.overflow_mul-size
 overflow_mul-size c =
@@ -34,12 +34,12 @@ overflow_add-size c =
 pub clear-requires : goal.clear-requires
 clear-requires c =
     let f = fitting _ _ _ c.requires.passes in
-    (f.inside, omega (arith, f.size, c.put_header.ensures.within.size, c.pack.ensures.within.size))
+    (f.inside, omega (arith, f.size))
 
 pub seal-requires : goal.seal-requires
 seal-requires c =
     let f = fitting _ _ _ c.requires.passes in
-    c.clear.ensures.within.size ∙ c.pack.ensures.within.size ∙ c.put_header.ensures.within.size ∙ f.size
+    omega (arith, f.size)
 
 pub returns : goal.returns
 unfolding AreBytes

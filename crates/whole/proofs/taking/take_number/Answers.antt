@@ -3,6 +3,7 @@ use mathlib.Core.Path.{◌≡◌, refl, sym, ap, ◌∙◌, subst, subst₂}
 use mathlib.Core.Bool.{Bool, true, false}
 use Prim.Native.Nat.{ℕ, zero, suc, ◌+◌, ◌^◌, ◌≤◌, ◌<◌}
 use native.Mathlib.Omega.{arith}
+use borrow.Author.Differences.{ints}
 use borrow.Author.Tests.{ltb-true, ltb-false}
 use lib.Dec.{T}
 use lib.IntN.{ℤ, pos, negsuc, nat_abs, ◌+ℤ◌, ◌-ℤ◌}
@@ -59,7 +60,7 @@ module _ (h : ℤ) (small : mag h ≤ 254) where
 
 pub returns-then-size-ltminus1 : goal.returns-then-size-ltminus1
 returns-then-size-ltminus1 c =
-    let below : lt_z (to_z w32 (of_z w32 c.args.size.h)) (negsuc 0) ≡ true = cc in
+    let below : lt_z (to_z w32 (of_z w32 c.args.size.h)) (negsuc 0) ≡ true = grind (arith, ints) in
     let x = under c.args.size.h (tested c.args.size.h c.requires.1 below) in
     let few : c.args.size.m < 2 ^ 64 = omega arith in
     subst₂ (λ (z : ℤ) (a : Whole). TakesSize c.args.rule c.args.size.negative z c.args.size.m a) (sym x.1) (sym c.below_half.ensures)
@@ -67,20 +68,20 @@ returns-then-size-ltminus1 c =
 
 pub overflow_add-size : goal.overflow_add-size
 overflow_add-size c =
-    let left : lt_z (to_z w32 (of_z w32 c.args.size.h)) (negsuc 0) ≡ false = cc in
+    let left : lt_z (to_z w32 (of_z w32 c.args.size.h)) (negsuc 0) ≡ false = grind (arith, ints) in
     subst (λ (z : ℤ). SFits w32 z) (sym (sum c.args.size.h c.requires.1 left)) (sum_fits c.args.size.h c.requires.1 left)
 
 pub overflow_cast-size : goal.overflow_cast-size
 overflow_cast-size c =
-    let left : lt_z (to_z w32 (of_z w32 c.args.size.h)) (negsuc 0) ≡ false = cc in
+    let left : lt_z (to_z w32 (of_z w32 c.args.size.h)) (negsuc 0) ≡ false = grind (arith, ints) in
     subst (λ (z : ℤ). T (non_neg z) × Fits w32 (nat_abs z)) (sym (held c.args.size.h c.requires.1 left)) (tt, record { fits = omega (arith, (sum_fits c.args.size.h c.requires.1 left).sfits) })
 
 pub take_size-requires : goal.take_size-requires
 take_size-requires c =
-    let left : lt_z (to_z w32 (of_z w32 c.args.size.h)) (negsuc 0) ≡ false = cc in
+    let left : lt_z (to_z w32 (of_z w32 c.args.size.h)) (negsuc 0) ≡ false = grind (arith, ints) in
     (c.requires.0, subst (λ (z : ℤ). WholeWhereLarge z c.args.size.m) (sym (lowered c.args.size.h c.requires.1 left)) c.requires.2)
 
 pub returns : goal.returns
 returns c =
-    let left : lt_z (to_z w32 (of_z w32 c.args.size.h)) (negsuc 0) ≡ false = cc in
+    let left : lt_z (to_z w32 (of_z w32 c.args.size.h)) (negsuc 0) ≡ false = grind (arith, ints) in
     subst (λ (z : ℤ). TakesSize c.args.rule c.args.size.negative z c.args.size.m c.take_size.result) (lowered c.args.size.h c.requires.1 left) c.take_size.ensures

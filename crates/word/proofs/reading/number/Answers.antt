@@ -100,11 +100,11 @@ module _ (c : goal.After-exponent) where
       let t = c.args.t in
       exponent_is n t c.requires.0 c.requires.1 c.requires.2 _ (characteristic_is n t c.requires.0 c.requires.1 c.requires.2 _ c.cut-fields.ensures.characteristic) _ (sfits_of c.exponent.type_inv) c.exponent.ensures
 
-  h_fits : SFits w32 (to_z w32 (of_z w32 c.exponent.result) +ℤ to_z w32 (c.above_one-above.result / 2 ^ 63))
-  h_fits = sum_fits c.args.n c.args.t _ e_is (c.above_one-above.result / 2 ^ 63) (omega (arith, c.above_one-above.type_inv))
+  h_fits : (x : ℕ) → x ≤ 1 → SFits w32 (to_z w32 (of_z w32 c.exponent.result) +ℤ to_z w32 x)
+  h_fits = sum_fits c.args.n c.args.t _ e_is
 
 pub overflow_add-h : goal.overflow_add-h
-overflow_add-h c = h_fits c
+overflow_add-h c = h_fits c _ (omega (arith, c.above_one-above.type_inv))
 
 pub returns : goal.returns
 unfolding IsKind
@@ -118,6 +118,6 @@ returns c =
     let carry : to_z w32 (c.above_one-above.result / 2 ^ 63) ≡ pos (c.above_one-above.result / 2 ^ 63) = to_z_pos w32 {n = c.above_one-above.result / 2 ^ 63} (omega (arith, c.above_one-above.type_inv)) in
     let count = count_is n t long most behind _ c.regime_of.ensures in
     same_number _ _ (ap (λ (y : ℕ). eqb y 1) (sign_is n t long most behind))
-    (to_z-of_z {w = w32} (h_fits c.before) ∙ ap₂ (λ (y z : ℤ). y +ℤ z) (e_is c.before) (carry ∙ ap pos (carry_is n t long most behind _ above)))
+    (to_z-of_z {w = w32} (h_fits c.before _ (omega (arith, c.above_one-above.type_inv))) ∙ ap₂ (λ (y z : ℤ). y +ℤ z) (e_is c.before) (carry ∙ ap pos (carry_is n t long most behind _ above)))
     (ap₂ (λ (y k : ℕ). (2 ^ 63 + y) / 2 ^ (63 - k)) (c.low_bits.ensures ∙ ap (λ (y : ℕ). y % 2 ^ 63) above) count ∙ top.size_at_top (P n t) (few n t long most behind) (above_one n (T n t))) count
     (number_of_string n (T n t) long most (fits n t long most behind c.ranges.t.fits))

@@ -15,7 +15,7 @@ strays : (n w : ℕ) → 2 ≤ n → 2 ≤ w / 2 ^ (n - 1) → 2 ^ n ≤ w
 strays n w lo h = omega (arith, (le-div_iff_mul-le {x = 2} {y = w} (pow_pos (n - 1))).0 h, twice n lo)
 
 pub returns-then-word-self-lt2 : goal.returns-then-word-self-lt2
-returns-then-word-self-lt2 c = sym (stray_fits _ _ (fits _ _ c.requires.0 c.if-word-self-lt2.true))
+returns-then-word-self-lt2 c = sym (stray_fits _ _ (fits _ _ c.requires.0 (omega arith)))
 
 pub returns : goal.returns
-returns c = sym (stray_bit _ _ (strays _ _ c.requires.0 c.if-word-self-lt2.false))
+returns c = sym (stray_bit _ _ (strays _ _ c.requires.0 (omega arith)))

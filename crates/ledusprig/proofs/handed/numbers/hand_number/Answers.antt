@@ -1,6 +1,5 @@
 -- `hand_number` meets its contract: 0 divided by 0 is the NaN. The other cases are found by themselves. Assumes nothing.
 use lib.Ieee.{of_bits, div}
-use borrow.Author.Rules.{rules}
 use Rattle.ledusprig.proofs.handed.numbers.hand_number.Goals as goal
 
 pub returns-in-Nar : goal.returns-in-Nar

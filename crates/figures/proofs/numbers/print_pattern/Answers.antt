@@ -1,5 +1,4 @@
 -- `print_pattern` asks for the pattern only of what equals itself. Assumes nothing.
-use borrow.Author.Rules.{rules}
 use Rattle.binary64.proofs.Values.{equals_itself}
 use Rattle.figures.proofs.numbers.print_pattern.Goals as goal
 

@@ -1,5 +1,4 @@
 -- `print_signed` is safe: either way the number that it prints is not negative and fits. Assumes nothing.
-use borrow.Author.Rules.{rules}
 use mir.Syntax.{w64}
 use Rattle.word.proofs.Casts.{plain_cast, complement_fits, complement_cast, complement_more}
 use Rattle.figures.proofs.text.print_signed.Goals as goal

@@ -1,5 +1,5 @@
 -- `list_piece` meets its contract: it goes on only where bytes came, and is complete only where none did and the text is written. Assumes nothing.
-use Rattle.std.proofs.Common.{◌≡◌, ◌+◌, ◌<◌, true, eqb, ap, ◌∙◌, true≢false, pos_of_ne-zero, arith, rules, eq-eqb}
+use Rattle.std.proofs.Common.{◌≡◌, ◌+◌, ◌<◌, ap, ◌∙◌, true≢false, pos_of_ne-zero, arith, eq-eqb}
 use mathlib.Core.Bool.{false≢true}
 use borrow.Author.Tests.{eqb-false}
 use Rattle.listing.specs.Puts.{PutsSome}

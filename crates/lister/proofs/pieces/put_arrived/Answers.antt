@@ -1,5 +1,5 @@
 -- `put_arrived` meets its contract: the run lies in the buffer, there is room for its text, and its place follows from the bytes read. Assumes nothing.
-use Rattle.std.proofs.Common.{◌≡◌, ℕ, ◌+◌, ◌-◌, ◌/◌, ◌%◌, ◌≤◌, List, length, take, drop, sym, ap, ◌∙◌, subst, arith, rules}
+use Rattle.std.proofs.Common.{◌≡◌, ℕ, ◌+◌, ◌-◌, ◌/◌, ◌%◌, ◌≤◌, List, length, take, drop, sym, ap, ◌∙◌, subst, arith}
 use Rattle.listing.specs.Puts.{PutsSome}
 use Rattle.lister.specs.Arrived.{whole_blocks, until, arrived}
 use Rattle.lister.specs.Counts.{CountsBlocks}

@@ -1,5 +1,5 @@
 -- `write_out` is safe. Assumes nothing.
-use Rattle.std.proofs.Common.{sym, length-take-le, rules}
+use Rattle.std.proofs.Common.{sym, length-take-le}
 use Rattle.lister.proofs.pieces.write_out.Goals as goal
 
 pub slice_bounds-write_all-end : goal.slice_bounds-write_all-end

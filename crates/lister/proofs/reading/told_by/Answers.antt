@@ -1,5 +1,5 @@
 -- `told_by` meets its contract. Assumes nothing.
-use Rattle.std.proofs.Common.{refl, rules}
+use Rattle.std.proofs.Common.{refl}
 use Rattle.lister.proofs.Told.{failed, answered}
 use Rattle.lister.proofs.reading.told_by.Goals as goal
 

@@ -1,5 +1,5 @@
 -- `count_block` meets its contract. Assumes nothing.
-use Rattle.std.proofs.Common.{set, sym, ap, rules}
+use Rattle.std.proofs.Common.{set, sym, ap}
 use lib.Seq.{set_out}
 use Rattle.lister.specs.Counts.{with_one_more}
 use Rattle.lister.proofs.report.count_block.Goals as goal

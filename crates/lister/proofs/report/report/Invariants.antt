@@ -1,5 +1,5 @@
 -- `report` is safe and ends. Assumes nothing.
-use Rattle.std.proofs.Common.{◌-◌, length, rules}
+use Rattle.std.proofs.Common.{◌-◌, length}
 use Rattle.lister.proofs.report.report.Given as goal
 
 abbrev pub decreases-loop-number : goal.decreases-loop-number

@@ -1,14 +1,14 @@
 -- `put_blocks` meets its contract. The invariant of its loop: the text of the blocks before byte i stands, `here` is the place of the next, and the
 -- counts are those of the blocks before byte i. Assumes nothing.
-use Rattle.std.proofs.Common.{◌≡◌, ℕ, ◌+◌, ◌-◌, ◌*◌, ◌<◌, ◌≤◌, List, [], ◌++◌, length, refl, ap, ◌∙◌, subst, zero-le, arith, rules}
+use Rattle.std.proofs.Common.{ℕ, List, [], ◌++◌, refl, ap, ◌∙◌, subst, zero-le, arith}
 use Rattle.sheet.specs.Reads.{block_test}
 use Rattle.listing.specs.Listing.{most, text_room, ListsBlock, refusal_number}
-use Rattle.listing.specs.Puts.{Puts, PutsSome}
+use Rattle.listing.specs.Puts.{PutsSome}
 use Rattle.listing.proofs.Placed as Placed
 use Rattle.listing.proofs.Placed.{nothing_put, joined}
 use Rattle.lister.specs.Counts.{with_one_more}
 use Rattle.lister.proofs.Counted as Counted
-use Rattle.lister.proofs.Gathered.{SoFar, none_yet, one_more, all_of_them}
+use Rattle.lister.proofs.Gathered.{none_yet, one_more, all_of_them}
 use Rattle.lister.proofs.runs.put_blocks.Goals as goal
 
 pub loop-i-init : goal.loop-i-init

@@ -8,7 +8,7 @@ use Rattle.write.specs.Writes.{is_negative}
 use Rattle.binary64.specs.declared.taking.Binary64.{Binary64}
 
 -- The nearest binary64, ties to even, to the value z * 2^-307; zero is positive zero. It has the property `NearestBinary64` (Nearest.antt), and
--- only it has: proofs/Nearest.antt. Up to width 57 it has the value itself (`taken-exact` in proofs/Exactness.antt).
+-- only it has: proofs/Nearest.antt. Up to width 57 it has the value itself (`taken_exact` in proofs/Exactness.antt).
 unfoldable pub IsTakenBinary64 : Takum → Binary64 → Type 0
 IsTakenBinary64 (real z) a = a ≡ Binary64.Number (round binary64 (is_negative z) (nat_abs z) (2 ^ 307))
 IsTakenBinary64 NaR a = a ≡ Binary64.Nar

@@ -2,5 +2,3 @@
 
 -- where the public call allows one answer, one struct is handed over; no function's proof uses it
 pub mod OneOutcome
--- the numbers of rules
-pub mod Rules

@@ -13,6 +13,7 @@ use sheet::block::read_block;
 use sheet::writing::write_block;
 
 // The rule's number is asked first, so that each rule has a loop of its own.
+#[tactic(auto, unfolding(crate::specs::Handed::MovesTheColumn))]
 pub fn takum_move_column(
     from: u32,
     to: u32,
@@ -47,6 +48,7 @@ pub fn takum_read_block(block: &[u8], results: &mut [u64]) -> HandedBlock
     hand_block(read_block(block, results))
 }
 
+#[tactic(auto, unfolding(crate::specs::Handed::WritesTheBlock))]
 pub fn takum_write_block(width: u32, number: u32, words: &[u64], buffer: &mut [u8]) -> HandedWriting
     ensures { HandsOver writing_handed (WritesTheBlock width number words.now buffer.old buffer.new) result }
 {

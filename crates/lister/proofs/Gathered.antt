@@ -1,5 +1,5 @@
 -- The texts of a run's blocks, one after another: those that stand and those still to come. Assumes nothing.
-use Rattle.std.proofs.Common.{ℕ, suc, ◌+◌, ◌<◌, ◌≤◌, List, [], ◌++◌, length, take, drop, sym, subst, subst₂, append_assoc, append-nil, add-one, arith, length-drop, drop_of_length-le, drop-drop}
+use Rattle.std.proofs.Common.{ℕ, ◌+◌, ◌<◌, ◌≤◌, List, [], ◌++◌, length, take, drop, sym, subst, subst₂, append_assoc, append-nil, add-one, arith, length-drop, drop_of_length-le, drop-drop}
 use Rattle.listing.specs.Listing.{ListsBlock}
 use Rattle.lister.specs.Runs.{ListsBlocks, none, some}
 

@@ -7,13 +7,33 @@ mod report;
 mod runs;
 
 use crate::pieces::list_all;
-use crate::report::{NUMBERS, report};
+use crate::report::{NUMBERS, open_report, report};
+use std::env::{Env, FillError};
+use std::process::ExitCode;
+
+// The status of a program that writes to a pipe which nobody reads any more, as a shell tells it.
+const UNREAD: u8 = 141;
 
 // Only a script that reads the report starts the program with an argument. Else descriptor 3 is whatever somebody left open, and not ours to write to.
-fn main() {
+fn main(rt: HostRuntime) -> ExitCode {
     let mut counts = [0u64; NUMBERS];
-    let listed = list_all(&mut counts);
-    if listed.complete && os::arg_count() > 1 {
-        report(listed.place, &counts);
+    let listed = list_all(rt, &mut counts);
+    if listed.complete && has_argument(rt) {
+        if let Ok(mut to) = open_report(rt) {
+            report(&mut to, listed.place, &counts);
+        }
+    }
+    if listed.unread {
+        return ExitCode::from(UNREAD);
+    }
+    ExitCode::SUCCESS
+}
+
+// Whether there is one after the program's name, however long it is.
+fn has_argument(rt: HostRuntime) -> bool {
+    let mut start = [0u8; 1];
+    match rt.arg(1, &mut start) {
+        Err(FillError::NotPresent) => false,
+        _ => true,
     }
 }

@@ -40,7 +40,7 @@ nar = 0x6e ∷ 0x61 ∷ 0x72 ∷ []
 unfoldable pub over : List ℕ
 over = 0x6f ∷ 0x76 ∷ 0x65 ∷ 0x72 ∷ []
 
--- what stands for a refusal; a word of a block is refused only as NAR or OVER (`refused-only-nar-or-over` in proofs/Refusals.antt)
+-- what stands for a refusal; a word of a block is refused only as NAR or OVER (`refused_only_nar_or_over` in proofs/Refusals.antt)
 unfoldable pub refusal_text : Refusal → List ℕ
 refusal_text q = cond (eqb (number_of q) 5) over nar
 

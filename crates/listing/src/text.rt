@@ -1,7 +1,6 @@
 // Numbers as text, put into a lent buffer.
 ghost use Rattle.std.specs.Prelude.{◌≡◌, [], ◌∷◌, ◌+◌, ◌≤◌, ◌<◌, length};
-ghost use Rattle.io.specs.Digits.{last_digits, IsDigitCount};
-ghost use Rattle.io.specs.Digits.{hex_digit_ascii as Digits·glyph};
+ghost use Rattle.io.specs.Digits.{hex_digit_ascii, last_digits, IsDigitCount};
 ghost use Rattle.listing.specs.Puts.{Puts, PutsSome};
 ghost use Rattle.listing.specs.Text.{IsDecimal, IsSigned};
 
@@ -44,7 +43,7 @@ pub(crate) fn put_digits(out: &mut [u8], at: usize, n: u64, base: u64, count: us
 
 fn glyph(d: u64) -> u8
     requires { d < 16 }
-    ensures { result ≡ Digits·glyph d }
+    ensures { result ≡ hex_digit_ascii d }
 {
     if d < 10 {
         return 0x30 + d as u8;

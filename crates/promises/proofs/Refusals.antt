@@ -1,6 +1,6 @@
 -- Every call's refusals follow the table. Assumes nothing.
 use mathlib.Core.Path.{◌≡◌, subst}
-use Prim.Native.Nat.{ℕ, ◌-◌}
+use Prim.Native.Nat.{ℕ}
 use native.Mathlib.Omega.{arith}
 use Rattle.bounds.specs.Widths.{Makes, GivesWord, GivesLimit}
 use Rattle.word.specs.Takum.{takum, fraction_bits, own_fraction_bits}
@@ -8,7 +8,6 @@ use Rattle.word.specs.Reads.{Reads}
 use Rattle.sizes.specs.Sizes.{ReadsSize}
 use Rattle.order.specs.Orders.{Compares, Negates}
 use Rattle.nearest.specs.Offers.{FindsNearest}
-use Rattle.whole.specs.Wholes.{IsTakenWhole}
 use Rattle.binary64.specs.Takes as taken
 use Rattle.column.specs.Columns.{MovesColumn}
 use Rattle.column.proofs.Positions.{first}

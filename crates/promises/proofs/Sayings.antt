@@ -25,7 +25,6 @@ use Rattle.bounds.proofs.Answers.{word_of, GivesAWord, same_word, plain_word, wo
 use Rattle.bounds.proofs.Powers.{twice, shl_below}
 use Rattle.bounds.proofs.Verdicts.{word_passes, width_fits, width_through, move_passes, move_through, answered}
 use Rattle.word.specs.declared.reading.Kind.{Kind}
-use Rattle.word.specs.Takum as takums
 use Rattle.word.specs.Takum.{Takum, real, NaR, takum, fraction_bits}
 use Rattle.word.specs.Reads.{num, den, signed_size, IsKind, Reads}
 use Rattle.word.specs.Orders as orders

@@ -2,7 +2,7 @@
 use mathlib.Core.Path.{◌≡◌, refl, ap}
 use mathlib.Core.Bool.{Bool, true, false, ◌&&◌, ◌||◌}
 use mathlib.Core.Logic.{◌⊎◌, inl, inr}
-use Prim.Native.Nat.{ℕ, ◌-◌, ◌^◌}
+use Prim.Native.Nat.{ℕ, ◌^◌}
 use lib.Dec.{T, leb, ltb, leb→le, ltb→lt}
 use lib.IntN.{pos, nat_abs}
 use Rattle.word.specs.Takum.{Takum, real, NaR, takum}

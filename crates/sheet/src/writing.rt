@@ -67,7 +67,7 @@ fn first_stray(n: u32, words: &[u64]) -> usize
 
 // The block where it lies. A and B come last, since they are sums of all that stands before them.
 fn put_block(n: u32, number: u32, words: &[u64], buffer: &mut [u8])
-    requires buffer_value { content_test n (length words.now) buffer.old ≡ Verdict.Through }
+    requires passes { content_test n (length words.now) buffer.old ≡ Verdict.Through }
     requires fit_up_to { FitUpTo n words.now (length words.now) }
     ensures { IsBlockOf n number words.now buffer.new }
 {

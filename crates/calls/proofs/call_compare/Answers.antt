@@ -1,5 +1,4 @@
 -- `call_compare` meets its contract, by that of `takum_compare`. Assumes nothing.
-use borrow.Author.Rules.{rules}
 use Rattle.promises.proofs.FaceWords.{compare_hands}
 use Rattle.calls.proofs.call_compare.Goals as goal
 

@@ -1,5 +1,4 @@
 -- `call_largest` meets its contract, by that of `takum_largest`. Assumes nothing.
-use borrow.Author.Rules.{rules}
 use Rattle.promises.proofs.FaceWords.{largest_hands}
 use Rattle.calls.proofs.call_largest.Goals as goal
 

@@ -1,5 +1,4 @@
 -- `call_limit` meets its contract, by that of `takum_limit`. Assumes nothing.
-use borrow.Author.Rules.{rules}
 use Rattle.promises.proofs.FaceWords.{limit_hands}
 use Rattle.calls.proofs.call_limit.Goals as goal
 

@@ -1,5 +1,4 @@
 -- `call_move` meets its contract, by that of `takum_move`. Assumes nothing.
-use borrow.Author.Rules.{rules}
 use Rattle.promises.proofs.FaceLaws.{any_rule}
 use Rattle.promises.proofs.FaceNumbers.{move_hands}
 use Rattle.calls.proofs.call_move.Goals as goal

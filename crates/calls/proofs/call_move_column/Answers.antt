@@ -1,5 +1,4 @@
 -- `call_move_column` meets its contract, by that of `takum_move_column`. Assumes nothing.
-use borrow.Author.Rules.{rules}
 use Rattle.promises.proofs.FaceLaws.{any_rule}
 use Rattle.promises.proofs.FaceSlices.{column_hands}
 use Rattle.calls.proofs.call_move_column.Goals as goal

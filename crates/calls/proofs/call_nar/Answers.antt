@@ -1,5 +1,4 @@
 -- `call_nar` meets its contract, by that of `takum_nar`. Assumes nothing.
-use borrow.Author.Rules.{rules}
 use Rattle.promises.proofs.FaceWords.{NaR_hands}
 use Rattle.calls.proofs.call_nar.Goals as goal
 

@@ -1,5 +1,4 @@
 -- `call_negate` meets its contract, by that of `takum_negate`. Assumes nothing.
-use borrow.Author.Rules.{rules}
 use Rattle.promises.proofs.FaceWords.{negate_hands}
 use Rattle.calls.proofs.call_negate.Goals as goal
 

@@ -1,5 +1,4 @@
 -- `call_read` meets its contract, by that of `takum_read`. Assumes nothing.
-use borrow.Author.Rules.{rules}
 use Rattle.promises.proofs.FaceWords.{read_hands}
 use Rattle.calls.proofs.call_read.Goals as goal
 

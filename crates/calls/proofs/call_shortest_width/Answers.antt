@@ -1,6 +1,5 @@
 -- `call_shortest_width` meets its contract, by that of `takum_shortest_width`; the number goes through its machine form unchanged. Assumes nothing.
 use mir.Facts.{to_z-of_z}
-use borrow.Author.Rules.{rules}
 use Rattle.promises.proofs.FaceNumbers.{shortest_hands}
 use Rattle.calls.proofs.call_shortest_width.Goals as goal
 

@@ -1,5 +1,4 @@
 -- `call_smallest` meets its contract, by that of `takum_smallest`. Assumes nothing.
-use borrow.Author.Rules.{rules}
 use Rattle.promises.proofs.FaceWords.{smallest_hands}
 use Rattle.calls.proofs.call_smallest.Goals as goal
 

@@ -1,5 +1,4 @@
 -- `call_take_binary64` meets its contract, by that of `takum_take_binary64`. Assumes nothing.
-use borrow.Author.Rules.{rules}
 use Rattle.promises.proofs.FaceNumbers.{take_binary64_hands}
 use Rattle.calls.proofs.call_take_binary64.Goals as goal
 

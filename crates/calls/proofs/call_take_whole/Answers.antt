@@ -1,5 +1,4 @@
 -- `call_take_whole` meets its contract, by that of `takum_take_whole`. Assumes nothing.
-use borrow.Author.Rules.{rules}
 use Rattle.promises.proofs.FaceLaws.{any_taking}
 use Rattle.promises.proofs.FaceNumbers.{take_whole_hands}
 use Rattle.calls.proofs.call_take_whole.Goals as goal

@@ -1,5 +1,4 @@
 -- `call_write_binary64` meets its contract, by that of `takum_write_binary64`. Assumes nothing.
-use borrow.Author.Rules.{rules}
 use Rattle.promises.proofs.FaceLaws.{any_rule}
 use Rattle.promises.proofs.FaceNumbers.{write_binary64_hands}
 use Rattle.calls.proofs.call_write_binary64.Goals as goal

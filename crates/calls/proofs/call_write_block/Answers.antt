@@ -1,5 +1,4 @@
 -- `call_write_block` meets its contract, by that of `takum_write_block`. Assumes nothing.
-use borrow.Author.Rules.{rules}
 use Rattle.promises.proofs.FaceSheets.{written_hands}
 use Rattle.calls.proofs.call_write_block.Goals as goal
 

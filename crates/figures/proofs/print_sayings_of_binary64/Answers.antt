@@ -1,5 +1,4 @@
 -- `print_sayings_of_binary64`: its four patterns are none of a NaN. Assumes nothing.
-use borrow.Author.Rules.{rules}
 use lib.Ieee.{nan_bits}
 use Rattle.figures.proofs.print_sayings_of_binary64.Goals as goal
 

@@ -2,7 +2,6 @@
 use mathlib.Core.Path.{◌≡◌, sym, ap, ◌∙◌, subst}
 use Prim.Native.Nat.{ℕ}
 use native.Mathlib.Omega.{arith}
-use borrow.Author.Rules.{rules}
 use Rattle.word.specs.Orders.{negated}
 use Rattle.order.specs.Orders.{Negates}
 use Rattle.bounds.specs.declared.answer.Answer.{Answer}

@@ -1,5 +1,4 @@
 -- `number` meets its contract: the cast and the scaling are exact. Assumes nothing.
-use borrow.Author.Rules.{rules}
 use lib.Dec.{le→leb}
 use lib.Ieee.{in_float, of_int}
 use Rattle.binary64.proofs.Scaling.{scaling_exact}

@@ -1,6 +1,5 @@
 -- `write_binary64` meets its contract: a number is what its bits stand for. Assumes nothing.
 use mathlib.Core.Path.{sym, ap, ◌∙◌, subst}
-use borrow.Author.Rules.{rules}
 use lib.Dec.{T}
 use lib.Ieee.{Float, binary64, of_bits}
 use lib.Ieee.Bits.{of_bits-to_bits}

@@ -1,7 +1,7 @@
 -- `write_bits` meets its contract: the fields that it cuts out are those of the value. Assumes nothing.
 use mathlib.Core.Path.{◌≡◌, refl, sym, ap, ◌∙◌, subst}
 use mathlib.Core.Bool.{Bool, cond}
-use Prim.Native.Nat.{ℕ, ◌+◌, ◌*◌, ◌/◌, ◌^◌, ◌<◌}
+use Prim.Native.Nat.{ℕ, ◌+◌, ◌/◌, ◌^◌, ◌<◌}
 use native.Mathlib.Omega.{arith}
 use borrow.Author.Tests.{ne_eqb}
 use lib.Bits.{mask_lt}
@@ -27,12 +27,9 @@ use Rattle.binary64.proofs.Written.{unbounded_written, unbounded_said, written_w
 use Rattle.binary64.proofs.writing.write_bits.Goals as goal
 
 -- the fields of a number with a leading digit, as the machine holds them
-module _ (c : goal.Else-exponent-eq0) where
-  abbrev b : ℕ
-  b = c.args.bits
-
-  one : lead (field b) ≡ 1
-  one = ap (λ (t : Bool). cond t 0 1) (ne_eqb (field b) 0 c.if-exponent-eq0.false)
+module _ (b : ℕ) where
+  one : (field b ≡ 0 → ⊥) → lead (field b) ≡ 1
+  one some = ap (λ (t : Bool). cond t 0 1) (ne_eqb (field b) 0 some)
 
   field_fits : field b < 2 ^ 11
   field_fits = mask_lt (b / 2 ^ 52) 11
@@ -57,7 +54,7 @@ unfolding WritesBinary64AndSays WritesBinary64 GivesWord
 returns-then-exponent-eq2047 c = by c.nar.ensures
   where
     unbounded : Unbounded (of_bits binary64 c.args.bits)
-    unbounded = pattern_unbounded _ c.if-exponent-eq2047.true
+    unbounded = pattern_unbounded _ (omega arith)
 
     by : Decided (width_test c.args.width.bits) (λ q. c.nar.result ≡ Answer.Refused q) (c.nar.result ≡ Answer.Word (nar_word c.args.width.bits)) → WritesBinary64AndSays c.args.width.bits c.args.rule (of_bits binary64 c.args.bits) c.exactly.result
     by (through h x) = subst (WritesBinary64AndSays c.args.width.bits c.args.rule (of_bits binary64 c.args.bits)) (sym (c.exactly.ensures ∙ ap exactly x)) (word_said _ Exact (through h (unbounded_written _ _ _ _ unbounded refl)) (unbounded_said _ _ _ unbounded))
@@ -67,25 +64,30 @@ pub returns-then-exponent-eq0 : goal.returns-then-exponent-eq0
 unfolding WritesBinary64AndSays WritesBinary64 WritesAndSays Writes
 returns-then-exponent-eq0 c =
     let b = c.args.bits in
+    let bounded : field b ≡ 2047 → ⊥ = λ q. omega (arith, q) in
+    let none : field b ≡ 0 = omega arith in
     record {
-      answers = decided_as (λ q h. h) (written_without_lead _ _ _ b c.if-exponent-eq2047.false c.if-exponent-eq0.true) c.write.ensures.answers;
-      says = λ w q is. said_without_lead _ w q b c.if-exponent-eq2047.false c.if-exponent-eq0.true (c.write.ensures.says w q is);
+      answers = decided_as (λ q h. h) (written_without_lead _ _ _ b bounded none) c.write.ensures.answers;
+      says = λ w q is. said_without_lead _ w q b bounded none (c.write.ensures.says w q is);
     }
 
 pub overflow_add-m : goal.overflow_add-m
-overflow_add-m c = record { fits = omega (arith, digits_fit c) }
+overflow_add-m c = record { fits = omega (arith, digits_fit c.args.bits) }
 
 pub overflow_cast-k : goal.overflow_cast-k
-overflow_cast-k c = record { sfits = omega (arith, field_fits c) }
+overflow_cast-k c = record { sfits = omega (arith, field_fits c.args.bits) }
 
 pub overflow_sub-k : goal.overflow_sub-k
-overflow_sub-k c = subst (λ (z : ℤ). SFits w32 z) (sym (difference c)) (difference_fits c)
+overflow_sub-k c = subst (λ (z : ℤ). SFits w32 z) (sym (difference c.args.bits)) (difference_fits c.args.bits)
 
 pub returns : goal.returns
 unfolding WritesBinary64AndSays WritesBinary64 WritesAndSays Writes
 returns c =
-    let x = subst (λ (z : ℤ). WritesAndSays c.args.width.bits c.args.rule (record { negative = sign_bit c.args.bits; m = digits c.args.bits + 2 ^ 52; k = z }) c.write-2.result) (exponent c.before) c.write-2.ensures in
+    let b = c.args.bits in
+    let x = subst (λ (z : ℤ). WritesAndSays c.args.width.bits c.args.rule (record { negative = sign_bit b; m = digits b + 2 ^ 52; k = z }) c.write-2.result) (exponent b) c.write-2.ensures in
+    let bounded : field b ≡ 2047 → ⊥ = λ q. omega (arith, q) in
+    let led = one b (λ q. omega (arith, q)) in
     record {
-      answers = decided_as (λ q h. h) (written_with_lead _ _ _ c.args.bits c.if-exponent-eq2047.false (one c.before)) x.answers;
-      says = λ w q is. said_with_lead _ w q c.args.bits c.if-exponent-eq2047.false (one c.before) (x.says w q is);
+      answers = decided_as (λ q h. h) (written_with_lead _ _ _ b bounded led) x.answers;
+      says = λ w q is. said_with_lead _ w q b bounded led (x.says w q is);
     }

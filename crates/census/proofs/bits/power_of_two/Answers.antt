@@ -1,5 +1,5 @@
 -- `power_of_two` meets its contract: below 64 the shift loses nothing. Assumes nothing.
-use Rattle.std.proofs.Common.{◌≡◌, ℕ, ◌*◌, ◌%◌, ◌^◌, ◌<◌, ◌≤◌, ◌∙◌, one-mul, arith, pow_mono, shl_exact, rules}
+use Rattle.std.proofs.Common.{◌≡◌, ℕ, ◌*◌, ◌%◌, ◌^◌, ◌<◌, ◌≤◌, ◌∙◌, one-mul, arith, pow_mono, shl_exact}
 use Rattle.bounds.proofs.Limits.{below_power}
 use Rattle.census.proofs.bits.power_of_two.Goals as goal
 

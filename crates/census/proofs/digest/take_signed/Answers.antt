@@ -1,5 +1,5 @@
 -- `take_signed` is safe: either way the number that it takes in is not negative and fits. Assumes nothing.
-use Rattle.std.proofs.Common.{w64, rules}
+use Rattle.std.proofs.Common.{w64}
 use Rattle.word.proofs.Casts.{plain_cast, complement_fits, complement_cast}
 use Rattle.census.proofs.digest.take_signed.Goals as goal
 

@@ -1,5 +1,5 @@
 -- `exponent` is safe: so near to the origin, the difference fits 32 bits. Assumes nothing.
-use Rattle.std.proofs.Common.{ℕ, ◌≤◌, ℤ, pos, ◌-ℤ◌, sym, subst, arith, w32, SFits, to_z, rules}
+use Rattle.std.proofs.Common.{ℕ, ◌≤◌, ℤ, pos, ◌-ℤ◌, sym, subst, arith, w32, SFits, to_z}
 use mir.Facts.{to_z_pos}
 use Rattle.word.proofs.Signed.{sub_mag}
 use Rattle.census.proofs.exponent.exponent.Goals as goal

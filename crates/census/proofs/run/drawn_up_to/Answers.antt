@@ -1,5 +1,5 @@
 -- `drawn_up_to` meets its contract: what is left of a division is below the divisor. Assumes nothing.
-use Rattle.std.proofs.Common.{mod-lt, arith, rules}
+use Rattle.std.proofs.Common.{mod-lt, arith}
 use Rattle.census.proofs.run.drawn_up_to.Goals as goal
 
 pub overflow_add-result : goal.overflow_add-result

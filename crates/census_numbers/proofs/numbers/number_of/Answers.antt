@@ -1,5 +1,5 @@
 -- `number_of` is safe: a pattern that is not above infinity's is no NaN's. Assumes nothing.
-use Rattle.std.proofs.Common.{Bool, not, T, sym, ◌∙◌, subst, rules, le-ltb}
+use Rattle.std.proofs.Common.{Bool, not, T, sym, ◌∙◌, subst, le-ltb}
 use lib.Ieee.{binary64}
 use lib.Ieee.Bits.{nan_bits_above}
 use Rattle.census_numbers.proofs.numbers.number_of.Goals as goal

@@ -1,5 +1,4 @@
 -- `pattern_of` is safe: a number that equals itself is no NaN. Assumes nothing.
-use Rattle.std.proofs.Common.{rules}
 use Rattle.binary64.proofs.Values.{equals_itself}
 use Rattle.census_numbers.proofs.numbers.pattern_of.Goals as goal
 

@@ -1,5 +1,5 @@
 -- `whole_of` is safe: from the top bit on, what is missing to 2^64 - 1 is below 2^63. Assumes nothing.
-use Rattle.std.proofs.Common.{ℕ, ◌-◌, ◌^◌, ◌<◌, ℤ, negsuc, ◌-ℤ◌, sym, ap, ◌∙◌, subst, arith, w64, SFits, to_z, rules}
+use Rattle.std.proofs.Common.{ℕ, ◌-◌, ◌^◌, ◌<◌, ℤ, negsuc, ◌-ℤ◌, sym, ap, ◌∙◌, subst, arith, w64, SFits, to_z}
 use mir.Facts.{to_z_pos}
 use Rattle.word.proofs.Signed.{minus_one_less}
 use Rattle.census_numbers.proofs.numbers.whole_of.Goals as goal

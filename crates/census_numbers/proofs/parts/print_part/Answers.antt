@@ -1,5 +1,5 @@
 -- `print_part` is safe and ends: the number stays a width. The measure is the widths that are left. Assumes nothing.
-use Rattle.std.proofs.Common.{◌-◌, ◌≤◌, arith}
+use Rattle.std.proofs.Common.{arith}
 use Rattle.census_numbers.proofs.parts.print_part.Goals as goal
 
 pub loop-n-init : goal.loop-n-init

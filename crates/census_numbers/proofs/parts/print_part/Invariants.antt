@@ -1,5 +1,5 @@
 -- `print_part` is safe and ends: the number stays a width. The measure is the widths that are left. Assumes nothing.
-use Rattle.std.proofs.Common.{◌-◌, ◌≤◌, arith}
+use Rattle.std.proofs.Common.{◌-◌, ◌≤◌}
 use Rattle.census_numbers.proofs.parts.print_part.Given as goal
 
 abbrev pub invariant-loop-n : goal.invariant-loop-n

@@ -1,5 +1,5 @@
 -- `print_runs` is safe and ends. The measure is the places that are left; nothing has to hold from turn to turn. Assumes nothing.
-use Rattle.std.proofs.Common.{◌-◌, arith}
+use Rattle.std.proofs.Common.{arith}
 use Rattle.census_numbers.proofs.runs.print_runs.Goals as goal
 
 pub end_of-end-requires : goal.end_of-end-requires

@@ -1,5 +1,5 @@
 -- `print_short_power` is safe and ends: a step below 2^63 can be doubled. The measure is what the step lacks of the power. Assumes nothing.
-use Rattle.std.proofs.Common.{◌-◌, ◌^◌, ◌≤◌, arith, rules}
+use Rattle.std.proofs.Common.{◌-◌, ◌^◌, ◌≤◌}
 use Rattle.census_numbers.proofs.shortest.print_short_power.Given as goal
 
 abbrev pub invariant-loop-step : goal.invariant-loop-step

@@ -1,5 +1,5 @@
 -- `print_short_words` is safe and ends: there are no more whole numbers than words passed. The measure is the words that are left. Assumes nothing.
-use Rattle.std.proofs.Common.{◌-◌, ◌≤◌, ⊎_elim, arith, rules}
+use Rattle.std.proofs.Common.{arith, rules}
 use Rattle.census_numbers.proofs.shortest.print_short_words.Goals as goal
 
 pub words_of-end-requires : goal.words_of-end-requires
@@ -21,4 +21,4 @@ pub loop-word-smaller : goal.loop-word-smaller
 loop-word-smaller c = omega arith
 
 pub loop-word-preserved : goal.loop-word-preserved
-loop-word-preserved c = ⊎_elim (λ w. omega arith) (λ w. omega arith) c.match-take_whole.branch
+loop-word-preserved c = search rules

@@ -1,5 +1,5 @@
 -- `print_short_words` is safe and ends: there are no more whole numbers than words passed. The measure is the words that are left. Assumes nothing.
-use Rattle.std.proofs.Common.{◌-◌, ◌≤◌, ⊎_elim, arith, rules}
+use Rattle.std.proofs.Common.{◌-◌, ◌≤◌}
 use Rattle.census_numbers.proofs.shortest.print_short_words.Given as goal
 
 abbrev pub invariant-loop-word : goal.invariant-loop-word

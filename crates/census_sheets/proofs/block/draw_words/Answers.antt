@@ -1,5 +1,5 @@
 -- `draw_words` is safe and ends. The measure is the bytes that are left; nothing has to hold from turn to turn. Assumes nothing.
-use Rattle.std.proofs.Common.{◌-◌, arith}
+use Rattle.std.proofs.Common.{arith}
 use Rattle.census_sheets.proofs.block.draw_words.Goals as goal
 
 pub loop-at-init : goal.loop-at-init

@@ -1,5 +1,5 @@
 -- `times` is safe: the product of two numbers of 32 bits has at most 64. Assumes nothing.
-use Rattle.std.proofs.Common.{mul-le-mul, arith, rules}
+use Rattle.std.proofs.Common.{mul-le-mul, arith}
 use Rattle.census_sheets.proofs.block.times.Goals as goal
 
 pub overflow_mul-result : goal.overflow_mul-result

@@ -1,5 +1,5 @@
 -- `sentinels` is safe and ends. The measure is the places that are left; nothing has to hold from turn to turn. Assumes nothing.
-use Rattle.std.proofs.Common.{◌-◌, arith}
+use Rattle.std.proofs.Common.{arith}
 use Rattle.census_sheets.proofs.buffer.sentinels.Goals as goal
 
 pub loop-i-init : goal.loop-i-init

@@ -1,5 +1,5 @@
 -- `put` is safe and ends. The measure is the bytes that are left; nothing has to hold from turn to turn. Assumes nothing.
-use Rattle.std.proofs.Common.{◌-◌, arith}
+use Rattle.std.proofs.Common.{arith}
 use Rattle.census_sheets.proofs.bytes.put.Goals as goal
 
 pub overflow_add-end : goal.overflow_add-end

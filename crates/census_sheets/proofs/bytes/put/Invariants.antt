@@ -1,5 +1,5 @@
 -- `put` is safe and ends. The measure is the bytes that are left; nothing has to hold from turn to turn. Assumes nothing.
-use Rattle.std.proofs.Common.{◌-◌, arith}
+use Rattle.std.proofs.Common.{◌-◌}
 use Rattle.census_sheets.proofs.bytes.put.Given as goal
 
 abbrev pub invariant-loop-i : goal.invariant-loop-i

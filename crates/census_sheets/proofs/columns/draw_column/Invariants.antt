@@ -1,5 +1,5 @@
 -- `draw_column` is safe and ends. The measure is the places that are left; nothing has to hold from turn to turn. Assumes nothing.
-use Rattle.std.proofs.Common.{◌-◌, arith}
+use Rattle.std.proofs.Common.{◌-◌}
 use Rattle.census_sheets.proofs.columns.draw_column.Given as goal
 
 abbrev pub invariant-loop-place : goal.invariant-loop-place

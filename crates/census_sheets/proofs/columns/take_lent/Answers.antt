@@ -1,5 +1,5 @@
 -- `take_lent` is safe: the results are within the row. Assumes nothing.
-use Rattle.std.proofs.Common.{sym, arith, length-take-le, rules}
+use Rattle.std.proofs.Common.{sym, arith, length-take-le}
 use Rattle.census_sheets.proofs.columns.take_lent.Goals as goal
 
 pub slice_bounds-move_column-end : goal.slice_bounds-move_column-end

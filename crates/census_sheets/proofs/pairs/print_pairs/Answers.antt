@@ -1,5 +1,5 @@
 -- `print_pairs` is safe and ends: the target stays a width. The measure is the widths that are left. Assumes nothing.
-use Rattle.std.proofs.Common.{◌-◌, ◌≤◌, arith}
+use Rattle.std.proofs.Common.{arith}
 use Rattle.census_sheets.proofs.pairs.print_pairs.Goals as goal
 
 pub overflow_add-from : goal.overflow_add-from

@@ -1,5 +1,5 @@
 -- `print_pairs` is safe and ends: the target stays a width. The measure is the widths that are left. Assumes nothing.
-use Rattle.std.proofs.Common.{◌-◌, ◌≤◌, arith}
+use Rattle.std.proofs.Common.{◌-◌, ◌≤◌}
 use Rattle.census_sheets.proofs.pairs.print_pairs.Given as goal
 
 abbrev pub invariant-loop-to : goal.invariant-loop-to

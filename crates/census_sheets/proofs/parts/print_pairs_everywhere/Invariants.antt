@@ -1,5 +1,5 @@
 -- `print_pairs_everywhere` is safe and ends: the number stays a width. The measure is the widths that are left. Assumes nothing.
-use Rattle.std.proofs.Common.{◌-◌, ◌≤◌, arith}
+use Rattle.std.proofs.Common.{◌-◌, ◌≤◌}
 use Rattle.census_sheets.proofs.parts.print_pairs_everywhere.Given as goal
 
 abbrev pub invariant-loop-from : goal.invariant-loop-from

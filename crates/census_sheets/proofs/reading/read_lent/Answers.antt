@@ -1,5 +1,5 @@
 -- `read_lent` is safe: the results are within the row. Assumes nothing.
-use Rattle.std.proofs.Common.{sym, arith, length-take-le, rules}
+use Rattle.std.proofs.Common.{sym, arith, length-take-le}
 use Rattle.census_sheets.proofs.reading.read_lent.Goals as goal
 
 pub slice_bounds-read_block-end : goal.slice_bounds-read_block-end

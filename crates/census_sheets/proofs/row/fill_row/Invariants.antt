@@ -1,5 +1,5 @@
 -- `fill_row` is safe and ends. The measure is the places that are left, and the row keeps its length. Assumes nothing.
-use Rattle.std.proofs.Common.{◌≡◌, ◌-◌, length, arith, rules}
+use Rattle.std.proofs.Common.{◌≡◌, ◌-◌, length}
 use Rattle.census_sheets.proofs.row.fill_row.Given as goal
 
 abbrev pub invariant-loop-i : goal.invariant-loop-i

@@ -1,5 +1,5 @@
 -- `take_row` is safe and ends. The measure is the numbers that are left; nothing has to hold from turn to turn. Assumes nothing.
-use Rattle.std.proofs.Common.{◌-◌, arith}
+use Rattle.std.proofs.Common.{arith}
 use Rattle.census_sheets.proofs.row.take_row.Goals as goal
 
 pub loop-i-init : goal.loop-i-init

@@ -1,5 +1,5 @@
 -- `take_run` is safe and ends. The measure is the places that are left; nothing has to hold from turn to turn. Assumes nothing.
-use Rattle.std.proofs.Common.{◌-◌, arith}
+use Rattle.std.proofs.Common.{arith}
 use Rattle.census_sheets.proofs.runs.take_run.Goals as goal
 
 pub loop-place-init : goal.loop-place-init

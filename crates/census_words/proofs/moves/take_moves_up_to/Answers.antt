@@ -1,5 +1,5 @@
 -- `take_moves_up_to` is safe and ends. The measure is the widths that are left; nothing has to hold from turn to turn. Assumes nothing.
-use Rattle.std.proofs.Common.{◌-◌, arith}
+use Rattle.std.proofs.Common.{arith}
 use Rattle.census_words.proofs.moves.take_moves_up_to.Goals as goal
 
 pub loop-to-init : goal.loop-to-init

@@ -1,5 +1,5 @@
 -- `place_of` meets its contract: either way the part of h that it casts is not negative and fits. Assumes nothing.
-use Rattle.std.proofs.Common.{w32, rules}
+use Rattle.std.proofs.Common.{w32}
 use Rattle.word.proofs.Casts.{plain_cast, complement_fits, complement_cast}
 use Rattle.census_words.proofs.offers.place_of.Goals as goal
 

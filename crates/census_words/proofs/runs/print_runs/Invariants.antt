@@ -1,5 +1,5 @@
 -- `print_runs` is safe and ends. The measure is the places that are left; nothing has to hold from turn to turn. Assumes nothing.
-use Rattle.std.proofs.Common.{◌-◌, arith}
+use Rattle.std.proofs.Common.{◌-◌}
 use Rattle.census_words.proofs.runs.print_runs.Given as goal
 
 abbrev pub invariant-loop-first : goal.invariant-loop-first

@@ -1,5 +1,5 @@
 -- `take_ways_of` is safe and ends. The measure is the widths that are left; nothing has to hold from turn to turn. Assumes nothing.
-use Rattle.std.proofs.Common.{◌-◌, arith, rules}
+use Rattle.std.proofs.Common.{◌-◌}
 use Rattle.census_words.proofs.ways.take_ways_of.Given as goal
 
 abbrev pub invariant-loop-b : goal.invariant-loop-b

@@ -1,6 +1,5 @@
 -- `try_word` meets its contract: rounded, a word is refused only for a stray bit; strict, the move itself tells. Assumes nothing.
 use mathlib.Core.Path.{sym, ap, subst}
-use borrow.Author.Rules.{rules}
 use Rattle.bounds.specs.Sayings.{plain}
 use Rattle.round.specs.declared.value.Rule.{Rule}
 use Rattle.write.specs.Sayings.{MovesAndSays}

@@ -1,10 +1,8 @@
--- `try_words` meets its contract. The invariant of its loop: every word before the position is moved to some word. The measure is the number of words that
--- are left. Assumes nothing.
+-- The invariant of the loop of `try_words`: every word before the position is moved to some word. The measure is the number of words that are left.
+-- Assumes nothing.
 use Prim.Native.Nat.{◌-◌, ◌≤◌}
-use borrow.Author.Rules.{rules}
 use lib.ListN.{length}
 use Rattle.column.specs.Columns.{MovableUpTo}
-use Rattle.column.proofs.Walks.{none_tried, one_more_tried, first_refused, all_tried}
 use Rattle.column.proofs.moving.try_words.Given as goal
 
 abbrev pub invariant-loop-position : goal.invariant-loop-position

@@ -1,17 +1,9 @@
--- `write_words` meets its contract. The invariant of its loop: the first i results are the moved words, the others are as they were. The measure
--- is the number of words that are left. Assumes nothing.
-use mathlib.Core.Bool.{Bool, true, false}
-use mathlib.Core.Path.{refl}
-use Prim.Native.Nat.{◌-◌, ◌≤◌, zero-le}
-use native.Mathlib.Nat.{le_refl}
-use native.Mathlib.Omega.{arith}
-use mir.Val.{bool_byte}
-use borrow.Author.Rules.{rules}
+-- The invariant of the loop of `write_words`: the first i results are the moved words, the others are as they were. The measure is the number of
+-- words that are left. Assumes nothing.
+use Prim.Native.Nat.{◌-◌, ◌≤◌}
 use lib.ListN.{length}
-use Rattle.column.specs.Columns.{MovableUpTo, AreMoved}
-use Rattle.column.specs.Counts.{Counts, none, KeepsTheMeaning}
-use Rattle.column.proofs.Counts.{counts_le}
-use Rattle.column.proofs.Walks.{none_written, one_more_written, all_written, one_more_counted, all_counted}
+use Rattle.column.specs.Columns.{AreMoved}
+use Rattle.column.specs.Counts.{Counts, KeepsTheMeaning}
 use Rattle.column.proofs.moving.write_words.Given as goal
 
 abbrev pub invariant-loop-i : goal.invariant-loop-i

@@ -1,11 +1,6 @@
 -- `print_pattern` asks for the pattern only of what equals itself. Assumes nothing.
-use borrow.Author.Rules.{rules}
 use Rattle.binary64.proofs.Values.{equals_itself}
 use Rattle.figures.proofs.numbers.print_pattern.Goals as goal
-
--- GONE slice-aggregate-print-bytes: no such goal today
--- slice-aggregate-print-bytes : tie.Need-slice-aggregate-print-bytes
--- slice-aggregate-print-bytes c = search rules
 
 pub float_to_bits-x : goal.float_to_bits-x
 float_to_bits-x c = equals_itself _ c.if-x.false

@@ -1,21 +1,16 @@
 -- `print_signed` is safe: either way the number that it prints is not negative and fits. Assumes nothing.
-use borrow.Author.Rules.{rules}
 use mir.Syntax.{w64}
 use Rattle.word.proofs.Casts.{plain_cast, complement_fits, complement_cast, complement_more}
 use Rattle.figures.proofs.text.print_signed.Goals as goal
 
--- GONE slice-aggregate-print-bytes: no such goal today
--- slice-aggregate-print-bytes : tie.Need-slice-aggregate-print-bytes
--- slice-aggregate-print-bytes c = search rules
-
 pub overflow_sub-z : goal.overflow_sub-z
-overflow_sub-z c = complement_fits w64 tt c.ranges.z c.if1.true
+overflow_sub-z c = complement_fits w64 tt c.ranges.z c.if-z-lt0.true
 
 pub overflow_cast-z : goal.overflow_cast-z
-overflow_cast-z c = complement_cast w64 tt c.ranges.z c.if1.true
+overflow_cast-z c = complement_cast w64 tt c.ranges.z c.if-z-lt0.true
 
 pub overflow_add-z : goal.overflow_add-z
-overflow_add-z c = complement_more w64 tt c.ranges.z c.if1.true
+overflow_add-z c = complement_more w64 tt c.ranges.z c.if-z-lt0.true
 
 pub overflow_cast-z-2 : goal.overflow_cast-z-2
 overflow_cast-z-2 c = plain_cast w64 tt c.ranges.z c.if-z-lt0.false

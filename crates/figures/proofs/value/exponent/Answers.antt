@@ -1,6 +1,5 @@
 -- `exponent` is safe: no step leaves 64 bits. Assumes nothing.
 use Rattle.figures.proofs.Exponents.{wide, less, sum}
-use borrow.Author.Rules.{rules}
 use Rattle.figures.proofs.value.exponent.Goals as goal
 
 pub overflow_cast-result : goal.overflow_cast-result

@@ -1,5 +1,5 @@
 -- `list_all` is safe and ends: where the input or the output does, or after 2^60 bytes. The measure is the number of bytes left. Assumes nothing.
-use Rattle.std.proofs.Common.{◌≡◌, ℕ, ◌-◌, ◌^◌, length, sym, refl, ◌∙◌, true≢false, arith}
+use Rattle.std.proofs.Common.{ℕ, sym, refl, ◌∙◌, true≢false, arith}
 use mathlib.Core.Bool.{false≢true}
 use lib.ListN.{length-replicate}
 use Rattle.lister.proofs.pieces.list_all.Goals as goal
@@ -18,7 +18,7 @@ list_piece-next-requires c = let i = c.loop-total.invariant in
     (i.0, i.1, omega (arith, c.loop-total-test.true))
 
 pub shape_of-counts-then-next : goal.shape_of-counts-then-next
-shape_of-counts-then-next c = c.list_piece-next.auto.1.1.1.0 ∙ c.loop-total.invariant.2
+shape_of-counts-then-next c = c.list_piece-next.auto.counts ∙ c.loop-total.invariant.2
 
 pub returns-then-next : goal.returns-then-next
 returns-then-next c = (λ e. absurd (true≢false (sym c.if-next.true ∙ e)), c.list_piece-next.ensures.1)
@@ -32,7 +32,7 @@ pub loop-total-preserved : goal.loop-total-preserved
 loop-total-preserved c =
     let i = c.loop-total.invariant in
     let l = c.list_piece-next in
-    (l.auto.0 ∙ i.0, l.auto.1.0 ∙ i.1, l.auto.1.1.1.0 ∙ i.2)
+    (l.auto.piece ∙ i.0, l.auto.text ∙ i.1, l.auto.counts ∙ i.2)
 
 pub shape_of-counts : goal.shape_of-counts
 shape_of-counts c = c.loop-total.invariant.2

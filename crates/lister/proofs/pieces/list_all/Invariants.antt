@@ -1,7 +1,5 @@
 -- `list_all` is safe and ends: where the input or the output does, or after 2^60 bytes. The measure is the number of bytes left. Assumes nothing.
-use Rattle.std.proofs.Common.{◌≡◌, ℕ, ◌-◌, ◌^◌, length, sym, refl, ◌∙◌, true≢false, arith}
-use mathlib.Core.Bool.{false≢true}
-use lib.ListN.{length-replicate}
+use Rattle.std.proofs.Common.{◌≡◌, ◌-◌, ◌^◌, length}
 use Rattle.lister.proofs.pieces.list_all.Given as goal
 
 abbrev pub invariant-loop-total : goal.invariant-loop-total

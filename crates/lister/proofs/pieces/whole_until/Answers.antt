@@ -1,5 +1,5 @@
 -- `whole_until` meets its contract. Assumes nothing.
-use Rattle.std.proofs.Common.{rules, eq-eqb, ne_eqb}
+use Rattle.std.proofs.Common.{eq-eqb, ne_eqb}
 use Rattle.lister.specs.Arrived.{until}
 use Rattle.lister.proofs.pieces.whole_until.Goals as goal
 

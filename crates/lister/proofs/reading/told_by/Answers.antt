@@ -1,17 +1,10 @@
 -- `told_by` meets its contract. Assumes nothing.
-use Rattle.std.proofs.Common.{length, ℤ, pos, sym, refl, ap, ◌∙◌, to_z-of_z, rules}
-use lib.Signed.{lt_z}
-use Rattle.io.specs.Counts.{clamp_len}
+use Rattle.std.proofs.Common.{refl}
 use Rattle.lister.proofs.Told.{failed, answered}
 use Rattle.lister.proofs.reading.told_by.Goals as goal
 
--- GONE slice-aggregate-fail: no such goal today
--- slice-aggregate-fail : tie.Need-slice-aggregate-fail
--- slice-aggregate-fail c = search rules
+pub returns-in-Ok : goal.returns-in-Ok
+returns-in-Ok c = rw c.in-Ok.is (answered _ _ _ _ c.min-count.ensures refl)
 
-pub returns-then-answer-lt0 : goal.returns-then-answer-lt0
-returns-then-answer-lt0 c = failed c.args.answer _ _ (sym (ap (λ (z : ℤ). lt_z z (pos 0)) (to_z-of_z c.ranges.answer)) ∙ c.if1.true) refl refl
-
-pub returns : goal.returns
-returns c = answered c.args.answer _ _ (sym (ap (λ (z : ℤ). lt_z z (pos 0)) (to_z-of_z c.ranges.answer)) ∙ c.if-answer-lt0.false)
-    (c.count-count.ensures.1 ∙ ap (λ (z : ℤ). clamp_len z (length c.args.room.now)) (to_z-of_z c.ranges.answer)) refl
+pub returns-in-Err : goal.returns-in-Err
+returns-in-Err c = rw c.in-Err.is (failed _ _ _ refl refl)

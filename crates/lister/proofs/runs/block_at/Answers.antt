@@ -1,5 +1,5 @@
 -- `block_at` meets its contract. Assumes nothing.
-use Rattle.std.proofs.Common.{◌-◌, ◌≤◌, length, drop, sym, ◌∙◌, arith, length-drop, take_all, rules}
+use Rattle.std.proofs.Common.{◌-◌, ◌≤◌, length, drop, sym, ◌∙◌, arith, length-drop, take_all}
 use native.Mathlib.Nat.{add-sub_cancel_left}
 use Rattle.lister.proofs.runs.block_at.Goals as goal
 

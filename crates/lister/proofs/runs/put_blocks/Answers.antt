@@ -1,14 +1,14 @@
 -- `put_blocks` meets its contract. The invariant of its loop: the text of the blocks before byte i stands, `here` is the place of the next, and the
 -- counts are those of the blocks before byte i. Assumes nothing.
-use Rattle.std.proofs.Common.{◌≡◌, ℕ, ◌+◌, ◌-◌, ◌*◌, ◌<◌, ◌≤◌, List, [], ◌++◌, length, refl, ap, ◌∙◌, subst, zero-le, arith, rules}
+use Rattle.std.proofs.Common.{ℕ, List, [], ◌++◌, refl, ap, ◌∙◌, subst, zero-le, arith}
 use Rattle.sheet.specs.Reads.{block_test}
 use Rattle.listing.specs.Listing.{most, text_room, ListsBlock, refusal_number}
-use Rattle.listing.specs.Puts.{Puts, PutsSome}
+use Rattle.listing.specs.Puts.{PutsSome}
 use Rattle.listing.proofs.Placed as Placed
 use Rattle.listing.proofs.Placed.{nothing_put, joined}
 use Rattle.lister.specs.Counts.{with_one_more}
 use Rattle.lister.proofs.Counted as Counted
-use Rattle.lister.proofs.Gathered.{SoFar, none_yet, one_more, all_of_them}
+use Rattle.lister.proofs.Gathered.{none_yet, one_more, all_of_them}
 use Rattle.lister.proofs.runs.put_blocks.Goals as goal
 
 pub loop-i-init : goal.loop-i-init
@@ -38,7 +38,7 @@ loop-i-preserved c =
       k.3 ++ p.0.0,
       joined _ _ _ _ _ _ _ _ k.4 p.0.2,
       one_more c.args.piece.now c.args.place l.i l.here k.3 p.0.0 less k.5 (subst (λ (bs : List ℕ). ListsBlock bs l.here p.0.0) b p.0.1),
-      call.auto.1.1.1.1.0 ∙ k.6,
+      call.auto.counts ∙ k.6,
       Counted.one_more c.args.piece.now _ l.i l.counts _ less k.7 (p.2 ∙ ap (λ (bs : List ℕ). with_one_more (refusal_number (block_test bs most)) l.counts) b),
     )
 

@@ -1,14 +1,9 @@
 -- `put_blocks` meets its contract. The invariant of its loop: the text of the blocks before byte i stands, `here` is the place of the next, and the
 -- counts are those of the blocks before byte i. Assumes nothing.
-use Rattle.std.proofs.Common.{◌≡◌, ℕ, ◌+◌, ◌-◌, ◌*◌, ◌<◌, ◌≤◌, List, [], ◌++◌, length, refl, ap, ◌∙◌, subst, zero-le, arith, rules}
-use Rattle.sheet.specs.Reads.{block_test}
-use Rattle.listing.specs.Listing.{most, text_room, ListsBlock, refusal_number}
-use Rattle.listing.specs.Puts.{Puts, PutsSome}
-use Rattle.listing.proofs.Placed as Placed
-use Rattle.listing.proofs.Placed.{nothing_put, joined}
-use Rattle.lister.specs.Counts.{with_one_more}
+use Rattle.std.proofs.Common.{◌≡◌, ℕ, ◌+◌, ◌-◌, ◌*◌, ◌<◌, ◌≤◌, List, length}
+use Rattle.listing.specs.Puts.{Puts}
 use Rattle.lister.proofs.Counted as Counted
-use Rattle.lister.proofs.Gathered.{SoFar, none_yet, one_more, all_of_them}
+use Rattle.lister.proofs.Gathered.{SoFar}
 use Rattle.lister.proofs.runs.put_blocks.Given as goal
 
 abbrev pub invariant-loop-i : goal.invariant-loop-i

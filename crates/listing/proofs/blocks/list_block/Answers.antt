@@ -1,17 +1,16 @@
 -- `list_block` meets its contract: what the test of the room refuses leaves the slice as it came, and else there is room for the text. Assumes nothing.
 use mathlib.Core.Path.{◌≡◌, refl, sym, ◌∙◌}
-use lib.ListN.{length}
+use Prim.Native.Nat.{ℕ}
 use Rattle.bounds.specs.declared.refusal.Verdict.{Verdict}
 use Rattle.bounds.specs.Refusals.{room_test, through, refused}
 use Rattle.bounds.proofs.Rooms.{room_through}
 use Rattle.listing.specs.Listing.{most, text_room, ListsInto}
-use borrow.Author.Rules.{rules}
 use Rattle.listing.proofs.blocks.list_block.Goals as goal
 
 -- what is known once the test has let the slice through
-told : (c : goal.In_default) → room_test text_room (length c.args.out.now) ≡ Verdict.Through
+told : (v : Verdict) (room : ℕ) → v ≡ room_test 47616 room → v ≡ Verdict.Through → room_test text_room room ≡ Verdict.Through
 unfolding text_room
-told c = sym c.test_room-verdict.ensures ∙ c.in_default.is
+told v room e h = sym e ∙ h
 
 pub returns-in-Refused : goal.returns-in-Refused
 unfolding ListsInto text_room
@@ -24,8 +23,8 @@ slice_bounds-put_block-end c = refl
 
 pub put_block-requires : goal.put_block-requires
 unfolding most
-put_block-requires c = (refl, room_through text_room _ (told c.before.before))
+put_block-requires c = (refl, room_through text_room _ (told c.test_room-verdict.result _ c.test_room-verdict.ensures c.in_default.is))
 
 pub returns : goal.returns
 unfolding ListsInto
-returns c = through (told c.before.before.before.before.before.before) c.put_block.ensures
+returns c = through (told c.test_room-verdict.result _ c.test_room-verdict.ensures c.in_default.is) c.put_block.ensures

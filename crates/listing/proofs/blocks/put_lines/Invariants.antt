@@ -1,18 +1,9 @@
--- `put_lines` meets its contract. The invariant of its loop: the lines of the words before i stand. Assumes nothing.
-use mathlib.Core.Path.{sym, subst}
-use mathlib.Core.List.{List, [], ◌++◌}
-use Prim.Native.Nat.{ℕ, ◌+◌, ◌-◌, ◌*◌, ◌≤◌, zero-le}
-use native.Mathlib.Numerals.{add-one-le}
-use native.Mathlib.Omega.{arith}
-use borrow.Author.Count.{falls}
-use borrow.Author.Rules.{rules}
+-- The invariant of the loop of `put_lines`: the lines of the words before i stand. Assumes nothing.
+use mathlib.Core.List.{List}
+use Prim.Native.Nat.{ℕ, ◌+◌, ◌-◌, ◌*◌, ◌≤◌}
 use lib.ListN.{take}
-use lib.Seq.{length-take-le, get_or-take}
-use Rattle.listing.specs.Puts.{Puts, PutsSome}
-use Rattle.listing.specs.Text.{IsLine}
-use Rattle.listing.proofs.Placed as Placed
-use Rattle.listing.proofs.Placed.{nothing_put, joined}
-use Rattle.listing.proofs.Listed.{SoFar, none_yet, one_more, all_of_them}
+use Rattle.listing.specs.Puts.{Puts}
+use Rattle.listing.proofs.Listed.{SoFar}
 use Rattle.listing.proofs.blocks.put_lines.Given as goal
 
 abbrev pub invariant-loop-i : goal.invariant-loop-i

@@ -5,7 +5,6 @@ use Rattle.listing.specs.Puts.{PutsSome}
 use Rattle.listing.specs.Text.{IsField, space}
 use Rattle.listing.proofs.Digits.{short_decimal}
 use Rattle.listing.proofs.Placed.{joined}
-use borrow.Author.Rules.{rules}
 use Rattle.listing.proofs.lines.put_field.Goals as goal
 
 pub returns : goal.returns

@@ -1,7 +1,6 @@
 -- `put_hex` meets its contract: a word of at most 64 bits has at most 16 digits. Assumes nothing.
 use native.Mathlib.Omega.{arith}
 use Rattle.listing.specs.Text.{hex_of}
-use borrow.Author.Rules.{rules}
 use Rattle.listing.proofs.lines.put_hex.Goals as goal
 
 pub returns : goal.returns

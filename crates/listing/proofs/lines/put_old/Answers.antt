@@ -7,18 +7,13 @@ use Rattle.listing.specs.Puts.{Puts}
 use Rattle.listing.specs.Text.{space, old}
 use Rattle.listing.proofs.Old.{is_old, isn't_old}
 use Rattle.listing.proofs.Placed.{nothing_put}
-use borrow.Author.Rules.{rules}
 use Rattle.listing.proofs.lines.put_old.Goals as goal
-
--- GONE slice-aggregate-put-text: no such goal today
--- slice-aggregate-put-text : tie.Need-slice-aggregate-put-text
--- slice-aggregate-put-text c = search rules
 
 pub returns-then-width-eq-RETIRED : goal.returns-then-width-eq-RETIRED
 unfolding old space
 returns-then-width-eq-RETIRED c =
     let p = c.put_text in
-    (subst (λ (t : List ℕ). Puts c.args.out.now c.args.at t p.new.0 p.result) (sym (is_old _ (omega (arith, c.if1.true)))) p.ensures, omega (arith, p.ensures.place))
+    (subst (λ (t : List ℕ). Puts c.args.out.now c.args.at t p.new.out p.result) (sym (is_old _ (omega (arith, c.if-width-eq-RETIRED.true)))) p.ensures, omega (arith, p.ensures.place))
 
 pub returns : goal.returns
 returns c =

@@ -4,7 +4,6 @@ use native.Mathlib.Omega.{arith}
 use Rattle.listing.specs.Puts.{PutsSome}
 use Rattle.listing.specs.Text.{IsOwnText, space}
 use Rattle.listing.proofs.Placed.{joined}
-use borrow.Author.Rules.{rules}
 use Rattle.listing.proofs.lines.put_own.Goals as goal
 
 pub returns : goal.returns

@@ -6,25 +6,16 @@ use Prim.Native.Nat.{ℕ}
 use borrow.Author.Tests.{eq-eqb, ne_eqb}
 use Rattle.listing.specs.Puts.{Puts}
 use Rattle.listing.specs.Text.{nar, over, refusal_text}
-use borrow.Author.Rules.{rules}
 use Rattle.listing.proofs.lines.put_refusal.Goals as goal
-
--- GONE slice-aggregate-put-text: no such goal today
--- slice-aggregate-put-text : tie.Need-slice-aggregate-put-text
--- slice-aggregate-put-text c = search rules
 
 pub returns-then-number-eq5 : goal.returns-then-number-eq5
 unfolding refusal_text nar over
 returns-then-number-eq5 c =
     let p = c.put_text in
-    subst (λ (t : List ℕ). Puts c.args.out.now c.args.at t p.new.0 p.result) (sym (ap (λ (b : Bool). cond b over nar) (eq-eqb _ 5 (sym c.number.ensures ∙ c.if1.true)))) p.ensures
-
--- GONE slice-aggregate-put-text-2: no such goal today
--- slice-aggregate-put-text-2 : tie.Need-slice-aggregate-put-text-2
--- slice-aggregate-put-text-2 c = search rules
+    subst (λ (t : List ℕ). Puts c.args.out.now c.args.at t p.new.out p.result) (sym (ap (λ (b : Bool). cond b over nar) (eq-eqb _ 5 (sym c.number.ensures ∙ c.if-number-eq5.true)))) p.ensures
 
 pub returns : goal.returns
 unfolding refusal_text nar over
 returns c =
     let p = c.put_text-2 in
-    subst (λ (t : List ℕ). Puts c.args.out.now c.args.at t p.new.0 p.result) (sym (ap (λ (b : Bool). cond b over nar) (ne_eqb _ 5 (λ q. c.if1.false (c.number.ensures ∙ q))))) p.ensures
+    subst (λ (t : List ℕ). Puts c.args.out.now c.args.at t p.new.out p.result) (sym (ap (λ (b : Bool). cond b over nar) (ne_eqb _ 5 (λ q. c.if-number-eq5.false (c.number.ensures ∙ q))))) p.ensures

@@ -1,4 +1,4 @@
--- `places` meets its contract. The invariant of its loop: what is left of n after k digits. Assumes nothing.
+-- `places` meets its contract. Assumes nothing.
 use mathlib.Core.Path.{◌≡◌, refl, sym, ap, ◌∙◌, subst}
 use Prim.Native.Nat.{ℕ, ◌+◌, ◌-◌, ◌/◌, ◌^◌, ◌≤◌, ◌<◌}
 use native.Mathlib.Nat.{div-lt_self}

@@ -1,10 +1,6 @@
--- `places` meets its contract. The invariant of its loop: what is left of n after k digits. Assumes nothing.
-use mathlib.Core.Path.{◌≡◌, refl, sym, ap, ◌∙◌, subst}
-use Prim.Native.Nat.{ℕ, ◌+◌, ◌-◌, ◌/◌, ◌^◌, ◌≤◌, ◌<◌}
-use native.Mathlib.Nat.{div-lt_self}
-use native.Mathlib.Omega.{arith}
-use lib.Dec.{lit<, lit≤}
-use Rattle.listing.proofs.Digits.{nothing_left, something_left, one_further, few}
+-- The invariant of the loop of `places`: what is left of n after k digits. Assumes nothing.
+use mathlib.Core.Path.{◌≡◌}
+use Prim.Native.Nat.{◌-◌, ◌/◌, ◌^◌, ◌≤◌, ◌<◌}
 use Rattle.listing.proofs.text.places.Given as goal
 
 abbrev pub invariant-loop-rest : goal.invariant-loop-rest

@@ -1,6 +1,5 @@
 -- `put_byte` meets its contract. Assumes nothing.
 use Rattle.listing.proofs.Placed.{byte_put}
-use borrow.Author.Rules.{rules}
 use Rattle.listing.proofs.text.put_byte.Goals as goal
 
 pub returns : goal.returns

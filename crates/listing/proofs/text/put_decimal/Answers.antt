@@ -3,7 +3,6 @@ use mathlib.Core.Path.{refl}
 use native.Mathlib.Omega.{arith}
 use Rattle.listing.specs.Puts.{PutsSome}
 use Rattle.listing.specs.Text.{IsDecimal}
-use borrow.Author.Rules.{rules}
 use Rattle.listing.proofs.text.put_decimal.Goals as goal
 
 pub returns : goal.returns

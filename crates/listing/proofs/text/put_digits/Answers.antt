@@ -1,8 +1,7 @@
--- `put_digits` meets its contract. The invariant of its loop: the digits from the last one on stand, and the rest of the number gives those in
--- front of them. Assumes nothing.
+-- `put_digits` meets its contract. Assumes nothing.
 use mathlib.Core.Path.{◌≡◌, refl, ap, ap₂, ◌∙◌, subst}
 use mathlib.Core.List.{List, ◌++◌}
-use Prim.Native.Nat.{ℕ, ◌+◌, ◌-◌, ◌/◌, ◌%◌, ◌^◌, ◌≤◌, ◌<◌}
+use Prim.Native.Nat.{ℕ, ◌+◌, ◌-◌, ◌/◌, ◌%◌, ◌<◌}
 use native.Mathlib.Nat.{le_refl, mod-lt, lt_of_lt_of_le, lt_trans}
 use native.Mathlib.Omega.{arith}
 use borrow.Author.Count.{falls_down}

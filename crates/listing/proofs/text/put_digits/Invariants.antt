@@ -1,17 +1,10 @@
--- `put_digits` meets its contract. The invariant of its loop: the digits from the last one on stand, and the rest of the number gives those in
--- front of them. Assumes nothing.
-use mathlib.Core.Path.{◌≡◌, refl, ap, ap₂, ◌∙◌, subst}
-use mathlib.Core.List.{List, ◌++◌}
-use Prim.Native.Nat.{ℕ, ◌+◌, ◌-◌, ◌/◌, ◌%◌, ◌^◌, ◌≤◌, ◌<◌}
-use native.Mathlib.Nat.{le_refl, mod-lt, lt_of_lt_of_le, lt_trans}
-use native.Mathlib.Omega.{arith}
-use borrow.Author.Count.{falls_down}
-use borrow.Author.Rules.{rules}
-use lib.Dec.{lit<}
-use lib.ListN.{length, take, drop, set, length-set}
+-- The invariant of the loop of `put_digits`: the digits from the last one on stand, and the rest of the number gives those in front of them.
+-- Assumes nothing.
+use mathlib.Core.Path.{◌≡◌}
+use mathlib.Core.List.{◌++◌}
+use Prim.Native.Nat.{◌+◌, ◌-◌, ◌/◌, ◌^◌, ◌≤◌}
+use lib.ListN.{length, take, drop}
 use Rattle.io.specs.Digits.{last_digits}
-use Rattle.io.specs.Digits as Digits
-use Rattle.listing.proofs.Digits.{none_yet, whole_left, one_in_front, less_left, all_put}
 use Rattle.listing.proofs.text.put_digits.Given as goal
 
 abbrev pub invariant-loop-left : goal.invariant-loop-left

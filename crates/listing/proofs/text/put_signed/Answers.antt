@@ -11,7 +11,6 @@ use Rattle.word.proofs.Casts.{not_negative, is_negative, tested, plain_cast, pla
 use Rattle.listing.specs.Puts.{PutsSome}
 use Rattle.listing.specs.Text.{IsDecimal, IsSigned, minus}
 use Rattle.listing.proofs.Placed.{joined}
-use borrow.Author.Rules.{rules}
 use Rattle.listing.proofs.text.put_signed.Goals as goal
 
 below : (x : ℤ) (m : ℕ) (d : List ℕ) → x ≡ negsuc m → IsDecimal (suc m) d → IsSigned x (minus ∷ d)

@@ -1,7 +1,7 @@
--- `put_text` meets its contract. The invariant of its loop: the bytes up to i are copied. Assumes nothing.
+-- `put_text` meets its contract. Assumes nothing.
 use mathlib.Core.Path.{◌≡◌, sym, ap, ◌∙◌, subst}
 use mathlib.Core.List.{List}
-use Prim.Native.Nat.{ℕ, ◌+◌, ◌-◌, ◌≤◌, ◌<◌, zero-le}
+use Prim.Native.Nat.{ℕ, ◌+◌, ◌≤◌, ◌<◌, zero-le}
 use native.Mathlib.Nat.{le_antisymm}
 use native.Mathlib.Numerals.{add-one, add-one-le}
 use native.Mathlib.Omega.{arith}
@@ -12,8 +12,8 @@ use lib.Seq.{paste, paste-zero, paste-suc, length-paste}
 use Rattle.listing.proofs.Placed.{copied}
 use Rattle.listing.proofs.text.put_text.Goals as goal
 
-pasted : (s : goal.Start invariant-loop decreases-loop) (i : ℕ) → i ≤ length s.args.text.now → length (paste s.args.out.now s.args.at s.args.text.now i) ≡ length s.args.out.now
-pasted s i h = length-paste s.args.out.now s.args.at s.args.text.now i (omega (arith, h, s.requires)) h
+pasted : (out : List ℕ) (at : ℕ) (text : List ℕ) (i : ℕ) → at + length text ≤ length out → i ≤ length text → length (paste out at text i) ≡ length out
+pasted out at text i room h = length-paste out at text i (omega (arith, h, room)) h
 
 pub loop-i-init : goal.loop-i-init
 loop-i-init c = (zero-le, paste-zero c.args.out.now c.args.at c.args.text.now)
@@ -29,7 +29,7 @@ overflow_add-out c =
 pub bounds-out-at : goal.bounds-out-at
 bounds-out-at c =
     let i = c.loop-i.invariant in
-    subst (λ (l : ℕ). c.args.at + c.loop-i.i < l) (sym (ap length i.1 ∙ pasted c.before.before.before c.loop-i.i i.0)) (omega (arith, c.loop-i-test.true, c.requires))
+    subst (λ (l : ℕ). c.args.at + c.loop-i.i < l) (sym (ap length i.1 ∙ pasted _ _ _ c.loop-i.i c.requires i.0)) (omega (arith, c.loop-i-test.true, c.requires))
 
 pub loop-i-smaller : goal.loop-i-smaller
 loop-i-smaller c = falls (length c.args.text.now) c.loop-i.i c.loop-i-test.true
@@ -44,7 +44,7 @@ loop-i-preserved c =
     )
 
 pub shape_of-out : goal.shape_of-out
-shape_of-out c = ap length c.loop-i.invariant.1 ∙ pasted c.before.before c.loop-i.i c.loop-i.invariant.0
+shape_of-out c = ap length c.loop-i.invariant.1 ∙ pasted _ _ _ c.loop-i.i c.requires c.loop-i.invariant.0
 
 pub returns : goal.returns
 returns c =

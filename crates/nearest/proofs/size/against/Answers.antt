@@ -1,6 +1,5 @@
 -- `against` meets its contract: only where the two are equal does the rest decide. Assumes nothing.
 use native.Mathlib.Nat.{le_antisymm}
-use borrow.Author.Rules.{rules}
 use Rattle.nearest.proofs.Halves.{half_below, half_above, half_midway, past_under_half, past_half, past_over_half, for_half}
 use Rattle.nearest.proofs.size.against.Goals as goal
 

@@ -1,7 +1,6 @@
 -- `chosen` meets its contract. Assumes nothing.
 use mathlib.Core.Path.{sym, ap}
 use Rattle.nearest.specs.Parts.{chosen_of}
-use borrow.Author.Rules.{rules}
 use Rattle.nearest.proofs.size.chosen.Goals as goal
 
 pub returns-in-Under : goal.returns-in-Under

@@ -3,7 +3,6 @@ use mathlib.Core.Path.{subst}
 use Prim.Native.Nat.{ℕ, ◌-◌, ◌^◌, ◌≤◌, ◌<◌}
 use native.Mathlib.Omega.{arith}
 use Rattle.nearest.proofs.Halves.{margin_le, cut_up, cut_down}
-use borrow.Author.Rules.{rules}
 use Rattle.nearest.proofs.size.chosen_by_cut.Goals as goal
 
 pub overflow_sub-margin : goal.overflow_sub-margin

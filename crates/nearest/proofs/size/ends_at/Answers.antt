@@ -1,12 +1,11 @@
 -- `ends_at` meets its contract: the string, the significand behind it, and then the rest. Assumes nothing.
 use mathlib.Core.Bool.{Bool, true, false}
 use mathlib.Core.Logic.{inl, inr}
-use mathlib.Core.Path.{◌≡◌, refl, sym, ap, ◌∙◌}
+use mathlib.Core.Path.{◌≡◌, sym, ap, ◌∙◌}
 use Prim.Native.Nat.{ℕ, zero, ◌+◌, ◌-◌, ◌*◌, ◌%◌, ◌^◌, ◌≤◌, ◌<◌}
 use native.Mathlib.Nat.{pos_of_ne-zero, eq_of_mul-eq-mul_right, zero-mul}
 use native.Mathlib.Omega.{arith}
 use lib.Pow.{pow_pos, shl_exact}
-use borrow.Author.Rules.{rules}
 use Rattle.bounds.proofs.Powers.{shl_out}
 use Rattle.nearest.specs.Parts.{TellsEnd, is_none}
 use Rattle.nearest.proofs.Halves.{no_rest, some_rest}

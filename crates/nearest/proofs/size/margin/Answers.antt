@@ -1,7 +1,6 @@
 -- `margin` meets its contract. Assumes nothing.
 use mathlib.Core.Path.{sym, ap}
 use Rattle.nearest.specs.Parts.{margin_of}
-use borrow.Author.Rules.{rules}
 use Rattle.nearest.proofs.size.margin.Goals as goal
 
 pub returns-in-Nothing : goal.returns-in-Nothing

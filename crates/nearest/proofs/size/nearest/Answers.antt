@@ -1,21 +1,19 @@
 -- `nearest` meets its contract: the width, and the nearest word of the size with its top bit set. Assumes nothing.
 use mathlib.Core.Path.{◌≡◌, refl, sym, ◌∙◌, subst, subst₂}
-use Prim.Native.Nat.{ℕ, ◌+◌, ◌%◌, ◌^◌, ◌≤◌, ◌<◌}
+use Prim.Native.Nat.{ℕ, ◌+◌, ◌%◌, ◌^◌, ◌<◌}
 use native.Mathlib.Nat.{mod-lt, le-add_right}
 use native.Mathlib.Omega.{arith}
 use lib.IntN.{ℤ}
 use lib.Pow.{pow_pos}
 use mir.Facts.{to_z-of_z}
-use borrow.Author.Rules.{rules}
 use Rattle.bounds.specs.declared.answer.Written.{Written}
-use Rattle.bounds.specs.declared.refusal.Verdict.{Verdict}
 use Rattle.bounds.specs.declared.saying.Saying.{Saying}
-use Rattle.bounds.specs.Refusals.{width_test, through, refused}
+use Rattle.bounds.specs.Refusals.{through, refused}
 use Rattle.bounds.proofs.Verdicts.{width_through}
 use Rattle.bounds.proofs.Answers.{word_said, refusal_said}
 use Rattle.nearest.specs.declared.size.Near.{Near}
 use Rattle.nearest.specs.declared.size.Rest.{Rest}
-use Rattle.nearest.specs.Offers.{FindsNearest, IsRest}
+use Rattle.nearest.specs.Offers.{FindsNearest}
 use Rattle.nearest.specs.Parts.{saying_of, IsNear, with_sign, signed_saying}
 use Rattle.nearest.specs.Sayings.{SaysOffered, SaysFound, FindsAndSays}
 use Rattle.nearest.proofs.OneOutcome.{rest_one}

@@ -1,16 +1,16 @@
 -- `nearest_inside` meets its contract: the cut of the first bits is the word at or below, and the side of the midpoint decides. Assumes nothing.
 use mathlib.Core.Bool.{Bool, true, false, not}
 use mathlib.Core.Path.{◌≡◌, sym, ap, ◌∙◌, subst}
-use Prim.Native.Nat.{ℕ, zero, suc, ◌+◌, ◌-◌, ◌*◌, ◌/◌, ◌%◌, ◌^◌, ◌≤◌, ◌<◌}
+use Prim.Native.Nat.{ℕ, zero, ◌+◌, ◌-◌, ◌*◌, ◌/◌, ◌%◌, ◌^◌, ◌≤◌, ◌<◌}
 use native.Mathlib.Omega.{arith}
-use native.Mathlib.Nat.{pos_of_ne-zero, lt_of_lt_of_le}
+use native.Mathlib.Nat.{lt_of_lt_of_le}
 use lib.Dec.{eqb}
 use lib.Pow.{pow_mono}
 use lib.IntN.{ℤ}
 use lib.Signed.{mag}
 use mir.Facts.{to_z-of_z}
 use Rattle.bounds.specs.Refusals.{IsWord}
-use Rattle.word.specs.Takum.{c}
+use Rattle.word.specs.Takum as Takum
 use Rattle.nearest.specs.declared.size.Rest.{Rest}
 use Rattle.nearest.specs.declared.size.Side.{Side}
 use Rattle.nearest.specs.declared.size.Start.{Start}
@@ -19,7 +19,6 @@ use Rattle.nearest.proofs.Hub.{two_shifts, start_lt, below_end, at_zero, at_end,
 use Rattle.nearest.proofs.Sayings.{LowTells, by_end, by_nothing, said_short, said_beyond, said_largest, said_beside}
 use Rattle.nearest.proofs.Sides.{Given, lower_lt, gap_le, upper_small, under_upper}
 use Rattle.nearest.proofs.Exponents.{raise, raised_inj}
-use Rattle.nearest.specs.Offers.{IsNearest}
 use Rattle.nearest.specs.Parts.{Begins, first_bits, IsRaised, TellsPowers, ChoosesByCut, TellsEnd, TellsNothing, chosen_of, saying_of, IsNear}
 use Rattle.nearest.proofs.size.nearest_inside.Goals as goal
 
@@ -113,7 +112,7 @@ module _ (n : ℕ) (h : ℤ) (m : ℕ) (start : Start) (bits : ℕ) (k : Cut n h
     given = Hub.given n k.lo k.hi h e m rest start raised_is k.begins k.full k.top (low n bits) is first (omega (arith, inner))
 
     -- where it falls in the regime or the characteristic
-    coarse : (i j : ℕ) → n < 5 + start.r → IsRaised (c 64 (low n bits * 2 ^ (64 - n))) i → IsRaised (c 64 ((low n bits + 1) * 2 ^ (64 - n))) j → (f : ℕ) → f ≡ e → (side : Side) → TellsPowers i j f m rest side → (w : ℕ) → w ≡ chosen_of (low n bits) side → (exact : Bool) → TellsEnd n (low n bits) bits start.r m rest exact → IsNear n h m rest (record { word = w; past = false; exact = exact; up = not (eqb w (low n bits)) })
+    coarse : (i j : ℕ) → n < 5 + start.r → IsRaised (Takum.c 64 (low n bits * 2 ^ (64 - n))) i → IsRaised (Takum.c 64 ((low n bits + 1) * 2 ^ (64 - n))) j → (f : ℕ) → f ≡ e → (side : Side) → TellsPowers i j f m rest side → (w : ℕ) → w ≡ chosen_of (low n bits) side → (exact : Bool) → TellsEnd n (low n bits) bits start.r m rest exact → IsNear n h m rest (record { word = w; past = false; exact = exact; up = not (eqb w (low n bits)) })
     coarse i j short i_is j_is f same side t w q exact x = let near = by_powers n k.lo k.hi h e m rest start raised_is k.begins k.full k.top (low n bits) is first (omega (arith, inner)) i j short i_is j_is w side (subst (λ (f : ℕ). TellsPowers i j f m rest side) same t) q in
         record { is = near; lies = said_beside n k.lo k.hi h e m rest start raised_is k.begins k.full k.top (low n bits) is first (omega (arith, inner)) w near exact (told first exact x) }
 
@@ -147,21 +146,21 @@ ends_at-requires c =
 pub returns-then-ends_at : goal.returns-then-ends_at
 returns-then-ends_at c =
     let k : Cut c.args.n c.args.h c.args.m c.start_of-start.result c.first_bits-bits.result = cut c.args.n c.args.h _ c.args.m c.start_of-start.result c.first_bits-bits.result c.requires (to_z-of_z c.ranges.h) c.ranges.m.fits c.start_of-start.ensures c.first_bits-bits.ensures in
-    let first = pos_of_ne-zero c.if-low-eq0.false in
+    let first : zero < low c.args.n c.first_bits-bits.result = omega arith in
     subst (IsNear _ _ _ _) (sym c.beside.ensures)
     (largest c.args.n c.args.h c.args.m c.start_of-start.result c.first_bits-bits.result k c.args.rest first (c.if-low-last_word.true ∙ c.last_word.ensures) (subst (λ (b : Bool). TellsEnd c.args.n (low c.args.n c.first_bits-bits.result) c.first_bits-bits.result c.start_of-start.result.r c.args.m c.args.rest b) c.if-ends_at.true c.ends_at.ensures))
 
 pub returns-then-low-last_word : goal.returns-then-low-last_word
 returns-then-low-last_word c =
     let k : Cut c.args.n c.args.h c.args.m c.start_of-start.result c.first_bits-bits.result = cut c.args.n c.args.h _ c.args.m c.start_of-start.result c.first_bits-bits.result c.requires (to_z-of_z c.ranges.h) c.ranges.m.fits c.start_of-start.ensures c.first_bits-bits.ensures in
-    let first = pos_of_ne-zero c.if-low-eq0.false in
+    let first : zero < low c.args.n c.first_bits-bits.result = omega arith in
     subst (IsNear _ _ _ _) (sym c.end_word-then-low-last_word.ensures)
     (beyond c.args.n c.args.h c.args.m c.start_of-start.result c.first_bits-bits.result k c.args.rest first (c.if-low-last_word.true ∙ c.last_word.ensures) (subst (λ (b : Bool). TellsEnd c.args.n (low c.args.n c.first_bits-bits.result) c.first_bits-bits.result c.start_of-start.result.r c.args.m c.args.rest b) c.if-ends_at.false c.ends_at.ensures))
 
 pub exponent-requires : goal.exponent-requires
 exponent-requires c =
     let k : Cut c.args.n c.args.h c.args.m c.start_of-start.result c.first_bits-bits.result = cut c.args.n c.args.h _ c.args.m c.start_of-start.result c.first_bits-bits.result c.requires (to_z-of_z c.ranges.h) c.ranges.m.fits c.start_of-start.ensures c.first_bits-bits.ensures in
-    let first = pos_of_ne-zero c.if-low-eq0.false in
+    let first : zero < low c.args.n c.first_bits-bits.result = omega arith in
     let b = ends c.args.n c.args.h c.args.m c.start_of-start.result c.first_bits-bits.result k c.args.rest in
     (word_at _ _ k.lo k.hi b, first, b)
 
@@ -180,7 +179,7 @@ exponent-requires-then-n-start c =
 pub side_of_powers-side-requires : goal.side_of_powers-side-requires
 side_of_powers-side-requires c =
     let k : Cut c.args.n c.args.h c.args.m c.start_of-start.result c.first_bits-bits.result = cut c.args.n c.args.h _ c.args.m c.start_of-start.result c.first_bits-bits.result c.requires (to_z-of_z c.ranges.h) c.ranges.m.fits c.start_of-start.ensures c.first_bits-bits.ensures in
-    let first = pos_of_ne-zero c.if-low-eq0.false in
+    let first : zero < low c.args.n c.first_bits-bits.result = omega arith in
     let inner = room c.args.n c.args.h c.args.m c.start_of-start.result c.first_bits-bits.result k c.args.rest (λ q. c.if-low-last_word.false (q ∙ sym c.last_word.ensures)) in
     let g = given c.args.n c.args.h c.args.m c.start_of-start.result c.first_bits-bits.result k c.args.rest first inner in
     let short = c.if-n-start.true in
@@ -202,7 +201,7 @@ ends_at-requires-then-n-start c =
 pub returns-then-n-start : goal.returns-then-n-start
 returns-then-n-start c =
     let k : Cut c.args.n c.args.h c.args.m c.start_of-start.result c.first_bits-bits.result = cut c.args.n c.args.h _ c.args.m c.start_of-start.result c.first_bits-bits.result c.requires (to_z-of_z c.ranges.h) c.ranges.m.fits c.start_of-start.ensures c.first_bits-bits.ensures in
-    let first = pos_of_ne-zero c.if-low-eq0.false in
+    let first : zero < low c.args.n c.first_bits-bits.result = omega arith in
     let inner = room c.args.n c.args.h c.args.m c.start_of-start.result c.first_bits-bits.result k c.args.rest (λ q. c.if-low-last_word.false (q ∙ sym c.last_word.ensures)) in
     subst (IsNear _ _ _ _) (sym c.beside-then-n-start.ensures)
     (coarse c.args.n c.args.h c.args.m c.start_of-start.result c.first_bits-bits.result k c.args.rest first inner _ _ c.if-n-start.true c.exponent.ensures c.exponent-then-n-start.ensures _ (raised_result c.args.h _ k.near _ (to_z-of_z c.ranges.h) c.raised.ensures) _ c.side_of_powers-side.ensures _ c.chosen-word.ensures _ c.ends_at-then-n-start.ensures)
@@ -216,7 +215,7 @@ chosen_by_cut-word-requires c =
 pub returns : goal.returns
 returns c =
     let k : Cut c.args.n c.args.h c.args.m c.start_of-start.result c.first_bits-bits.result = cut c.args.n c.args.h _ c.args.m c.start_of-start.result c.first_bits-bits.result c.requires (to_z-of_z c.ranges.h) c.ranges.m.fits c.start_of-start.ensures c.first_bits-bits.ensures in
-    let first = pos_of_ne-zero c.if-low-eq0.false in
+    let first : zero < low c.args.n c.first_bits-bits.result = omega arith in
     let inner = room c.args.n c.args.h c.args.m c.start_of-start.result c.first_bits-bits.result k c.args.rest (λ q. c.if-low-last_word.false (q ∙ sym c.last_word.ensures)) in
     let kept = c.args.n - c.start_of-start.result.r in
     let shifts = two_shifts c.args.m (kept - 5) (kept - 4) (omega (arith, k.hi)) (omega (arith, c.if-n-start.false)) in

@@ -2,8 +2,7 @@
 use mathlib.Core.Bool.{Bool, true, false, true≢false}
 use mathlib.Core.Path.{◌≡◌, sym, subst, subst₂}
 use Prim.Native.Nat.{ℕ, ◌≤◌, ◌<◌}
-use borrow.Author.Rules.{rules}
-use lib.IntN.{ℤ, pos, negsuc}
+use lib.IntN.{ℤ}
 use lib.Signed.{mag}
 use mir.Syntax.{w64}
 use mir.Facts.{to_z-of_z}
@@ -20,10 +19,10 @@ unfolding TellsCharacteristic
 inside h true t q = t
 inside h false t q = absurd (true≢false (sym q))
 
-outside : (h : ℤ) (b : Bool) → TellsCharacteristic h b → b ≡ false → 254 < mag h
+outside : (h z : ℤ) (b : Bool) → z ≡ h → TellsCharacteristic z b → b ≡ false → 254 < mag h
 unfolding TellsCharacteristic
-outside h true t q = absurd (true≢false q)
-outside h false t q = t
+outside h z true same t q = absurd (true≢false q)
+outside h z false same t q = subst (λ (z : ℤ). 254 < mag z) same t
 
 pub nearest_inside-requires : goal.nearest_inside-requires
 nearest_inside-requires c = (c.requires.0, c.requires.1, c.requires.2, inside _ _ c.is_characteristic.ensures c.if-is_characteristic.true)
@@ -33,7 +32,7 @@ returns-then-is_characteristic c = subst (λ (z : ℤ). IsNear c.args.n z c.args
 
 pub returns-then-h-lt0 : goal.returns-then-h-lt0
 unfolding saying_of
-returns-then-h-lt0 c = let far = outside c.args.h c.is_characteristic.result (subst (λ (z : ℤ). TellsCharacteristic z c.is_characteristic.result) (to_z-of_z c.ranges.h) c.is_characteristic.ensures) c.if-is_characteristic.false in
+returns-then-h-lt0 c = let far = outside c.args.h _ _ (to_z-of_z c.ranges.h) c.is_characteristic.ensures c.if-is_characteristic.false in
     let h = is_negative c.args.h (tested w64 tt c.ranges.h c.if-h-lt0.true) in
     subst (IsNear _ _ _ _) (sym c.end_word.ensures)
     (record {
@@ -43,7 +42,7 @@ returns-then-h-lt0 c = let far = outside c.args.h c.is_characteristic.result (su
 
 pub returns : goal.returns
 unfolding saying_of
-returns c = let far = outside c.args.h c.is_characteristic.result (subst (λ (z : ℤ). TellsCharacteristic z c.is_characteristic.result) (to_z-of_z c.ranges.h) c.is_characteristic.ensures) c.if-is_characteristic.false in
+returns c = let far = outside c.args.h _ _ (to_z-of_z c.ranges.h) c.is_characteristic.ensures c.if-is_characteristic.false in
     let h = not_negative c.args.h (tested w64 tt c.ranges.h c.if-h-lt0.false) in
     subst (IsNear _ _ _ _) (sym c.end_word-2.ensures)
     (record {

@@ -1,9 +1,8 @@
 -- `nothing_is_cut` meets its contract: the bits cut off, and then the rest. Assumes nothing.
 use mathlib.Core.Bool.{Bool, true, false}
 use mathlib.Core.Logic.{inl, inr}
-use mathlib.Core.Path.{◌≡◌, refl, sym}
+use mathlib.Core.Path.{◌≡◌, sym}
 use native.Mathlib.Nat.{pos_of_ne-zero}
-use borrow.Author.Rules.{rules}
 use Rattle.nearest.specs.Parts.{TellsNothing, is_none}
 use Rattle.nearest.proofs.Halves.{no_rest, some_rest}
 use Rattle.nearest.proofs.size.nothing_is_cut.Goals as goal

@@ -4,7 +4,6 @@ use mathlib.Core.Logic.{⊎_elim}
 use Prim.Native.Nat.{ℕ, ◌-◌, ◌^◌, ◌≤◌, ◌<◌}
 use native.Mathlib.Omega.{arith}
 use native.Mathlib.Nat.{eq-or-lt_of_le}
-use borrow.Author.Rules.{rules}
 use Rattle.nearest.proofs.Halves.{far_under, near, wide_over, rest_side, rest_decides, for_powers}
 use Rattle.bounds.proofs.Powers.{one_shl}
 use Rattle.nearest.specs.Parts.{TellsHalf}

@@ -3,11 +3,9 @@ use mathlib.Core.Path.{ap}
 use Prim.Native.Nat.{ℕ, zero, ◌+◌, ◌-◌, ◌≤◌, ◌<◌}
 use native.Mathlib.Omega.{arith}
 use native.Mathlib.Nat.{lt_of_le_of_lt, le_of_suc-le-suc}
-use borrow.Author.Rules.{rules}
 use lib.Dec.{lit<}
 use lib.Count.{count_leading_zeros}
 use Rattle.bounds.proofs.Powers.{Log, leading_log}
-use Rattle.nearest.specs.Parts.{StartsAbove}
 use Rattle.nearest.proofs.Starts.{shifted_upper, upper_small}
 use Rattle.nearest.proofs.size.start_above.Goals as goal
 

@@ -7,7 +7,6 @@ use lib.Pow.{pow_mono}
 use Rattle.bounds.proofs.Powers.{one_shl, twice}
 use Rattle.word.proofs.Signed.{negated_other}
 use Rattle.nearest.specs.Parts.{with_sign}
-use borrow.Author.Rules.{rules}
 use Rattle.nearest.proofs.size.with_sign.Goals as goal
 
 -- NaR's word, and the carrier

@@ -1,6 +1,5 @@
 -- `compare_moved` meets its contract: it moves both words, then compares them, and the law follows. Assumes nothing.
 use mathlib.Core.Path.{refl, subst}
-use borrow.Author.Rules.{rules}
 use Rattle.round.specs.declared.value.Rule.{Rule}
 use Rattle.write.specs.Writes.{Moves}
 use Rattle.promises.specs.Moving.{goes_on, stops, GoesCompared}

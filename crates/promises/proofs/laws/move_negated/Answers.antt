@@ -1,6 +1,5 @@
 -- `move_negated` meets its contract: it negates, then moves, and the law follows. Assumes nothing.
 use mathlib.Core.Path.{refl, subst}
-use borrow.Author.Rules.{rules}
 use Rattle.order.specs.Orders.{Negates}
 use Rattle.promises.specs.Moving.{goes_on, stops, GoesNegated}
 use Rattle.promises.proofs.Moving.{goes_negated}

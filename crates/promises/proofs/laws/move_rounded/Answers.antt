@@ -1,6 +1,5 @@
 -- `move_rounded` meets its contract: what `move_word` answers, without its saying. Assumes nothing.
 use mathlib.Core.Path.{ap, subst}
-use borrow.Author.Rules.{rules}
 use Rattle.bounds.specs.Sayings.{plain}
 use Rattle.round.specs.declared.value.Rule.{Rule}
 use Rattle.write.specs.Writes.{Moves}

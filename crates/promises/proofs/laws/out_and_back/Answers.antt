@@ -1,6 +1,5 @@
 -- `out_and_back` meets its contract: it goes from move to move, and the law follows. Assumes nothing.
 use mathlib.Core.Path.{refl, subst}
-use borrow.Author.Rules.{rules}
 use Rattle.round.specs.declared.value.Rule.{Rule}
 use Rattle.write.specs.Writes.{Moves}
 use Rattle.promises.specs.Moving.{goes_on, stops, GoesOutAndBack}

@@ -1,5 +1,5 @@
 -- `read_block` meets its contract: what the tests refuse leaves the results as they were, and of what they let through the words are unpacked. Assumes nothing.
-use Rattle.std.proofs.Common.{sym, refl, ◌∙◌, arith, rules}
+use Rattle.std.proofs.Common.{sym, refl, ◌∙◌, arith}
 use Rattle.bounds.specs.Refusals.{through, refused}
 use Rattle.sheet.specs.Layout.{block_number}
 use Rattle.sheet.specs.Reads.{ReadsBlock, FillsResults}

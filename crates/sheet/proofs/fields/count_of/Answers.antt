@@ -1,6 +1,5 @@
 -- `count_of` meets its contract. Assumes nothing.
 use Rattle.sheet.specs.Layout.{count}
-use Rattle.std.proofs.Common.{rules}
 use Rattle.sheet.proofs.fields.count_of.Goals as goal
 
 pub returns : goal.returns

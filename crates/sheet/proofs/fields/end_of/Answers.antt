@@ -1,5 +1,5 @@
 -- `end_of` meets its contract. Assumes nothing.
-use Rattle.std.proofs.Common.{ℕ, ◌+◌, ◌*◌, ◌^◌, ◌<◌, ap₂, lt_of_le_of_lt, mul-le-mul, arith, lit<, rules}
+use Rattle.std.proofs.Common.{ℕ, ◌+◌, ◌*◌, ◌^◌, ◌<◌, ap₂, lt_of_le_of_lt, mul-le-mul, arith, lit<}
 use Rattle.sheet.specs.Layout.{end}
 use Rattle.sheet.proofs.fields.end_of.Goals as goal
 

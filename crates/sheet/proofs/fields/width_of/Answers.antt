@@ -1,6 +1,5 @@
 -- `width_of` meets its contract. Assumes nothing.
 use Rattle.sheet.specs.Layout.{width}
-use Rattle.std.proofs.Common.{rules}
 use Rattle.sheet.proofs.fields.width_of.Goals as goal
 
 pub returns : goal.returns

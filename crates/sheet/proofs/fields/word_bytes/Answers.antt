@@ -1,5 +1,5 @@
 -- `word_bytes` meets its contract: a word of n bits has n / 8 bytes. Assumes nothing.
-use Rattle.std.proofs.Common.{ℕ, ◌/◌, ap, arith, rules}
+use Rattle.std.proofs.Common.{ℕ, ◌/◌, ap, arith}
 use Rattle.sheet.specs.Layout.{word_bytes}
 use Rattle.sheet.proofs.fields.word_bytes.Goals as goal
 

@@ -1,5 +1,5 @@
 -- `four_bytes` meets its contract: two bytes beside two bytes. Assumes nothing.
-use Rattle.std.proofs.Common.{arith, lit≤, rules}
+use Rattle.std.proofs.Common.{arith, lit≤}
 use Rattle.sheet.proofs.LittleEndian.{two_parts}
 use Rattle.sheet.proofs.numbers.four_bytes.Goals as goal
 

@@ -1,5 +1,5 @@
 -- `put_eight` meets its contract: four bytes beside four bytes. Assumes nothing.
-use Rattle.std.proofs.Common.{arith, rules}
+use Rattle.std.proofs.Common.{arith}
 use Rattle.sheet.proofs.Puts.{puts_two}
 use Rattle.sheet.proofs.numbers.put_eight.Goals as goal
 

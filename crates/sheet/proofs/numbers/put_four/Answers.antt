@@ -1,5 +1,5 @@
 -- `put_four` meets its contract: two bytes beside two bytes. Assumes nothing.
-use Rattle.std.proofs.Common.{arith, rules}
+use Rattle.std.proofs.Common.{arith}
 use Rattle.sheet.proofs.Puts.{puts_two}
 use Rattle.sheet.proofs.numbers.put_four.Goals as goal
 

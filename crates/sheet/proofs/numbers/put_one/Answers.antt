@@ -1,5 +1,4 @@
 -- `put_one` meets its contract. Assumes nothing.
-use Rattle.std.proofs.Common.{rules}
 use Rattle.sheet.proofs.Puts.{puts_one}
 use Rattle.sheet.proofs.numbers.put_one.Goals as goal
 

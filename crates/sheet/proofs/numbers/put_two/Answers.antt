@@ -1,5 +1,5 @@
 -- `put_two` meets its contract: a byte beside a byte. Assumes nothing.
-use Rattle.std.proofs.Common.{arith, rules}
+use Rattle.std.proofs.Common.{arith}
 use Rattle.sheet.proofs.Puts.{puts_two}
 use Rattle.sheet.proofs.numbers.put_two.Goals as goal
 

@@ -1,5 +1,5 @@
 -- `two_bytes` meets its contract: a byte beside a byte. Assumes nothing.
-use Rattle.std.proofs.Common.{sym, ◌∙◌, arith, lit≤, rules}
+use Rattle.std.proofs.Common.{sym, ◌∙◌, arith, lit≤}
 use Rattle.sheet.proofs.LittleEndian.{two_parts, number_at_one}
 use Rattle.sheet.proofs.numbers.two_bytes.Goals as goal
 

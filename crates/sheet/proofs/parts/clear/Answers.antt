@@ -1,6 +1,5 @@
--- `clear` meets its contract. The invariant of its loop: the bytes up to `at` are zero. The measure is how many bytes are left. Assumes nothing.
-use Rattle.std.proofs.Common.{◌-◌, ◌≤◌, le_refl, arith}
-use Rattle.sheet.specs.Puts.{Clears}
+-- `clear` meets its contract. Assumes nothing.
+use Rattle.std.proofs.Common.{le_refl, arith}
 use Rattle.sheet.proofs.Puts.{clears_none, clears_more, clears_all}
 use Rattle.sheet.proofs.parts.clear.Goals as goal
 

@@ -1,7 +1,6 @@
--- `clear` meets its contract. The invariant of its loop: the bytes up to `at` are zero. The measure is how many bytes are left. Assumes nothing.
-use Rattle.std.proofs.Common.{◌-◌, ◌≤◌, le_refl, arith}
+-- The invariant of the loop of `clear`: the bytes up to `at` are zero. The measure is how many bytes are left. Assumes nothing.
+use Rattle.std.proofs.Common.{◌-◌, ◌≤◌}
 use Rattle.sheet.specs.Puts.{Clears}
-use Rattle.sheet.proofs.Puts.{clears_none, clears_more, clears_all}
 use Rattle.sheet.proofs.parts.clear.Given as goal
 
 abbrev pub invariant-loop-at : goal.invariant-loop-at

@@ -1,6 +1,6 @@
--- `pack` meets its contract. The invariant of its loop: the first i words are packed. The measure is how many words are left. Assumes nothing.
-use Rattle.std.proofs.Common.{◌+◌, ◌-◌, ◌*◌, ◌≤◌, length, zero-le, arith, rules}
-use Rattle.sheet.specs.Puts.{AreOfBytes, Packs}
+-- `pack` meets its contract. Assumes nothing.
+use Rattle.std.proofs.Common.{length, zero-le, arith}
+use Rattle.sheet.specs.Puts.{AreOfBytes}
 use Rattle.sheet.proofs.Packing.{word_inside}
 use Rattle.sheet.proofs.Puts.{packs_none, packs_more, packs_all}
 use Rattle.sheet.proofs.parts.pack.Goals as goal
@@ -9,15 +9,15 @@ pub loop-i-init : goal.loop-i-init
 loop-i-init c = (zero-le, packs_none _ _ _)
 
 pub overflow_mul-size : goal.overflow_mul-size
-overflow_mul-size c = record { fits = omega (arith, word_inside c.args.size (length c.args.words.now) c.loop-i.i c.loop-i-test.true) }
+overflow_mul-size c = record { fits = omega (arith, word_inside c.args.size (length c.args.words.now) c.loop-i.i (omega arith)) }
 
 pub overflow_add-size : goal.overflow_add-size
-overflow_add-size c = record { fits = omega (arith, word_inside c.args.size (length c.args.words.now) c.loop-i.i c.loop-i-test.true) }
+overflow_add-size c = record { fits = omega (arith, word_inside c.args.size (length c.args.words.now) c.loop-i.i (omega arith)) }
 
 pub put_word-requires : goal.put_word-requires
 unfolding AreOfBytes
 put_word-requires c =
-    (c.requires.0, c.requires.1, omega (arith, word_inside c.args.size (length c.args.words.now) c.loop-i.i c.loop-i-test.true, c.loop-i.invariant.1.within.size), c.requires.3 _ c.loop-i-test.true)
+    (c.requires.0, c.requires.1, omega (arith, word_inside c.args.size (length c.args.words.now) c.loop-i.i (omega arith), c.loop-i.invariant.1.within.size), c.requires.3 _ (omega arith))
 
 pub overflow_add-i : goal.overflow_add-i
 overflow_add-i c = omega arith

@@ -1,8 +1,6 @@
--- `pack` meets its contract. The invariant of its loop: the first i words are packed. The measure is how many words are left. Assumes nothing.
-use Rattle.std.proofs.Common.{◌+◌, ◌-◌, ◌*◌, ◌≤◌, length, zero-le, arith, rules}
-use Rattle.sheet.specs.Puts.{AreOfBytes, Packs}
-use Rattle.sheet.proofs.Packing.{word_inside}
-use Rattle.sheet.proofs.Puts.{packs_none, packs_more, packs_all}
+-- The invariant of the loop of `pack`: the first i words are packed. The measure is how many words are left. Assumes nothing.
+use Rattle.std.proofs.Common.{◌-◌, ◌≤◌, length}
+use Rattle.sheet.specs.Puts.{Packs}
 use Rattle.sheet.proofs.parts.pack.Given as goal
 
 abbrev pub invariant-loop-i : goal.invariant-loop-i

@@ -1,5 +1,5 @@
 -- `put_header` meets its contract. Assumes nothing.
-use Rattle.std.proofs.Common.{arith, rules}
+use Rattle.std.proofs.Common.{arith}
 use Rattle.sheet.proofs.Puts.{headed}
 use Rattle.sheet.proofs.parts.put_header.Goals as goal
 

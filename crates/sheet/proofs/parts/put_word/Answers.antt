@@ -1,5 +1,5 @@
 -- `put_word` meets its contract, for each of the three sizes. Assumes nothing.
-use Rattle.std.proofs.Common.{◌≡◌, ◌^◌, ◌<◌, arith, rules}
+use Rattle.std.proofs.Common.{arith}
 use Rattle.sheet.proofs.Puts.{puts_of_size, below_of_size}
 use Rattle.sheet.proofs.Sizes.{eight_left}
 use Rattle.sheet.proofs.parts.put_word.Goals as goal

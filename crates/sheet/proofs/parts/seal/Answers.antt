@@ -1,5 +1,5 @@
 -- `seal` meets its contract: the sums are of bytes that the puts of A and B leave as they are. Assumes nothing.
-use Rattle.std.proofs.Common.{arith, rules}
+use Rattle.std.proofs.Common.{arith}
 use Rattle.sheet.proofs.Puts.{sealed}
 use Rattle.sheet.proofs.parts.seal.Goals as goal
 

@@ -1,8 +1,8 @@
--- `sums_of` meets its contract. The invariant of its loop: a and b are the sums of the first i numbers, in that what is still to come makes them A and B.
--- The measure is how many numbers are left. Assumes nothing.
-use Rattle.std.proofs.Common.{◌-◌, ◌≤◌, zero-le, arith, rules}
+-- The invariant of the loop of `sums_of`: a and b are the sums of the first i numbers, in that what is still to come makes them A and B. The measure
+-- is how many numbers are left. Assumes nothing.
+use Rattle.std.proofs.Common.{◌-◌, ◌≤◌}
 use Rattle.sheet.specs.Layout.{numbers}
-use Rattle.sheet.proofs.Checks.{Summed, summed_none, block_more, block_all}
+use Rattle.sheet.proofs.Checks.{Summed}
 use Rattle.sheet.proofs.sums.sums_of.Given as goal
 
 abbrev pub invariant-loop-i : goal.invariant-loop-i

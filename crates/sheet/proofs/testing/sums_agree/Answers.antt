@@ -1,5 +1,5 @@
 -- `sums_agree` meets its contract. Assumes nothing.
-use Rattle.std.proofs.Common.{sym, ◌∙◌, rules}
+use Rattle.std.proofs.Common.{sym, ◌∙◌}
 use Rattle.sheet.specs.Layout.{A, B}
 use Rattle.sheet.proofs.Tests.{a_differs, b_decides}
 use Rattle.sheet.proofs.testing.sums_agree.Goals as goal

@@ -1,10 +1,9 @@
--- `unused_sum` meets its contract. The invariant of its loop: the sum so far and the sum of the bytes still to come are the whole; each byte adds at most 255.
--- The measure is how many bytes are left. Assumes nothing.
-use Rattle.std.proofs.Common.{◌≡◌, ◌+◌, ◌-◌, ◌*◌, ◌≤◌, zero-le, arith, rules}
+-- The invariant of the loop of `unused_sum`: the sum so far and the sum of the bytes still to come are the whole; each byte adds at most 255. The
+-- measure is how many bytes are left. Assumes nothing.
+use Rattle.std.proofs.Common.{◌≡◌, ◌+◌, ◌-◌, ◌*◌, ◌≤◌}
 use lib.Seq.{slice}
 use Rattle.sheet.specs.Layout.{unused}
 use Rattle.sheet.specs.Sums.{total}
-use Rattle.sheet.proofs.Unused.{unused_none, unused_more, unused_all}
 use Rattle.sheet.proofs.testing.unused_sum.Given as goal
 
 abbrev pub invariant-loop-at : goal.invariant-loop-at

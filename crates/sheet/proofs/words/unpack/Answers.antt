@@ -1,7 +1,5 @@
--- `unpack` meets its contract. The invariant of its loop: the results are the first i words and then what stood there, and their length is as it was.
--- The measure is how many words are left. Assumes nothing.
-use Rattle.std.proofs.Common.{◌≡◌, ◌+◌, ◌-◌, ◌*◌, ◌≤◌, ◌++◌, length, take, drop, refl, ◌∙◌, arith, length-set, rules}
-use Rattle.sheet.specs.Layout.{packed}
+-- `unpack` meets its contract. Assumes nothing.
+use Rattle.std.proofs.Common.{refl, ◌∙◌, arith, length-set}
 use Rattle.sheet.proofs.Packing.{word_inside, unpacked_more, unpacked_all}
 use Rattle.sheet.proofs.words.unpack.Goals as goal
 

@@ -1,8 +1,7 @@
--- `unpack` meets its contract. The invariant of its loop: the results are the first i words and then what stood there, and their length is as it was.
--- The measure is how many words are left. Assumes nothing.
-use Rattle.std.proofs.Common.{◌≡◌, ◌+◌, ◌-◌, ◌*◌, ◌≤◌, ◌++◌, length, take, drop, refl, ◌∙◌, arith, length-set, rules}
+-- The invariant of the loop of `unpack`: the results are the first i words and then what stood there, and their length is as it was. The measure is
+-- how many words are left. Assumes nothing.
+use Rattle.std.proofs.Common.{◌≡◌, ◌-◌, ◌≤◌, ◌++◌, length, take, drop}
 use Rattle.sheet.specs.Layout.{packed}
-use Rattle.sheet.proofs.Packing.{word_inside, unpacked_more, unpacked_all}
 use Rattle.sheet.proofs.words.unpack.Given as goal
 
 abbrev pub invariant-loop-i : goal.invariant-loop-i

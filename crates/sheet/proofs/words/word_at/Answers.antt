@@ -1,5 +1,5 @@
 -- `word_at` meets its contract, for each of the four sizes. Assumes nothing.
-use Rattle.std.proofs.Common.{◌≡◌, sym, ◌∙◌, arith, rules}
+use Rattle.std.proofs.Common.{◌≡◌, sym, ◌∙◌, arith}
 use Rattle.sheet.proofs.LittleEndian.{number_at_one, of_size}
 use Rattle.sheet.proofs.Sizes.{eight_left}
 use Rattle.sheet.proofs.words.word_at.Goals as goal

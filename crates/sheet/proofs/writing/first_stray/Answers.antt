@@ -1,8 +1,7 @@
--- `first_stray` meets its contract. The invariant of its loop: no word before the position is above all ones of n bits. The measure is how many words
--- are left. Assumes nothing.
-use Rattle.std.proofs.Common.{◌≡◌, ℕ, ◌-◌, ◌/◌, ◌^◌, ◌≤◌, length, arith, rules}
+-- `first_stray` meets its contract. Assumes nothing.
+use Rattle.std.proofs.Common.{◌≡◌, ℕ, ◌-◌, ◌/◌, ◌^◌, ◌≤◌, arith, rules}
 use Rattle.bounds.proofs.Powers.{ones_shr}
-use Rattle.sheet.proofs.Contents.{NoneAbove, none_above, one_more, found, not_found}
+use Rattle.sheet.proofs.Contents.{none_above, one_more, found, not_found}
 use Rattle.sheet.proofs.writing.first_stray.Goals as goal
 
 -- all ones of n bits

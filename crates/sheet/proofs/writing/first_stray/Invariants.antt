@@ -1,8 +1,7 @@
--- `first_stray` meets its contract. The invariant of its loop: no word before the position is above all ones of n bits. The measure is how many words
--- are left. Assumes nothing.
-use Rattle.std.proofs.Common.{◌≡◌, ◌-◌, ◌/◌, ◌^◌, ◌≤◌, length, arith, rules}
-use Rattle.bounds.proofs.Powers.{ones_shr}
-use Rattle.sheet.proofs.Contents.{NoneAbove, none_above, one_more, found, not_found}
+-- The invariant of the loop of `first_stray`: no word before the position is above all ones of n bits. The measure is how many words are left.
+-- Assumes nothing.
+use Rattle.std.proofs.Common.{◌-◌, ◌≤◌, length}
+use Rattle.sheet.proofs.Contents.{NoneAbove}
 use Rattle.sheet.proofs.writing.first_stray.Given as goal
 
 abbrev pub invariant-loop-position : goal.invariant-loop-position

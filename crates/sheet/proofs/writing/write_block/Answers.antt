@@ -1,5 +1,5 @@
 -- `write_block` meets its contract: the tests are made in the paper's order, then the words are tried, and only then is anything written. Assumes nothing.
-use Rattle.std.proofs.Common.{refl, arith, rules}
+use Rattle.std.proofs.Common.{length, refl, arith}
 use Rattle.bounds.specs.Refusals.{through, refused}
 use Rattle.sheet.specs.Writes.{IsTried, WritesBlock, FillsBuffer}
 use Rattle.sheet.proofs.Contents.{is_wide, isn't_wide, other_width, old_width, too_many, other_buffer, content_passes, stray_refused, none_stray}
@@ -12,13 +12,13 @@ pub returns-then-not-is_block_width : goal.returns-then-not-is_block_width
 unfolding WritesBlock FillsBuffer
 returns-then-not-is_block_width c =
     let other = isn't_wide _ c.is_block_width.result c.is_block_width.ensures c.if-not-is_block_width.true in
-    record { writes_block = refused (other_width _ _ _ other) refl; fills_buffer = refl }
+    record { writes_block = refused (other_width c.args.width.bits (length c.args.words.now) c.args.buffer.now other) refl; fills_buffer = refl }
 
 pub returns-then-width-eq-RETIRED : goal.returns-then-width-eq-RETIRED
 unfolding WritesBlock FillsBuffer
 returns-then-width-eq-RETIRED c =
     let wide = is_wide _ c.is_block_width.result c.is_block_width.ensures c.if-not-is_block_width.false in
-    record { writes_block = refused (old_width _ _ _ wide c.if-width-eq-RETIRED.true) refl; fills_buffer = refl }
+    record { writes_block = refused (old_width c.args.width.bits (length c.args.words.now) c.args.buffer.now wide (omega arith)) refl; fills_buffer = refl }
 
 pub nonzero_div-width-2 : goal.nonzero_div-width-2
 nonzero_div-width-2 c = some_bytes _ (is_width _ (is_wide _ c.is_block_width.result c.is_block_width.ensures c.if-not-is_block_width.false))
@@ -32,14 +32,14 @@ pub returns-then-words-width : goal.returns-then-words-width
 unfolding WritesBlock FillsBuffer
 returns-then-words-width c =
     let wide = is_wide _ c.is_block_width.result c.is_block_width.ensures c.if-not-is_block_width.false in
-    record { writes_block = refused (too_many _ _ _ wide c.if-width-eq-RETIRED.false c.if-words-width.true) refl; fills_buffer = refl }
+    record { writes_block = refused (too_many c.args.width.bits (length c.args.words.now) c.args.buffer.now wide (λ e. omega (arith, e)) (omega arith)) refl; fills_buffer = refl }
 
 pub returns-then-buffer-ne512 : goal.returns-then-buffer-ne512
 unfolding WritesBlock FillsBuffer
 returns-then-buffer-ne512 c =
     let wide = is_wide _ c.is_block_width.result c.is_block_width.ensures c.if-not-is_block_width.false in
     record {
-      writes_block = refused (other_buffer _ _ _ wide c.if-width-eq-RETIRED.false c.if-words-width.false c.if-buffer-ne512.true) refl;
+      writes_block = refused (other_buffer c.args.width.bits (length c.args.words.now) c.args.buffer.now wide (λ e. omega (arith, e)) (omega arith) (λ e. omega (arith, e))) refl;
       fills_buffer = refl;
     }
 
@@ -49,19 +49,19 @@ first_stray-position-requires c = width_of_words _ (is_width _ (is_wide _ c.is_b
 pub returns-then-position-words : goal.returns-then-position-words
 unfolding WritesBlock FillsBuffer
 returns-then-position-words c =
-    let told = content_passes _ _ _ (is_wide _ c.is_block_width.result c.is_block_width.ensures c.if-not-is_block_width.false) c.if-width-eq-RETIRED.false c.if-words-width.false c.if-buffer-ne512.false in
-    record { writes_block = through told (stray_refused _ _ _ c.first_stray-position.ensures c.if-position-words.true); fills_buffer = refl }
+    let tried = content_passes c.args.width.bits (length c.args.words.now) c.args.buffer.now (is_wide _ c.is_block_width.result c.is_block_width.ensures c.if-not-is_block_width.false) (λ e. omega (arith, e)) (omega arith) (omega arith) in
+    record { writes_block = through tried (stray_refused _ _ _ c.first_stray-position.ensures c.if-position-words.true); fills_buffer = refl }
 
 pub put_block-requires : goal.put_block-requires
 put_block-requires c = record {
-  buffer_value = content_passes _ _ _ (is_wide _ c.is_block_width.result c.is_block_width.ensures c.if-not-is_block_width.false) c.if-width-eq-RETIRED.false c.if-words-width.false c.if-buffer-ne512.false;
+  passes = content_passes c.args.width.bits (length c.args.words.now) c.args.buffer.now (is_wide _ c.is_block_width.result c.is_block_width.ensures c.if-not-is_block_width.false) (λ e. omega (arith, e)) (omega arith) (omega arith);
   fit_up_to = none_stray _ _ _ c.first_stray-position.ensures c.if-position-words.false;
 }
 
 pub returns : goal.returns
 unfolding WritesBlock FillsBuffer IsTried
 returns c =
-    let told = content_passes _ _ _ (is_wide _ c.is_block_width.result c.is_block_width.ensures c.if-not-is_block_width.false) c.if-width-eq-RETIRED.false c.if-words-width.false c.if-buffer-ne512.false in
+    let told = content_passes c.args.width.bits (length c.args.words.now) c.args.buffer.now (is_wide _ c.is_block_width.result c.is_block_width.ensures c.if-not-is_block_width.false) (λ e. omega (arith, e)) (omega arith) (omega arith) in
     record {
       writes_block = through told (none_stray _ _ _ c.first_stray-position.ensures c.if-position-words.false);
       fills_buffer = c.put_block.ensures;

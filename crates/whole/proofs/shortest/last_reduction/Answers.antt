@@ -31,13 +31,12 @@ returns-then-w-v c =
     let v = c.args.v in
     let w = c.args.w in
     let log = c.args.log in
-    let zeros = count_trailing_zeros 32 (8 + log) in
-    (
+    let zeros = count_trailing_zeros 32 (8 + log) in (
       zeros,
       last_zeros log c.requires.2,
       sym (elim c.then-w-v.branch [
-        then-w-v-via-then-w-v t ↦ ap (λ (b : Bool). when (b && eqb v (2 ^ log)) zeros) (ne_eqb (w + 1) v (λ e. omega (arith, e, t.if-w-v.true)))
-      | then-w-v-via-else-w-v+then-log-v t ↦ ap (λ (b : Bool). when (eqb (w + 1) v && b) zeros) (ne_eqb v (2 ^ log) (λ e. omega (arith, e, t.if-log-v.true, shifted log c.requires.2))) ∙ nothing (eqb (w + 1) v) zeros
+        | then-w-v-via-then-w-v t ↦ ap (λ (b : Bool). when (b && eqb v (2 ^ log)) zeros) (ne_eqb (w + 1) v (λ e. omega (arith, e)))
+        | then-w-v-via-else-w-v+then-log-v t ↦ ap (λ (b : Bool). when (eqb (w + 1) v && b) zeros) (ne_eqb v (2 ^ log) (λ e. omega (arith, e, shifted log c.requires.2))) ∙ nothing (eqb (w + 1) v) zeros
       ]),
     )
 
@@ -47,4 +46,4 @@ returns c =
     let v = c.args.v in
     let log = c.args.log in
     let zeros = count_trailing_zeros 32 (8 + log) in
-    (zeros, last_zeros log c.requires.2, sym (ap₂ (λ (p b : Bool). when (p && b) zeros) (one_bit v c.args.w c.requires.0 c.if-w-v.false) (eq-eqb v (2 ^ log) (omega (arith, c.if-log-v.false, shifted log c.requires.2, c.requires.1.low)))))
+    (zeros, last_zeros log c.requires.2, sym (ap₂ (λ (p b : Bool). when (p && b) zeros) (one_bit v c.args.w c.requires.0 (omega arith)) (eq-eqb v (2 ^ log) (omega (arith, shifted log c.requires.2, c.requires.1.low)))))

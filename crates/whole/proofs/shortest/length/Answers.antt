@@ -2,7 +2,6 @@
 use Prim.Native.Nat.{◌-◌}
 use native.Mathlib.Nat.{le_of_suc-le-suc}
 use native.Mathlib.Omega.{arith}
-use borrow.Author.Rules.{rules}
 use lib.Count.{count_leading_zeros, count_trailing_zeros, leading_le}
 use Rattle.bounds.proofs.Powers.{leading_log}
 use Rattle.whole.proofs.Lengths.{Counted, counted, first_few, last_few, length_counted}

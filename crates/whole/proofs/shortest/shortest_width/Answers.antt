@@ -29,7 +29,7 @@ pub length-bits-requires : goal.length-bits-requires
 length-bits-requires c = subst (λ (m : ℕ). zero < m) (sym (c.size.ensures ∙ ap nat_abs (to_z-of_z {w = w64} c.ranges.x))) (has_size c.args.x (λ e. c.if-x-eq0.false (ap (of_z w64) e)))
 
 pub returns-then-bits-gt-GREATEST : goal.returns-then-bits-gt-GREATEST
-returns-then-bits-gt-GREATEST c = refused_past _ _ (counted c.args.x _ _ c.ranges.x c.size.ensures c.length-bits.ensures) c.if-bits-gt-GREATEST.true
+returns-then-bits-gt-GREATEST c = refused_past _ _ (counted c.args.x _ _ c.ranges.x c.size.ensures c.length-bits.ensures) (omega arith)
 
 pub returns : goal.returns
-returns c = given_at _ _ (counted c.args.x _ _ c.ranges.x c.size.ensures c.length-bits.ensures) c.if-bits-gt-GREATEST.false
+returns c = given_at _ _ (counted c.args.x _ _ c.ranges.x c.size.ensures c.length-bits.ensures) (omega arith)

@@ -1,7 +1,6 @@
 -- `below_half` meets its contract: each rule in its own case. Assumes nothing.
 use mathlib.Core.Path.{sym, ap}
 use mathlib.Core.Bool.{false}
-use borrow.Author.Rules.{rules}
 use lib.IntN.{pos}
 use Rattle.whole.specs.declared.taking.Taking.{Taking}
 use Rattle.whole.specs.Parts.{by_rule}

@@ -2,6 +2,7 @@
 use mathlib.Core.Path.{◌≡◌, sym, ap, ap₂, ◌∙◌, subst}
 use mathlib.Core.Bool.{Bool, true}
 use Prim.Native.Nat.{◌^◌}
+use native.Mathlib.Omega.{arith}
 use lib.Arith.{lt_of_le-ne}
 use lib.IntN.{ℤ, pos, ◌-ℤ◌}
 use Rattle.word.specs.Reads.{signed_size}
@@ -14,19 +15,19 @@ use Rattle.whole.proofs.taking.take_far.Goals as goal
 
 pub returns-then-k-gt64 : goal.returns-then-k-gt64
 unfolding TakesByEitherRule
-returns-then-k-gt64 c rule = takes_past rule c.args.negative c.args.m c.requires.0 c.args.k c.requires.1 c.if-k-gt64.true
+returns-then-k-gt64 c rule = takes_past rule c.args.negative c.args.m c.requires.0 c.args.k c.requires.1 (omega arith)
 
 pub returns-then-m : goal.returns-then-m
 unfolding TakesByEitherRule signed_size
 returns-then-m c rule = let is : signed_size c.args.negative c.args.m ≡ signed_size true (2 ^ 63) = ap₂ signed_size c.if-negative.true c.if-m.true in
     subst (λ (x : ℤ). TakesSize rule c.args.negative (pos c.args.k -ℤ pos 1) c.args.m (Whole.Is x)) is
-    (takes_inside rule c.args.negative c.args.m c.requires.0 c.args.k c.requires.1 c.if-k-gt64.false (ap over_test is ∙ least_inside))
+    (takes_inside rule c.args.negative c.args.m c.requires.0 c.args.k c.requires.1 (omega arith) (ap over_test is ∙ least_inside))
 
 pub returns-then-negative : goal.returns-then-negative
 unfolding TakesByEitherRule
-returns-then-negative c rule = takes_outside rule c.args.negative c.args.m c.requires.0 c.args.k c.requires.1 c.if-k-gt64.false (outside c.args.negative c.args.m (lt_of_le-ne c.requires.0 (λ q. c.if-m.false (sym q))))
+returns-then-negative c rule = takes_outside rule c.args.negative c.args.m c.requires.0 c.args.k c.requires.1 (omega arith) (outside c.args.negative c.args.m (lt_of_le-ne c.requires.0 (λ q. c.if-m.false (sym q))))
 
 pub returns : goal.returns
 unfolding TakesByEitherRule
-returns c rule = takes_outside rule c.args.negative c.args.m c.requires.0 c.args.k c.requires.1 c.if-k-gt64.false
+returns c rule = takes_outside rule c.args.negative c.args.m c.requires.0 c.args.k c.requires.1 (omega arith)
     (ap (λ (b : Bool). over_test (signed_size b c.args.m)) c.if-negative.false ∙ outside_above c.args.m c.requires.0)

@@ -3,6 +3,7 @@ use mathlib.Core.Path.{◌≡◌, refl, sym, ap, ◌∙◌, subst, subst₂}
 use mathlib.Core.Bool.{Bool, true, false}
 use Prim.Native.Nat.{ℕ, zero, suc, ◌+◌, ◌^◌, ◌≤◌, ◌<◌}
 use native.Mathlib.Omega.{arith}
+use borrow.Author.Differences.{ints}
 use borrow.Author.Tests.{ltb-true, ltb-false}
 use lib.Dec.{T}
 use lib.IntN.{ℤ, pos, negsuc, nat_abs, ◌+ℤ◌, ◌-ℤ◌}
@@ -58,19 +59,29 @@ module _ (h : ℤ) (small : mag h ≤ 254) where
     lowered = ap (λ (z : ℤ). pos (nat_abs z) -ℤ pos 1) held ∙ sym up.back
 
 pub returns-then-size-ltminus1 : goal.returns-then-size-ltminus1
-returns-then-size-ltminus1 c = let x = under c.args.size.h (tested c.args.size.h c.requires.1 c.if-size-ltminus1.true) in
+returns-then-size-ltminus1 c =
+    let below : lt_z (to_z w32 (of_z w32 c.args.size.h)) (negsuc 0) ≡ true = grind (arith, ints) in
+    let x = under c.args.size.h (tested c.args.size.h c.requires.1 below) in
     let few : c.args.size.m < 2 ^ 64 = omega arith in
     subst₂ (λ (z : ℤ) (a : Whole). TakesSize c.args.rule c.args.size.negative z c.args.size.m a) (sym x.1) (sym c.below_half.ensures)
     (takes_under_half c.args.rule c.args.size.negative c.args.size.m c.requires.0 few x.0)
 
 pub overflow_add-size : goal.overflow_add-size
-overflow_add-size c = subst (λ (z : ℤ). SFits w32 z) (sym (sum c.args.size.h c.requires.1 c.if-size-ltminus1.false)) (sum_fits c.args.size.h c.requires.1 c.if-size-ltminus1.false)
+overflow_add-size c =
+    let left : lt_z (to_z w32 (of_z w32 c.args.size.h)) (negsuc 0) ≡ false = grind (arith, ints) in
+    subst (λ (z : ℤ). SFits w32 z) (sym (sum c.args.size.h c.requires.1 left)) (sum_fits c.args.size.h c.requires.1 left)
 
 pub overflow_cast-size : goal.overflow_cast-size
-overflow_cast-size c = subst (λ (z : ℤ). T (non_neg z) × Fits w32 (nat_abs z)) (sym (held c.args.size.h c.requires.1 c.if-size-ltminus1.false)) (tt, record { fits = omega (arith, (sum_fits c.args.size.h c.requires.1 c.if-size-ltminus1.false).sfits) })
+overflow_cast-size c =
+    let left : lt_z (to_z w32 (of_z w32 c.args.size.h)) (negsuc 0) ≡ false = grind (arith, ints) in
+    subst (λ (z : ℤ). T (non_neg z) × Fits w32 (nat_abs z)) (sym (held c.args.size.h c.requires.1 left)) (tt, record { fits = omega (arith, (sum_fits c.args.size.h c.requires.1 left).sfits) })
 
 pub take_size-requires : goal.take_size-requires
-take_size-requires c = (c.requires.0, subst (λ (z : ℤ). WholeWhereLarge z c.args.size.m) (sym (lowered c.args.size.h c.requires.1 c.if-size-ltminus1.false)) c.requires.2)
+take_size-requires c =
+    let left : lt_z (to_z w32 (of_z w32 c.args.size.h)) (negsuc 0) ≡ false = grind (arith, ints) in
+    (c.requires.0, subst (λ (z : ℤ). WholeWhereLarge z c.args.size.m) (sym (lowered c.args.size.h c.requires.1 left)) c.requires.2)
 
 pub returns : goal.returns
-returns c = subst (λ (z : ℤ). TakesSize c.args.rule c.args.size.negative z c.args.size.m c.take_size.result) (lowered c.args.size.h c.requires.1 c.if-size-ltminus1.false) c.take_size.ensures
+returns c =
+    let left : lt_z (to_z w32 (of_z w32 c.args.size.h)) (negsuc 0) ≡ false = grind (arith, ints) in
+    subst (λ (z : ℤ). TakesSize c.args.rule c.args.size.negative z c.args.size.m c.take_size.result) (lowered c.args.size.h c.requires.1 left) c.take_size.ensures

@@ -79,10 +79,11 @@ returns-then-fraction-eq0 c =
     let m = c.args.m in
     let i = m / 2 ^ 1 / 2 ^ (63 - k) in
     let x = c.with_sign-then-fraction-eq0 in
-    let exact : eqb (m * 2 ^ k % 2 ^ 64) 0 ≡ true = eq-eqb _ _ c.if-fraction-eq0.true in
+    let none : m * 2 ^ k % 2 ^ 64 ≡ 0 = omega arith in
+    let exact : eqb (m * 2 ^ k % 2 ^ 64) 0 ≡ true = eq-eqb _ _ none in
     subst (TakesSize _ _ _ _)
     (ap (λ (b : Bool). by_rule Taking.Strict b (signed_size c.args.negative i)) exact ∙ ap Whole.Is (sym (to_z-of_z {w = w64} {z = x.result} (sfits_of x.type_inv) ∙ x.ensures)))
-    (takes c.args.rule c.args.negative k m c.requires.0 c.ranges.m.fits c.requires.1 c.if-k-gt63.false Taking.Strict i c.in-Strict.is (all_whole c.args.rule c.args.negative k m c.requires.0 c.ranges.m.fits c.requires.1 c.if-k-gt63.false c.if-fraction-eq0.true))
+    (takes c.args.rule c.args.negative k m c.requires.0 c.ranges.m.fits c.requires.1 c.if-k-gt63.false Taking.Strict i c.in-Strict.is (all_whole c.args.rule c.args.negative k m c.requires.0 c.ranges.m.fits c.requires.1 c.if-k-gt63.false none))
 
 pub returns-in-Nearest : goal.returns-in-Nearest
 unfolding by_rule
@@ -95,4 +96,4 @@ pub returns-else-fraction-eq0 : goal.returns-else-fraction-eq0
 unfolding by_rule
 returns-else-fraction-eq0 c =
     let i = a_nearest (2 ^ 64) (pow_pos 64) (c.args.m * 2 ^ c.args.k) in
-    subst (TakesSize _ _ _ _) (ap (λ (b : Bool). by_rule Taking.Strict b (signed_size c.args.negative i.0)) (ne_eqb _ _ c.if-fraction-eq0.false)) (takes c.args.rule c.args.negative c.args.k c.args.m c.requires.0 c.ranges.m.fits c.requires.1 c.if-k-gt63.false Taking.Strict i.0 c.in-Strict.is i.1)
+    subst (TakesSize _ _ _ _) (ap (λ (b : Bool). by_rule Taking.Strict b (signed_size c.args.negative i.0)) (ne_eqb _ _ (λ q. omega (arith, q)))) (takes c.args.rule c.args.negative c.args.k c.args.m c.requires.0 c.ranges.m.fits c.requires.1 c.if-k-gt63.false Taking.Strict i.0 c.in-Strict.is i.1)

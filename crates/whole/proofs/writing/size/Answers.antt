@@ -1,7 +1,6 @@
 -- `size` meets its contract: no step leaves the 64 bits, at -2^63 either. Assumes nothing.
 use mathlib.Core.Path.{sym, ap, ◌∙◌}
 use Prim.Native.Nat.{ℕ, ◌+◌}
-use borrow.Author.Rules.{rules}
 use lib.IntN.{nat_abs}
 use lib.Signed.{mag}
 use mir.Syntax.{w64}

@@ -10,7 +10,7 @@ use std::io::Write;
 pub(crate) const NUMBERS: usize = 16;
 
 // Where the report goes: what descriptor 3 is open to.
-const REPORT: &str = "/dev/fd/3";
+const REPORT: &str = "/proc/self/fd/3";
 
 // One more block with this refusal number. No run has 2^64 of them, at which a count would start again.
 pub(crate) fn count_block(counts: &mut [u64], number: u32)

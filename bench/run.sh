@@ -1,6 +1,6 @@
 #!/bin/sh
 # Times the library against bench/plain.rs and the lister against bench/lister.rs; bench/README.md says how. Both on this machine's own processor and, on
-# Arm, where the tools are there, the library also as an x86-64 program under an emulator.
+# x86-64, where the tools are there, the library also as an Arm program under an emulator.
 set -eu
 cd "$(dirname "$0")/.."
 . tests/face.d/tools
@@ -32,14 +32,14 @@ own() {
     "$work/own"
 }
 
-# The archive for x86-64 on Arm, both sides under one emulator.
+# The archive for Arm on x86-64, both sides under one emulator.
 emulated() {
-    lacking=$(missing_for_emulated_rust)
+    lacking=$(missing_for_arm_rust)
     [ -z "$lacking" ] || { echo "bench: no emulated run, since $lacking"; return; }
-    bindings/archive x86_64 >/dev/null || miss "the library was not built"
-    compile /usr/bin/rustc bench/main.rs "$work/emulated" -L target/x86_64 -l static=ledusprig $for_x86_64
-    echo "== x86-64 under $(qemu-x86_64 --version | head -n 1): $(/usr/bin/rustc --version)"
-    qemu-x86_64 "$work/emulated"
+    bindings/archive aarch64 >/dev/null || miss "the library was not built"
+    compile rustc bench/main.rs "$work/emulated" -L target/aarch64 -l static=ledusprig $for_arm
+    echo "== Arm under $(qemu-aarch64 --version | head -n 1): $(rustc --version)"
+    run_on_arm "$work/emulated"
 }
 
 # The lister as a program of this processor, on 40,000 blocks that the independent program makes: 20 MB.
@@ -55,5 +55,5 @@ lister() {
 
 echo "kit $(rt version); $(lscpu | sed -n 's/^Model name: *//p' | head -n 1), $(nproc) processors"
 own
-[ "$machine" = x86_64 ] || emulated
+[ "$machine" != x86_64 ] || emulated
 lister

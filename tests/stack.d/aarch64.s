@@ -30,6 +30,37 @@ caller:
     ldr x30, [sp], #16
     ret
 
+/* steps: 12352 steps 12352 */
+steps:
+    stp x29, x30, [sp, #-48]!
+    sub x9, sp, #3, lsl #12
+    stp x20, x19, [sp, #16]
+    mov x29, sp
+1:
+    sub sp, sp, #3072
+    cmp sp, x9
+    str xzr, [sp]
+    b.ne 1b
+    sub sp, sp, #16
+    str x0, [sp, #8]
+    add sp, sp, #3, lsl #12
+    add sp, sp, #16
+    ldp x20, x19, [sp, #16]
+    ldp x29, x30, [sp], #48
+    ret
+
+/* a size of which nothing is known */
+/* steps_to_x9: refused: more is taken off the stack */
+steps_to_x9:
+    mov x9, x0
+1:
+    sub sp, sp, #3072
+    cmp sp, x9
+    str xzr, [sp]
+    b.ne 1b
+    add sp, sp, #3, lsl #12
+    ret
+
 /* nothing of its own is left where frame begins */
 /* in_its_place: 80 in_its_place 0 > frame 80 */
 in_its_place:

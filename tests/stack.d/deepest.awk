@@ -223,26 +223,42 @@ function look_x86(i, c, a,    offset) {
     }
 }
 
-# A large frame is touched page by page: movq %rsp, %r11; subq $SIZE, %r11; i: subq $4096, %rsp; movq $0, (%rsp); cmpq %r11, %rsp; jne i.
-function is_probe(i) {
-    return code[i] == "subq" && args[i] ~ /, %rsp$/ && number(args[i]) == 4096 && args[i - 2] == "%rsp, %r11" && code[i - 1] == "subq" &&
-        args[i - 1] ~ /^\$[^,]*, %r11$/ && number(args[i - 1]) % 4096 == 0 && args[i + 2] == "%r11, %rsp" && code[i + 3] == "jne" && target(i + 3) == place[i]
+# A large frame is touched page by page, or in smaller steps: movq %rsp, %r11; subq $SIZE, %r11; i: subq $STEP, %rsp; movq $0, (%rsp); cmpq %r11, %rsp;
+# jne i.
+function is_probe(i,    step) {
+    if (code[i] != "subq" || args[i] !~ /^\$[^,]*, %rsp$/) return 0
+    step = number(args[i])
+    return step > 0 && step <= 4096 && args[i - 2] == "%rsp, %r11" && code[i - 1] == "subq" && args[i - 1] ~ /^\$[^,]*, %r11$/ &&
+        number(args[i - 1]) % step == 0 && args[i + 2] == "%r11, %rsp" && code[i + 3] == "jne" && target(i + 3) == place[i]
+}
+
+# The same on Arm, where x9 = sp - SIZE can be computed before the frame's first values are put away: sub x9, sp, #SIZE; ..; i: sub sp, sp, #STEP; cmp sp, x9;
+# str xzr, [sp]; b.ne i. What is answered is the size, and 0 where it is none.
+function arm_probe(i,    k, step, size) {
+    if (code[i] != "sub" || args[i] !~ /^sp, sp, #/ || code[i + 1] != "cmp" || args[i + 1] != "sp, x9") return 0
+    if (code[i + 2] != "str" || args[i + 2] != "xzr, [sp]" || code[i + 3] != "b.ne" || target(i + 3) != place[i]) return 0
+    for (k = i - 1; of[k] == of[i] && args[k] !~ /^[xw]9,|\]!$|\[sp\], #|^sp,/ && code[k] !~ /^(b|b\..*|bl|br|blr|ret|cbn?z|tbn?z|ldp)$/;) k--
+    if (of[k] != of[i] || code[k] != "sub" || args[k] !~ /^x9, sp, #/) return 0
+    step = number(substr(args[i], 10)) * (args[i] ~ /lsl #12$/ ? 4096 : 1)
+    size = number(substr(args[k], 10)) * (args[k] ~ /lsl #12$/ ? 4096 : 1)
+    return step > 0 && step <= 4096 && size % step == 0 ? size : 0
 }
 
 function look_arm(i, c, a,    offset) {
     if (c == "bl") way = "call"
     else if (c == "b") way = "jump"
     else if (c == "br") way = by_table(i, a)
-    else if (c ~ /^(b\.|cbn?z|tbn?z)/) way = "branch"
+    else if (c ~ /^(b\.|cbn?z|tbn?z)/) way = arm_probe(i - 3) ? "on" : "branch"
     else if (c == "ret" && a == "") way = "return"
     else if (c ~ /^(brk|udf)$/) way = "end"
+    else if (arm_probe(i)) down = arm_probe(i)
     else if (c ~ /^(sub|add)$/ && a ~ /^sp, sp, #/) down = (c == "sub" ? 1 : -1) * number(substr(a, 10)) * (a ~ /lsl #12$/ ? 4096 : 1)
     else if (a ~ /\[sp, #.*\]!$/) down = -number(substr(a, index(a, "[sp, #") + 6))
     else if (a ~ /\[sp\], #/) down = -number(substr(a, index(a, "[sp], #") + 7))
     else if (c == "blr") refuse(i, "a call that hangs on a register: " c " " a)
     else if (c ~ /^(blr|bra|ret|eret|svc)/ || a ~ /\[sp\], / || (a ~ /^w?sp,/ && c !~ /^cm[pn]$/)) refuse(i, "an instruction that is not understood: " c " " a)
     else if (a ~ /^x[0-9]+, sp(, #|$)/) {
-        offset = a ~ /#/ ? number(substr(a, index(a, "#") + 1)) * (a ~ /lsl #12$/ ? 4096 : 1) : 0
+        offset = a ~ /#/ ? number(substr(a, index(a, "#") + 1)) * (a ~ /lsl #12$/ ? 4096 : 1) * (c == "sub" ? -1 : 1) : 0
         if (a ~ /^x29/) frame_pointer = depth[i] - offset
         points_above = offset >= depth[i]
     } else if (match(a, /\[(sp|x29)(\]|, #)/)) {

@@ -143,6 +143,19 @@ pages:
     addq $8224, %rsp
     retq
 
+/* steps: 6168 steps 6168 */
+steps:
+    movq %rsp, %r11
+    subq $6144, %r11
+1:
+    subq $3072, %rsp
+    movq $0, (%rsp)
+    cmpq %r11, %rsp
+    jne 1b
+    subq $16, %rsp
+    addq $6160, %rsp
+    retq
+
 /* a block; 128 more below the pointer could be used */
 /* copy: 648 copy 648 */
 copy:

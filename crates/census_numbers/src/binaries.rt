@@ -11,7 +11,6 @@ use census::bits::TOP_BIT;
 use census::digest::{EMPTY, scramble};
 use census::line::print_of_one;
 use census::run::Run;
-use std::io::Stdout;
 
 // Part 23. A draw takes three numbers from the sequence: the first chooses the kind and the sign, the others make the number.
 pub(crate) fn take_binary64_draw(run: Run, n: u32) -> Run
@@ -51,17 +50,12 @@ pub(crate) fn take_two(digest: u64, n: u32, place: u64) -> u64
 }
 
 // Part 25.
-pub(crate) fn print_extreme(out: Stdout, name: &[u8], n: u32)
+pub(crate) fn print_extreme(name: &[u8], n: u32)
     requires { (2 ≤ n) × (n ≤ 64) }
 {
     let after_numbers = take_extreme_numbers(n);
     let after_smallest = take_beside_word(after_numbers, n, 1);
-    print_of_one(
-        out,
-        name,
-        n,
-        take_beside_word(after_smallest, n, largest_of(n)),
-    );
+    print_of_one(name, n, take_beside_word(after_smallest, n, largest_of(n)));
 }
 
 // Where the library refuses it, the word 0 has to show it.

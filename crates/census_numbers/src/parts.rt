@@ -8,7 +8,6 @@ use crate::subjects::Subject;
 use crate::unnumbered::print_strays;
 use crate::wholes::{print_brink, print_limit};
 use bounds::width::Width;
-use std::io::Stdout;
 
 #[derive(Clone, Copy)]
 pub(crate) enum Part {
@@ -23,32 +22,32 @@ pub(crate) enum Part {
 }
 
 // Prints a part at every width.
-pub(crate) fn print_everywhere(out: Stdout, name: &[u8], part: Part) {
-    print_part(out, name, part, Width::LEAST, Width::GREATEST);
+pub(crate) fn print_everywhere(name: &[u8], part: Part) {
+    print_part(name, part, Width::LEAST, Width::GREATEST);
 }
 
 // Prints a part at each width from the first one to the last one.
-pub(crate) fn print_part(out: Stdout, name: &[u8], part: Part, first: u32, last: u32)
+pub(crate) fn print_part(name: &[u8], part: Part, first: u32, last: u32)
     requires { (2 ≤ first) × (last ≤ 64) }
 {
     let mut n = first;
     while n <= last {
-        print_at(out, name, part, n);
+        print_at(name, part, n);
         n += 1;
     }
 }
 
-fn print_at(out: Stdout, name: &[u8], part: Part, n: u32)
+fn print_at(name: &[u8], part: Part, n: u32)
     requires { (2 ≤ n) × (n ≤ 64) }
 {
     match part {
-        Part::Runs(subject) => print_runs(out, name, subject, n),
-        Part::Line(subject) => print_one_line(out, name, subject, n),
-        Part::Limit => print_limit(out, name, n),
-        Part::Brink => print_brink(out, name, n),
-        Part::Extreme => print_extreme(out, name, n),
-        Part::Strays => print_strays(out, name, n),
-        Part::ShortPower => print_short_power(out, name, n),
-        Part::ShortWords => print_short_words(out, name, n),
+        Part::Runs(subject) => print_runs(name, subject, n),
+        Part::Line(subject) => print_one_line(name, subject, n),
+        Part::Limit => print_limit(name, n),
+        Part::Brink => print_brink(name, n),
+        Part::Extreme => print_extreme(name, n),
+        Part::Strays => print_strays(name, n),
+        Part::ShortPower => print_short_power(name, n),
+        Part::ShortWords => print_short_words(name, n),
     }
 }

@@ -6,9 +6,8 @@ use crate::subjects::{Subject, end_of, first_place, first_state, longest_run};
 use census::digest::EMPTY;
 use census::line::{print_digest, print_number, print_of_one, print_text};
 use census::run::{Run, run_end};
-use std::io::Stdout;
 
-pub(crate) fn print_runs(out: Stdout, name: &[u8], subject: Subject, n: u32)
+pub(crate) fn print_runs(name: &[u8], subject: Subject, n: u32)
     requires { (2 ≤ n) × (n ≤ 64) }
 {
     let end = end_of(subject, n);
@@ -16,38 +15,30 @@ pub(crate) fn print_runs(out: Stdout, name: &[u8], subject: Subject, n: u32)
     let mut first = first_place(subject);
     while first < end {
         let stop = run_end(longest_run(subject), first, end);
-        state = print_run(out, name, subject, n, first, stop, state);
+        state = print_run(name, subject, n, first, stop, state);
         first = stop;
     }
 }
 
 // Prints the line of a run, with the width where it belongs to one, and gives back the state of the sequence after it.
-fn print_run(
-    out: Stdout,
-    name: &[u8],
-    subject: Subject,
-    n: u32,
-    first: u64,
-    stop: u64,
-    state: u64,
-) -> u64
+fn print_run(name: &[u8], subject: Subject, n: u32, first: u64, stop: u64, state: u64) -> u64
     requires { (2 ≤ n) × (n ≤ 64) × (first ≤ stop) }
 {
     let run = take_run(subject, n, first, stop, state);
-    print_text(out, name);
+    print_text(name);
     match subject {
         Subject::Shortest => {}
         Subject::ShortDraw => {}
-        _ => print_number(out, n as u64),
+        _ => print_number(n as u64),
     }
-    print_number(out, first);
-    print_number(out, stop - first);
-    print_digest(out, run.digest);
+    print_number(first);
+    print_number(stop - first);
+    print_digest(run.digest);
     run.state
 }
 
 // All places in one line.
-pub(crate) fn print_one_line(out: Stdout, name: &[u8], subject: Subject, n: u32)
+pub(crate) fn print_one_line(name: &[u8], subject: Subject, n: u32)
     requires { (2 ≤ n) × (n ≤ 64) }
 {
     let run = take_run(
@@ -57,7 +48,7 @@ pub(crate) fn print_one_line(out: Stdout, name: &[u8], subject: Subject, n: u32)
         end_of(subject, n),
         first_state(subject, n),
     );
-    print_of_one(out, name, n, run.digest);
+    print_of_one(name, n, run.digest);
 }
 
 fn take_run(subject: Subject, n: u32, first: u64, stop: u64, state: u64) -> Run

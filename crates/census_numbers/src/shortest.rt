@@ -10,11 +10,10 @@ use census::bits::{TOP_BIT, power_of_two};
 use census::digest::{EMPTY, scramble};
 use census::line::{print_digest, print_number, print_of_one, print_text};
 use census::run::{Run, words_of};
-use std::io::Stdout;
 use whole::taking::{Taking, Whole, take_whole};
 
 // Part 54: the line of k, which is n - 1.
-pub(crate) fn print_short_power(out: Stdout, name: &[u8], n: u32)
+pub(crate) fn print_short_power(name: &[u8], n: u32)
     requires { (2 ≤ n) × (n ≤ 64) }
 {
     let power = power_of_two(n - 1);
@@ -24,7 +23,7 @@ pub(crate) fn print_short_power(out: Stdout, name: &[u8], n: u32)
         digest = take_beside(digest, n, power, step);
         step += step;
     }
-    print_of_one(out, name, n - 1, digest);
+    print_of_one(name, n - 1, digest);
 }
 
 // 2^k - 2 to 2^k + 2; for k = 63, beyond which there are none, the ends.
@@ -65,7 +64,7 @@ pub(crate) fn take_short_draw(run: Run, n: u32) -> Run
 }
 
 // Part 56.
-pub(crate) fn print_short_words(out: Stdout, name: &[u8], n: u32) {
+pub(crate) fn print_short_words(name: &[u8], n: u32) {
     let end = words_of(n);
     let mut digest = EMPTY;
     let mut count = 0;
@@ -77,8 +76,8 @@ pub(crate) fn print_short_words(out: Stdout, name: &[u8], n: u32) {
         }
         word += 1;
     }
-    print_text(out, name);
-    print_number(out, n as u64);
-    print_number(out, count);
-    print_digest(out, digest);
+    print_text(name);
+    print_number(n as u64);
+    print_number(count);
+    print_digest(digest);
 }

@@ -7,23 +7,22 @@ use bounds::width::Width;
 use census::bits::{ALL_BITS, TOP_BIT, power_of_two};
 use census::digest::EMPTY;
 use census::line::print_of_one;
-use std::io::Stdout;
 
 // The pattern of 1.
 const ONE: u64 = 0x3ff0_0000_0000_0000;
 
-pub(crate) fn print_bad_widths(out: Stdout, name: &[u8]) {
-    print_bad_width(out, name, 0);
-    print_bad_width(out, name, 1);
-    print_bad_width(out, name, 65);
-    print_bad_width(out, name, 0x8000_0000);
-    print_bad_width(out, name, 0xffff_ffff);
+pub(crate) fn print_bad_widths(name: &[u8]) {
+    print_bad_width(name, 0);
+    print_bad_width(name, 1);
+    print_bad_width(name, 65);
+    print_bad_width(name, 0x8000_0000);
+    print_bad_width(name, 0xffff_ffff);
 }
 
-fn print_bad_width(out: Stdout, name: &[u8], n: u32) {
+fn print_bad_width(name: &[u8], n: u32) {
     let after_wholes = take_wholes_in(EMPTY, n);
     let after_numbers = take_numbers_in(after_wholes, n);
-    print_of_one(out, name, n, take_words_out(after_numbers, n));
+    print_of_one(name, n, take_words_out(after_numbers, n));
 }
 
 fn take_wholes_in(start: u64, n: u32) -> u64 {
@@ -52,9 +51,9 @@ fn take_words_out(start: u64, n: u32) -> u64 {
 }
 
 // At width 64 no word is stray.
-pub(crate) fn print_strays(out: Stdout, name: &[u8], n: u32) {
+pub(crate) fn print_strays(name: &[u8], n: u32) {
     if n < Width::GREATEST {
-        print_of_one(out, name, n, take_strays(n));
+        print_of_one(name, n, take_strays(n));
     }
 }
 

@@ -8,7 +8,6 @@ use census::bits::{ALL_BITS, TOP_BIT, bounded, power_of_two};
 use census::digest::{EMPTY, scramble};
 use census::line::print_of_one;
 use census::run::Run;
-use std::io::Stdout;
 
 // Parts 18 and 53: the first place is that of -70,000.
 pub(crate) fn take_in_order(ways: Ways, digest: u64, n: u32, place: u64) -> u64
@@ -18,11 +17,11 @@ pub(crate) fn take_in_order(ways: Ways, digest: u64, n: u32, place: u64) -> u64
 }
 
 // Part 19.
-pub(crate) fn print_limit(out: Stdout, name: &[u8], n: u32)
+pub(crate) fn print_limit(name: &[u8], n: u32)
     requires { (2 ≤ n) × (n ≤ 64) }
 {
     let digest = take_both_of_five(Ways::WholeRound, EMPTY, n, limit_of(n));
-    print_of_one(out, name, n, digest);
+    print_of_one(name, n, digest);
 }
 
 // Where the library refuses the width, the limit 0 has to show it.
@@ -34,15 +33,10 @@ fn limit_of(n: u32) -> u64 {
 }
 
 // Part 20.
-pub(crate) fn print_brink(out: Stdout, name: &[u8], n: u32)
+pub(crate) fn print_brink(name: &[u8], n: u32)
     requires { (2 ≤ n) × (n ≤ 64) }
 {
-    print_of_one(
-        out,
-        name,
-        n,
-        take_past_ends(take_ends(Ways::WholeRound, n), n),
-    );
+    print_of_one(name, n, take_past_ends(take_ends(Ways::WholeRound, n), n));
 }
 
 // The words around that of value 2^63. Below width 4 there is none.

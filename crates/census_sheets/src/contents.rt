@@ -9,7 +9,6 @@ use crate::strayed::take_strayed;
 use crate::writing::{Content, take_writing, write_lent};
 use census::digest::{EMPTY, scramble, sequence};
 use census::line::print_of_two;
-use std::io::Stdout;
 
 // The number and the words of a content, and the state of the sequence that they were drawn from, after them.
 #[derive(Clone, Copy)]
@@ -40,34 +39,34 @@ pub(crate) fn draw_content(w: u32, count: usize, start: u64) -> Drawn
 }
 
 // Part 45.
-pub(crate) fn print_written(out: Stdout, name: &[u8], w: u32)
+pub(crate) fn print_written(name: &[u8], w: u32)
     requires { w ≤ 64 }
 {
     let full = full_of(w);
     let mut state = sequence(47_000 + w as u64);
-    state = print_as_drawn(out, name, w, 0, state);
-    state = print_as_drawn(out, name, w, 1, state);
-    state = print_as_drawn(out, name, w, 2, state);
-    state = print_as_drawn(out, name, w, full - 1, state);
-    state = print_as_drawn(out, name, w, full, state);
-    state = print_as_drawn(out, name, w, full + 1, state);
-    print_as_drawn(out, name, w, 2 * full + 1, state);
+    state = print_as_drawn(name, w, 0, state);
+    state = print_as_drawn(name, w, 1, state);
+    state = print_as_drawn(name, w, 2, state);
+    state = print_as_drawn(name, w, full - 1, state);
+    state = print_as_drawn(name, w, full, state);
+    state = print_as_drawn(name, w, full + 1, state);
+    print_as_drawn(name, w, 2 * full + 1, state);
 }
 
 // Part 46.
-pub(crate) fn print_strayed(out: Stdout, name: &[u8], w: u32)
+pub(crate) fn print_strayed(name: &[u8], w: u32)
     requires { w ≤ 64 }
 {
     let full = full_of(w);
     let mut state = sequence(48_000 + w as u64);
-    state = print_with_strays(out, name, w, 1, state);
-    state = print_with_strays(out, name, w, 2, state);
-    state = print_with_strays(out, name, w, full / 2, state);
-    print_with_strays(out, name, w, full, state);
+    state = print_with_strays(name, w, 1, state);
+    state = print_with_strays(name, w, 2, state);
+    state = print_with_strays(name, w, full / 2, state);
+    print_with_strays(name, w, full, state);
 }
 
 // Prints the line of a count, and gives back the state of the sequence after it.
-fn print_as_drawn(out: Stdout, name: &[u8], w: u32, count: u32, start: u64) -> u64
+fn print_as_drawn(name: &[u8], w: u32, count: u32, start: u64) -> u64
     requires { count ≤ 1000 }
 {
     let drawn = draw_content(w, count as usize, start);
@@ -77,11 +76,11 @@ fn print_as_drawn(out: Stdout, name: &[u8], w: u32, count: u32, start: u64) -> u
         number: drawn.number,
         count: count as usize,
     };
-    print_of_two(out, name, w, count, take_sizes(content, &words));
+    print_of_two(name, w, count, take_sizes(content, &words));
     drawn.state
 }
 
-fn print_with_strays(out: Stdout, name: &[u8], w: u32, count: u32, start: u64) -> u64
+fn print_with_strays(name: &[u8], w: u32, count: u32, start: u64) -> u64
     requires { (1 ≤ count) × (count ≤ 1000) }
 {
     let drawn = draw_content(w, count as usize, start);
@@ -91,7 +90,7 @@ fn print_with_strays(out: Stdout, name: &[u8], w: u32, count: u32, start: u64) -
         number: drawn.number,
         count: count as usize,
     };
-    print_of_two(out, name, w, count, take_strayed(content, &words));
+    print_of_two(name, w, count, take_strayed(content, &words));
     drawn.state
 }
 

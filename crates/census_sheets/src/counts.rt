@@ -6,7 +6,6 @@ use crate::bytes::{flip, seal};
 use crate::reading::{take_reading, take_readings_around};
 use census::digest::{EMPTY, sequence};
 use census::line::print_of_two;
-use std::io::Stdout;
 
 // How a block of a count is read.
 #[derive(Clone, Copy)]
@@ -16,37 +15,37 @@ enum Told {
 }
 
 // Part 32.
-pub(crate) fn print_blocks(out: Stdout, name: &[u8], w: u32)
+pub(crate) fn print_blocks(name: &[u8], w: u32)
     requires { w ≤ 64 }
 {
     let full = full_of(w);
     let mut state = sequence(40_000 + w as u64);
-    state = print_count(out, name, Told::AsItIs, w, 0, state);
-    state = print_count(out, name, Told::AsItIs, w, 1, state);
-    state = print_count(out, name, Told::AsItIs, w, 2, state);
-    state = print_count(out, name, Told::AsItIs, w, full - 1, state);
-    state = print_count(out, name, Told::AsItIs, w, full, state);
-    state = print_count(out, name, Told::AsItIs, w, full + 1, state);
-    print_count(out, name, Told::AsItIs, w, 65_535, state);
+    state = print_count(name, Told::AsItIs, w, 0, state);
+    state = print_count(name, Told::AsItIs, w, 1, state);
+    state = print_count(name, Told::AsItIs, w, 2, state);
+    state = print_count(name, Told::AsItIs, w, full - 1, state);
+    state = print_count(name, Told::AsItIs, w, full, state);
+    state = print_count(name, Told::AsItIs, w, full + 1, state);
+    print_count(name, Told::AsItIs, w, 65_535, state);
 }
 
 // Part 38.
-pub(crate) fn print_fills(out: Stdout, name: &[u8], w: u32)
+pub(crate) fn print_fills(name: &[u8], w: u32)
     requires { w ≤ 64 }
 {
     let mut state = sequence(44_000 + w as u64);
-    state = print_count(out, name, Told::Flipped, w, 0, state);
-    state = print_count(out, name, Told::Flipped, w, 1, state);
-    print_count(out, name, Told::Flipped, w, full_of(w) - 1, state);
+    state = print_count(name, Told::Flipped, w, 0, state);
+    state = print_count(name, Told::Flipped, w, 1, state);
+    print_count(name, Told::Flipped, w, full_of(w) - 1, state);
 }
 
 // Prints the line of a count, and gives back the state of the sequence after it.
-fn print_count(out: Stdout, name: &[u8], told: Told, w: u32, count: u32, start: u64) -> u64 {
+fn print_count(name: &[u8], told: Told, w: u32, count: u32, start: u64) -> u64 {
     let drawn = draw_block(w, count, start);
     let block = drawn.block;
     let words = words_of(w, count) as usize;
     let digest = take_count(told, block, end_of_words(w, count), words);
-    print_of_two(out, name, w, count, digest);
+    print_of_two(name, w, count, digest);
     drawn.state
 }
 

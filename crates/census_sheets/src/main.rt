@@ -28,45 +28,43 @@ use crate::lengths::{print_drawn_columns, print_planted_columns};
 use crate::parts::{print_pairs_everywhere, print_part};
 use crate::runs::print_one_line;
 use crate::uncolumned::print_bad_widths;
-use std::io::Stdout;
 
-fn main(rt: HostRuntime) {
-    let out = rt.stdout();
-    print_columns(out);
-    print_blocks(out);
-    print_written_blocks(out);
+fn main() {
+    print_columns();
+    print_blocks();
+    print_written_blocks();
 }
 
 // Parts 28 to 31.
-fn print_columns(out: Stdout) {
-    print_drawn_columns(out);
-    print_planted_columns(out);
-    print_bad_widths(out, b"uncolumned");
-    print_pairs_everywhere(out, b"pairs");
+fn print_columns() {
+    print_drawn_columns();
+    print_planted_columns();
+    print_bad_widths(b"uncolumned");
+    print_pairs_everywhere(b"pairs");
 }
 
 // Parts 32 to 40.
-fn print_blocks(out: Stdout) {
-    print_part(out, b"block", 32);
-    print_part(out, b"byte", 33);
-    print_part(out, b"sums", 34);
-    print_part(out, b"fault", 35);
-    print_one_line(out, b"widthbyte", Change::WidthByte, 1);
-    print_one_line(out, b"widthbyte", Change::WidthByte, 63);
-    print_one_line(out, b"mark", Change::Mark, 16);
-    print_part(out, b"fill", 38);
-    print_part(out, b"size", 39);
-    print_part(out, b"number", 40);
+fn print_blocks() {
+    print_part(b"block", 32);
+    print_part(b"byte", 33);
+    print_part(b"sums", 34);
+    print_part(b"fault", 35);
+    print_one_line(b"widthbyte", Change::WidthByte, 1);
+    print_one_line(b"widthbyte", Change::WidthByte, 63);
+    print_one_line(b"mark", Change::Mark, 16);
+    print_part(b"fill", 38);
+    print_part(b"size", 39);
+    print_part(b"number", 40);
 }
 
 // Parts 45 to 50.
-fn print_written_blocks(out: Stdout) {
-    print_part(out, b"written", 45);
-    print_part(out, b"strayed", 46);
-    print_part(out, b"unwritten", 47);
-    print_one_line(out, b"writtenwidth", Change::WrittenWidth, 0);
-    print_one_line(out, b"writtenwidth", Change::WrittenWidth, 1);
-    print_one_line(out, b"writtenwidth", Change::WrittenWidth, 63);
-    print_part(out, b"writtennumber", 49);
-    print_part(out, b"again", 50);
+fn print_written_blocks() {
+    print_part(b"written", 45);
+    print_part(b"strayed", 46);
+    print_part(b"unwritten", 47);
+    print_one_line(b"writtenwidth", Change::WrittenWidth, 0);
+    print_one_line(b"writtenwidth", Change::WrittenWidth, 1);
+    print_one_line(b"writtenwidth", Change::WrittenWidth, 63);
+    print_part(b"writtennumber", 49);
+    print_part(b"again", 50);
 }

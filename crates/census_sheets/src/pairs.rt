@@ -6,10 +6,9 @@ use bounds::width::Width;
 use census::digest::{EMPTY, sequence};
 use census::line::print_of_one;
 use census::run::Run;
-use std::io::Stdout;
 
 // The sequence runs on from one target width to the next.
-pub(crate) fn print_pairs(out: Stdout, name: &[u8], from: u32)
+pub(crate) fn print_pairs(name: &[u8], from: u32)
     requires { (2 ≤ from) × (from ≤ 64) }
 {
     let mut run = Run {
@@ -21,7 +20,7 @@ pub(crate) fn print_pairs(out: Stdout, name: &[u8], from: u32)
         run = take_pair(run, from, to);
         to += 1;
     }
-    print_of_one(out, name, from, run.digest);
+    print_of_one(name, from, run.digest);
 }
 
 fn take_pair(run: Run, from: u32, to: u32) -> Run

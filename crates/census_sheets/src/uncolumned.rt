@@ -5,18 +5,17 @@ use crate::columns::{Shape, take_two_moves};
 use census::bits::TOP_BIT;
 use census::digest::EMPTY;
 use census::line::print_of_one;
-use std::io::Stdout;
 
-pub(crate) fn print_bad_widths(out: Stdout, name: &[u8]) {
-    print_bad_width(out, name, 0);
-    print_bad_width(out, name, 1);
-    print_bad_width(out, name, 65);
-    print_bad_width(out, name, 0x8000_0000);
-    print_bad_width(out, name, 0xffff_ffff);
+pub(crate) fn print_bad_widths(name: &[u8]) {
+    print_bad_width(name, 0);
+    print_bad_width(name, 1);
+    print_bad_width(name, 65);
+    print_bad_width(name, 0x8000_0000);
+    print_bad_width(name, 0xffff_ffff);
 }
 
-fn print_bad_width(out: Stdout, name: &[u8], n: u32) {
-    print_of_one(out, name, n, take_uncolumned(n));
+fn print_bad_width(name: &[u8], n: u32) {
+    print_of_one(name, n, take_uncolumned(n));
 }
 
 // From the bad width, to it, and both.

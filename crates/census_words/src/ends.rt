@@ -8,15 +8,14 @@ use crate::offers::{Size, full_size, size_of};
 use census::bits::{ALL_BITS, TOP_BIT, power_of_two};
 use census::digest::EMPTY;
 use census::line::print_of_one;
-use std::io::Stdout;
 
 // The smallest positive word and the largest.
-pub(crate) fn print_ends(out: Stdout, name: &[u8], n: u32)
+pub(crate) fn print_ends(name: &[u8], n: u32)
     requires { (2 ≤ n) × (n ≤ 64) }
 {
     let largest = power_of_two(n - 1) - 1;
     let after_smallest = take_end(EMPTY, n, 1);
-    print_of_one(out, name, n, take_end(after_smallest, n, largest));
+    print_of_one(name, n, take_end(after_smallest, n, largest));
 }
 
 fn take_end(digest: u64, n: u32, word: u64) -> u64 {

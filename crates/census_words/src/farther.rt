@@ -3,16 +3,15 @@ use crate::longs::take_roundings;
 use census::bits::{ALL_BITS, TOP_BIT};
 use census::digest::EMPTY;
 use census::line::print_of_one;
-use std::io::Stdout;
 
-pub(crate) fn print_farther(out: Stdout, name: &[u8], n: u32) {
+pub(crate) fn print_farther(name: &[u8], n: u32) {
     let mut digest = take_exponents(EMPTY, n, 0, 0);
     digest = take_exponents(digest, n, 0, 1);
     digest = take_exponents(digest, n, 0, TOP_BIT);
     digest = take_exponents(digest, n, 1, 0);
     digest = take_exponents(digest, n, TOP_BIT, 0);
     digest = take_exponents(digest, n, TOP_BIT, 1);
-    print_of_one(out, name, n, take_exponents(digest, n, ALL_BITS, ALL_BITS));
+    print_of_one(name, n, take_exponents(digest, n, ALL_BITS, ALL_BITS));
 }
 
 fn take_exponents(start: u64, n: u32, high: u64, low: u64) -> u64 {

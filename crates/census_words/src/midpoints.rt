@@ -19,8 +19,8 @@ pub(crate) fn take_up_to_next(digest: u64, n: u32, word: u64) -> u64
 
 // The midpoint doesn't depend on which of the two sizes has the lower place.
 fn take_between(digest: u64, n: u32, a: Size, b: Size) -> u64
-    requires le_place { (400 ≤ a.place) × (a.place ≤ 1400) }
-    requires le_place_2 { (400 ≤ b.place) × (b.place ≤ 1400) }
+    requires a_in_range { (400 ≤ a.place) × (a.place ≤ 1400) }
+    requires b_in_range { (400 ≤ b.place) × (b.place ≤ 1400) }
 {
     if a.place <= b.place {
         return take_midpoint(digest, n, a, b);

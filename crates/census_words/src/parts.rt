@@ -9,7 +9,6 @@ use crate::runs::{print_one_line, print_runs};
 use crate::subjects::Subject;
 use crate::widths::print_width;
 use bounds::width::Width;
-use std::io::Stdout;
 
 #[derive(Clone, Copy)]
 pub(crate) enum Part {
@@ -23,41 +22,41 @@ pub(crate) enum Part {
 }
 
 // Prints a part at every width.
-pub(crate) fn print_everywhere(out: Stdout, name: &[u8], part: Part) {
-    print_part(out, name, part, Width::LEAST, Width::GREATEST);
+pub(crate) fn print_everywhere(name: &[u8], part: Part) {
+    print_part(name, part, Width::LEAST, Width::GREATEST);
 }
 
 // Part 44: at every width with the bad ones before and after them, and at bad ones farther off.
-pub(crate) fn print_at_all_widths(out: Stdout, name: &[u8]) {
-    print_farther(out, name, 0);
-    print_farther(out, name, 1);
-    print_everywhere(out, name, Part::Farther);
-    print_farther(out, name, 65);
-    print_farther(out, name, 0x8000_0000);
-    print_farther(out, name, 0xffff_ffff);
+pub(crate) fn print_at_all_widths(name: &[u8]) {
+    print_farther(name, 0);
+    print_farther(name, 1);
+    print_everywhere(name, Part::Farther);
+    print_farther(name, 65);
+    print_farther(name, 0x8000_0000);
+    print_farther(name, 0xffff_ffff);
 }
 
 // Prints a part at each width from the first one to the last one.
-pub(crate) fn print_part(out: Stdout, name: &[u8], part: Part, first: u32, last: u32)
+pub(crate) fn print_part(name: &[u8], part: Part, first: u32, last: u32)
     requires { (2 ≤ first) × (last ≤ 64) }
 {
     let mut n = first;
     while n <= last {
-        print_at(out, name, part, n);
+        print_at(name, part, n);
         n += 1;
     }
 }
 
-fn print_at(out: Stdout, name: &[u8], part: Part, n: u32)
+fn print_at(name: &[u8], part: Part, n: u32)
     requires { (2 ≤ n) × (n ≤ 64) }
 {
     match part {
-        Part::Widths => print_width(out, name, n),
-        Part::Runs(subject) => print_runs(out, name, subject, n),
-        Part::Line(subject) => print_one_line(out, name, subject, n),
-        Part::Strays(asked) => print_strays(out, name, asked, n),
-        Part::Past => print_past(out, name, n),
-        Part::Farther => print_farther(out, name, n),
-        Part::Ends => print_ends(out, name, n),
+        Part::Widths => print_width(name, n),
+        Part::Runs(subject) => print_runs(name, subject, n),
+        Part::Line(subject) => print_one_line(name, subject, n),
+        Part::Strays(asked) => print_strays(name, asked, n),
+        Part::Past => print_past(name, n),
+        Part::Farther => print_farther(name, n),
+        Part::Ends => print_ends(name, n),
     }
 }

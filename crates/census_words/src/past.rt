@@ -3,12 +3,11 @@ use crate::writings::take_writings;
 use census::bits::ALL_BITS;
 use census::digest::EMPTY;
 use census::line::print_of_one;
-use std::io::Stdout;
 
-pub(crate) fn print_past(out: Stdout, name: &[u8], n: u32) {
+pub(crate) fn print_past(name: &[u8], n: u32) {
     let after_zero = take_exponents(EMPTY, n, 0);
     let after_one = take_exponents(after_zero, n, 1);
-    print_of_one(out, name, n, take_exponents(after_one, n, ALL_BITS));
+    print_of_one(name, n, take_exponents(after_one, n, ALL_BITS));
 }
 
 fn take_exponents(start: u64, n: u32, m: u64) -> u64 {

@@ -7,7 +7,6 @@ use bounds::width::Width;
 use census::bits::{ALL_BITS, TOP_BIT, power_of_two};
 use census::digest::EMPTY;
 use census::line::print_of_one;
-use std::io::Stdout;
 
 // What the library is asked of words.
 #[derive(Clone, Copy)]
@@ -16,16 +15,16 @@ pub(crate) enum Asked {
     Moving,
 }
 
-pub(crate) fn print_bad_widths(out: Stdout, name: &[u8], asked: Asked) {
-    print_bad_width(out, name, asked, 0);
-    print_bad_width(out, name, asked, 1);
-    print_bad_width(out, name, asked, 65);
-    print_bad_width(out, name, asked, 0x8000_0000);
-    print_bad_width(out, name, asked, 0xffff_ffff);
+pub(crate) fn print_bad_widths(name: &[u8], asked: Asked) {
+    print_bad_width(name, asked, 0);
+    print_bad_width(name, asked, 1);
+    print_bad_width(name, asked, 65);
+    print_bad_width(name, asked, 0x8000_0000);
+    print_bad_width(name, asked, 0xffff_ffff);
 }
 
-fn print_bad_width(out: Stdout, name: &[u8], asked: Asked, n: u32) {
-    print_of_one(out, name, n, take_at_bad_width(asked, n));
+fn print_bad_width(name: &[u8], asked: Asked, n: u32) {
+    print_of_one(name, n, take_at_bad_width(asked, n));
 }
 
 fn take_at_bad_width(asked: Asked, n: u32) -> u64 {
@@ -36,9 +35,9 @@ fn take_at_bad_width(asked: Asked, n: u32) -> u64 {
 }
 
 // At width 64 no word is stray.
-pub(crate) fn print_strays(out: Stdout, name: &[u8], asked: Asked, n: u32) {
+pub(crate) fn print_strays(name: &[u8], asked: Asked, n: u32) {
     if n < Width::GREATEST {
-        print_of_one(out, name, n, take_strays(asked, n));
+        print_of_one(name, n, take_strays(asked, n));
     }
 }
 

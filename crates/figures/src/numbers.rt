@@ -5,77 +5,76 @@ use binary64::taking::{Binary64, take_binary64};
 use binary64::writing::write_binary64;
 use bounds::width::{Made, Width};
 use round::value::Rule;
-use std::io::Stdout;
 use whole::shortest::shortest_width;
 use whole::taking::{Taking, Whole, take_whole};
 use whole::writing::write_whole;
 
-pub(crate) fn print_whole_in(out: Stdout, n: u32, rule: Rule, x: i64) {
-    print_width(out, n);
-    print_bytes(out, b" whole number ");
-    print_signed(out, x);
-    print_written(out, rule, write_whole(Width { bits: n }, rule, x));
+pub(crate) fn print_whole_in(n: u32, rule: Rule, x: i64) {
+    print_width(n);
+    print_bytes(b" whole number ");
+    print_signed(x);
+    print_written(rule, write_whole(Width { bits: n }, rule, x));
 }
 
-pub(crate) fn print_whole_out(out: Stdout, n: u32, rule: Taking, word: u64) {
-    print_word_of_width(out, n, word);
-    print_taking(out, rule);
-    print_bytes(out, b" is ");
+pub(crate) fn print_whole_out(n: u32, rule: Taking, word: u64) {
+    print_word_of_width(n, word);
+    print_taking(rule);
+    print_bytes(b" is ");
     match take_whole(Width { bits: n }, rule, word) {
-        Whole::Is(x) => print_signed(out, x),
-        Whole::Refused(refusal) => print_refusal(out, refusal),
+        Whole::Is(x) => print_signed(x),
+        Whole::Refused(refusal) => print_refusal(refusal),
     }
-    print_bytes(out, b"\n");
+    print_bytes(b"\n");
 }
 
-fn print_taking(out: Stdout, rule: Taking) {
+fn print_taking(rule: Taking) {
     match rule {
-        Taking::Nearest => print_bytes(out, b" nearest"),
-        Taking::Strict => print_bytes(out, b" strict"),
+        Taking::Nearest => print_bytes(b" nearest"),
+        Taking::Strict => print_bytes(b" strict"),
     }
 }
 
 // The shortest width of a whole number.
-pub(crate) fn print_shortest(out: Stdout, x: i64) {
-    print_bytes(out, b"whole number ");
-    print_signed(out, x);
+pub(crate) fn print_shortest(x: i64) {
+    print_bytes(b"whole number ");
+    print_signed(x);
     match shortest_width(x) {
         Made::Width(width) => {
-            print_bytes(out, b" needs ");
-            print_width(out, width.bits);
+            print_bytes(b" needs ");
+            print_width(width.bits);
         }
         Made::Refused(refusal) => {
-            print_bytes(out, b" is ");
-            print_refusal(out, refusal);
+            print_bytes(b" is ");
+            print_refusal(refusal);
         }
     }
-    print_bytes(out, b"\n");
+    print_bytes(b"\n");
 }
 
 // A binary64 number by its bit pattern.
-pub(crate) fn print_binary64_in(out: Stdout, n: u32, rule: Rule, x: f64) {
-    print_width(out, n);
-    print_bytes(out, b" binary64 ");
-    print_pattern(out, x);
-    print_written(out, rule, write_binary64(Width { bits: n }, rule, x));
+pub(crate) fn print_binary64_in(n: u32, rule: Rule, x: f64) {
+    print_width(n);
+    print_bytes(b" binary64 ");
+    print_pattern(x);
+    print_written(rule, write_binary64(Width { bits: n }, rule, x));
 }
 
-pub(crate) fn print_binary64_out(out: Stdout, n: u32, word: u64) {
-    print_word_of_width(out, n, word);
-    print_bytes(out, b" as binary64 is ");
+pub(crate) fn print_binary64_out(n: u32, word: u64) {
+    print_word_of_width(n, word);
+    print_bytes(b" as binary64 is ");
     match take_binary64(Width { bits: n }, word) {
-        Binary64::Number(x) => print_pattern(out, x),
-        Binary64::Nar => print_bytes(out, b"no reading"),
-        Binary64::Refused(refusal) => print_refusal(out, refusal),
+        Binary64::Number(x) => print_pattern(x),
+        Binary64::Nar => print_bytes(b"no reading"),
+        Binary64::Refused(refusal) => print_refusal(refusal),
     }
-    print_bytes(out, b"\n");
+    print_bytes(b"\n");
 }
 
 // A NaN has many patterns.
-fn print_pattern(out: Stdout, x: f64) {
+fn print_pattern(x: f64) {
     if x != x {
-        print_bytes(out, b"nan");
+        print_bytes(b"nan");
         return;
     }
-    print_hex(out, f64::to_bits(x));
+    print_hex(f64::to_bits(x));
 }

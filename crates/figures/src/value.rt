@@ -2,17 +2,16 @@
 ghost use Rattle.std.specs.Prelude.{◌<◌};
 
 use crate::text::{print_bytes, print_number, print_signed};
-use std::io::Stdout;
 
 // The size is m * 2^(h - p).
-pub(crate) fn print_value(out: Stdout, negative: bool, h: i32, m: u64, p: u32) {
+pub(crate) fn print_value(negative: bool, h: i32, m: u64, p: u32) {
     if negative {
-        print_bytes(out, b"-");
+        print_bytes(b"-");
     }
     let twos = twos_in(m);
-    print_number(out, m >> twos);
-    print_bytes(out, b" * 2^");
-    print_signed(out, exponent(h, p, twos));
+    print_number(m >> twos);
+    print_bytes(b" * 2^");
+    print_signed(exponent(h, p, twos));
 }
 
 // How many factors two m has. Zero, which has no end of them, stays as it is.

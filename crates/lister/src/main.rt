@@ -7,7 +7,7 @@ mod report;
 mod runs;
 
 use crate::pieces::list_all;
-use crate::report::{NUMBERS, open_report, report};
+use crate::report::{NUMBERS, report};
 use std::env::{Env, FillError};
 use std::process::ExitCode;
 
@@ -19,9 +19,7 @@ fn main(rt: HostRuntime) -> ExitCode {
     let mut counts = [0u64; NUMBERS];
     let listed = list_all(rt, &mut counts);
     if listed.complete && has_argument(rt) {
-        if let Ok(mut to) = open_report(rt) {
-            report(&mut to, listed.place, &counts);
-        }
+        report(listed.place, &counts);
     }
     if listed.unread {
         return ExitCode::from(UNREAD);

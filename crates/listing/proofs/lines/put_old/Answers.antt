@@ -13,8 +13,8 @@ pub returns-then-width-eq-RETIRED : goal.returns-then-width-eq-RETIRED
 unfolding old space
 returns-then-width-eq-RETIRED c =
     let p = c.put_text in
-    (subst (λ (t : List ℕ). Puts c.args.out.now c.args.at t p.new.out p.result) (sym (is_old _ (omega (arith, c.if-width-eq-RETIRED.true)))) p.ensures, omega (arith, p.ensures.place))
+    (subst (λ (t : List ℕ). Puts c.args.out.now c.args.at t p.new.out p.result) (sym (is_old _ (omega arith))) p.ensures, omega (arith, p.ensures.place))
 
 pub returns : goal.returns
 returns c =
-    (subst (λ (t : List ℕ). Puts c.args.out.now c.args.at t c.args.out.now c.args.at) (sym (isn't_old _ (λ e. omega (arith, e, c.if-width-eq-RETIRED.false)))) (nothing_put _ _ (omega arith)), omega arith)
+    (subst (λ (t : List ℕ). Puts c.args.out.now c.args.at t c.args.out.now c.args.at) (sym (isn't_old _ (λ e. omega (arith, e)))) (nothing_put _ _ (omega arith)), omega arith)

@@ -19,9 +19,6 @@ loop-left-init c = (le_refl _, none_yet _ _ _ _ _ c.requires.2, whole_left c.arg
 pub overflow_sub-left : goal.overflow_sub-left
 overflow_sub-left c = c.loop-left-test.true
 
-pub nonzero_rem-rest : goal.nonzero_rem-rest
-nonzero_rem-rest c = omega (arith, c.requires.0)
-
 pub glyph-requires : goal.glyph-requires
 glyph-requires c = lt_of_lt_of_le (mod-lt _ (lt_trans (lit< tt) c.requires.0)) c.requires.1
 
@@ -33,9 +30,6 @@ overflow_add-out c =
 
 pub bounds-out-at : goal.bounds-out-at
 bounds-out-at c = let i = c.loop-left.invariant in omega (arith, i.0, i.3, c.requires.2, c.loop-left-test.true)
-
-pub nonzero_div-rest : goal.nonzero_div-rest
-nonzero_div-rest c = omega (arith, c.requires.0)
 
 pub loop-left-smaller : goal.loop-left-smaller
 loop-left-smaller c = falls_down c.loop-left.left c.loop-left-test.true

@@ -1,5 +1,5 @@
 -- `put_block` meets its contract: what its four parts leave is the block that has the content. Assumes nothing.
-use Rattle.std.proofs.Common.{◌∙◌, arith}
+use Rattle.std.proofs.Common.{arith}
 use Rattle.sheet.specs.Layout.{AreBytes}
 use Rattle.sheet.proofs.Contents.{fitting, small_count, fit_bytes}
 use Rattle.sheet.proofs.Making.{is_block_of}

@@ -2,22 +2,21 @@
 use mathlib.Core.Bool.{true, true≢false}
 use mathlib.Core.Path.{◌≡◌, refl, sym, ap, ap₂, ◌∙◌, subst, subst₂}
 use Prim.Native.Nat.{ℕ}
-use Rattle.bounds.specs.declared.answer.Answer.{Answer}
 use Rattle.bounds.specs.declared.answer.Written.{Written}
+use Rattle.std.specs.Prelude.{Ok, Err}
 use Rattle.bounds.specs.declared.refusal.Refusal.{Refusal}
-use Rattle.bounds.specs.declared.refusal.Verdict.{Verdict}
 use Rattle.bounds.specs.declared.saying.Saying.{Saying}
 use Rattle.bounds.specs.declared.saying.Saying.TheVariants.{Exact, Below, Above, PastTheEnd}
-use Rattle.bounds.specs.Refusals.{Decided, through, refused}
-use Rattle.bounds.specs.Sayings.{says_exact, plain, AndSays}
+use Rattle.bounds.specs.Refusals.{Answer, Verdict, Decided, through, refused}
+use Rattle.bounds.specs.Sayings.{says_exact, written, plain, AndSays}
 
-unfoldable pub word_of : Answer → ℕ
-word_of (Answer.Word w) = w
-word_of (Answer.Refused q) = 0
+unfoldable pub word_of : Answer ℕ → ℕ
+word_of (Ok w) = w
+word_of (Err q) = 0
 
-unfoldable pub GivesAWord : Answer → Type 0
-GivesAWord (Answer.Word w) = Unit {0}
-GivesAWord (Answer.Refused q) = ⊥
+unfoldable pub GivesAWord : Answer ℕ → Type 0
+GivesAWord (Ok w) = Unit {0}
+GivesAWord (Err q) = ⊥
 
 -- ---- with a saying
 pub is_exact : (t : Saying) → says_exact t ≡ true → t ≡ Exact
@@ -26,59 +25,56 @@ is_exact Below q = absurd (true≢false (sym q))
 is_exact Above q = absurd (true≢false (sym q))
 is_exact PastTheEnd q = absurd (true≢false (sym q))
 
-saying_of : Written → Saying
-saying_of (Written.Word w s) = s
-saying_of (Written.Refused q) = Exact
+saying_of : Answer Written → Saying
+saying_of (Ok a) = a.saying
+saying_of (Err q) = Exact
 
 -- two that are the same have the same word and the same saying
-pub same_word : {w v : ℕ} {s t : Saying} → Written.Word w s ≡ Written.Word v t → (w ≡ v) × (s ≡ t)
+pub same_word : {w v : ℕ} {s t : Saying} → written w s ≡ written v t → (w ≡ v) × (s ≡ t)
 unfolding word_of saying_of
-same_word q = (ap (λ (r : Written). word_of (plain r)) q, ap saying_of q)
+same_word q = (ap (λ (r : Answer Written). word_of (plain r)) q, ap saying_of q)
 
-pub no_refusal : {w : ℕ} {s : Saying} {q : Refusal} → Written.Refused q ≡ Written.Word w s → ⊥
+pub no_refusal : {w : ℕ} {s : Saying} {q : Refusal} → Err q ≡ written w s → ⊥
 unfolding GivesAWord
-no_refusal e = subst (λ (r : Written). GivesAWord (plain r)) (sym e) tt
+no_refusal e = subst (λ (r : Answer Written). GivesAWord (plain r)) (sym e) tt
 
 -- refused, with a saying or without it
-pub plain_refused : (r : Written) (q : Refusal) → plain r ≡ Answer.Refused q → r ≡ Written.Refused q
+pub plain_refused : (r : Answer Written) (q : Refusal) → plain r ≡ Err q → r ≡ Err q
 unfolding GivesAWord
-plain_refused (Written.Word w s) q e = absurd (subst GivesAWord e tt)
-plain_refused (Written.Refused p) q e = ap (λ (a : Answer). by a) e
+plain_refused (Ok a) q e = absurd (subst GivesAWord e tt)
+plain_refused (Err p) q e = ap (λ (a : Answer ℕ). by a) e
   where
-    by : Answer → Written
-    by (Answer.Word w) = Written.Word w Exact
-    by (Answer.Refused u) = Written.Refused u
+    by : Answer ℕ → Answer Written
+    by (Ok w) = written w Exact
+    by (Err u) = Err u
 
-pub plain_word : (r : Written) (w : ℕ) → plain r ≡ Answer.Word w → (s : Saying) × (r ≡ Written.Word w s)
+pub plain_word : (r : Answer Written) (w : ℕ) → plain r ≡ Ok w → (s : Saying) × (r ≡ written w s)
 unfolding GivesAWord word_of
-plain_word (Written.Word v s) w e = (s, ap (λ (u : ℕ). Written.Word u s) (ap word_of e))
-plain_word (Written.Refused q) w e = absurd (subst GivesAWord (sym e) tt)
+plain_word (Ok a) w e = (a.saying, ap (λ (u : ℕ). written u a.saying) (ap word_of e))
+plain_word (Err q) w e = absurd (subst GivesAWord (sym e) tt)
 
-module _ {Answers : Answer → Type 0} {Says : ℕ → Saying → Type 0} where
-  pub word_said : (w : ℕ) (s : Saying) → Answers (Answer.Word w) → Says w s → AndSays Answers Says (Written.Word w s)
+module _ {Answers : Answer ℕ → Type 0} {Says : ℕ → Saying → Type 0} where
+  pub word_said : (w : ℕ) (s : Saying) → Answers (Ok w) → Says w s → AndSays Answers Says (written w s)
   word_said w s x y = record { answers = x; says = λ v t q. subst₂ Says (same_word q).0 (same_word q).1 y }
 
-  pub refusal_said : (q : Refusal) → Answers (Answer.Refused q) → AndSays Answers Says (Written.Refused q)
+  pub refusal_said : (q : Refusal) → Answers (Err q) → AndSays Answers Says (Err q)
   refusal_said q x = record { answers = x; says = λ v t e. absurd (no_refusal e) }
 
   -- where tests come first, and what they let through is answered with its saying
-  pub decided_said : (v : Verdict) (r : Written) → Decided v (λ q. r ≡ Written.Refused q) (AndSays Answers Says r) → AndSays (λ (a : Answer). Decided v (λ q. a ≡ Answer.Refused q) (Answers a)) Says r
+  pub decided_said : (v : Verdict) (r : Answer Written) → Decided v (λ q. r ≡ Err q) (AndSays Answers Says r) → AndSays (λ (a : Answer ℕ). Decided v (λ q. a ≡ Err q) (Answers a)) Says r
   decided_said v r (through e x) = record { answers = through e x.answers; says = x.says }
   decided_said v r (refused {q} e x) = record { answers = refused e (ap plain x); says = λ w s is. absurd (no_refusal (sym x ∙ is)) }
 
   -- one answer and one saying of each word are one answer with its saying
-  pub said_one : ((a b : Answer) → Answers a → Answers b → a ≡ b) → ((w : ℕ) (s t : Saying) → Answers (Answer.Word w) → Says w s → Says w t → s ≡ t) → (a b : Written) → AndSays Answers Says a → AndSays Answers Says b → a ≡ b
+  pub said_one : ((a b : Answer ℕ) → Answers a → Answers b → a ≡ b) → ((w : ℕ) (s t : Saying) → Answers (Ok w) → Says w s → Says w t → s ≡ t) → (a b : Answer Written) → AndSays Answers Says a → AndSays Answers Says b → a ≡ b
   unfolding word_of GivesAWord
-  said_one one says_one (Written.Word w s) (Written.Word v t) x y =
-      let same : w ≡ v = ap word_of (one (Answer.Word w) (Answer.Word v) x.answers y.answers) in
-      ap₂ Written.Word same (says_one w s t x.answers (x.says w s refl) (subst (λ (u : ℕ). Says u t) (sym same) (y.says v t refl)))
-  said_one one says_one (Written.Word w s) (Written.Refused q) x y = absurd (subst GivesAWord (one (Answer.Word w) (Answer.Refused q) x.answers y.answers) tt)
-  said_one one says_one (Written.Refused q) (Written.Word v t) x y = absurd (subst GivesAWord (sym (one (Answer.Refused q) (Answer.Word v) x.answers y.answers)) tt)
-  said_one one says_one (Written.Refused q) (Written.Refused p) x y = ap Written.Refused (refusals (one (Answer.Refused q) (Answer.Refused p) x.answers y.answers))
+  said_one one says_one (Ok a) (Ok b) x y =
+      let same : a.word ≡ b.word = ap word_of (one (Ok a.word) (Ok b.word) x.answers y.answers) in
+      ap₂ written same (says_one a.word a.saying b.saying x.answers (x.says a.word a.saying refl) (subst (λ (u : ℕ). Says u b.saying) (sym same) (y.says b.word b.saying refl)))
+  said_one one says_one (Ok a) (Err q) x y = absurd (subst GivesAWord (one (Ok a.word) (Err q) x.answers y.answers) tt)
+  said_one one says_one (Err q) (Ok b) x y = absurd (subst GivesAWord (sym (one (Err q) (Ok b.word) x.answers y.answers)) tt)
+  said_one one says_one (Err q) (Err p) x y = ap Err (ap refusal_of (one (Err q) (Err p) x.answers y.answers))
     where
-      refusal_of : Answer → Refusal
-      refusal_of (Answer.Word w) = q
-      refusal_of (Answer.Refused u) = u
-
-      refusals : Answer.Refused q ≡ Answer.Refused p → q ≡ p
-      refusals e = ap refusal_of e
+      refusal_of : Answer ℕ → Refusal
+      refusal_of (Ok w) = q
+      refusal_of (Err u) = u

@@ -5,6 +5,8 @@
 pub mod Powers
 -- when the tests of a width and of a word refuse, and what a contract says then
 pub mod Verdicts
+-- what is known of a width that was tested
+pub mod Goods
 -- when the test of the room refuses
 pub mod Rooms
 -- the exponent of the exact-count limit, from one logarithm

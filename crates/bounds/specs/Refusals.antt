@@ -1,9 +1,7 @@
 -- When a call is refused: the refusal numbers of papers 01 and 02 as one table, and the tests that come first in the paper's order.
-use Rattle.std.specs.Prelude.{◌≡◌, Bool, cond, ◌&&◌, ℕ, ◌^◌, ◌≤◌, ◌<◌, leb, ltb}
+use Rattle.std.specs.Prelude.{◌≡◌, Bool, cond, ◌&&◌, ℕ, ◌^◌, ◌≤◌, ◌<◌, leb, ltb, ⊤, Result, Ok, Err}
 use Rattle.bounds.specs.declared.refusal.Refusal.{Refusal}
 use Rattle.bounds.specs.declared.refusal.Refusal.TheVariants.{Width, Stray, Nar, Inexact, Over, Room, Size, Mark, Check, Count, Fill, Retired}
-use Rattle.bounds.specs.declared.refusal.Verdict.{Verdict}
-use Rattle.bounds.specs.declared.refusal.Verdict.TheVariants.{Through, Refused}
 
 abbrev pub number_of : Refusal → ℕ
 number_of Width = 1
@@ -20,15 +18,26 @@ number_of Fill = 11
 -- paper 02, Wish 10; 12, 14 and 15 are for requests to come
 number_of Retired = 13
 
+-- what a call answers: what it gives, or why it is refused
+abbrev pub Answer : Type 0 → Type 0
+Answer A = Result A Refusal
+
+-- a test lets the input through, or refuses it
+abbrev pub Verdict : Type 0
+Verdict = Answer ⊤
+
+abbrev pub passed : Verdict
+passed = Ok tt
+
 -- Of tests in a row, the first that refuses decides.
 infixl 30 ◌then◌
 abbrev pub ◌then◌ : Verdict → Verdict → Verdict
-Through then v = v
-Refused q then v = Refused q
+Ok _ then v = v
+Err q then v = Err q
 
 -- a test that lets through what it holds of
 abbrev pub unless : Refusal → Bool → Verdict
-unless q holds = cond holds Through (Refused q)
+unless q holds = cond holds passed (Err q)
 
 -- 1 WIDTH: a width isn't 2 to 64
 unfoldable pub width_test : ℕ → Verdict
@@ -54,5 +63,5 @@ pub record IsWord (n w : ℕ) : Type 0 where
 
 -- What a contract says: where the tests let the input through, this of the answer; where they refuse it, that of the refusal.
 pub data Decided (v : Verdict) (Refuses : Refusal → Type 0) (Answers : Type 0) : Type 0 where
-  through : v ≡ Through → Answers → Decided v Refuses Answers
-  refused : {q : Refusal} → v ≡ Refused q → Refuses q → Decided v Refuses Answers
+  through : v ≡ passed → Answers → Decided v Refuses Answers
+  refused : {q : Refusal} → v ≡ Err q → Refuses q → Decided v Refuses Answers

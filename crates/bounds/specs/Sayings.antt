@@ -1,9 +1,9 @@
 -- Which way it went (paper 02, Wish 4): the four sayings by their numbers, and what a call answers that has one beside its word. When each is said
 -- stands with what the nearest word is (crates/nearest/specs/Sayings.antt).
-use Rattle.std.specs.Prelude.{◌≡◌, Bool, true, false, ℕ}
-use Rattle.bounds.specs.declared.answer.Answer.{Answer}
+use Rattle.std.specs.Prelude.{◌≡◌, Bool, true, false, ℕ, Ok, Err}
 use Rattle.bounds.specs.declared.answer.Written.{Written}
 use Rattle.bounds.specs.declared.saying.Saying.{Saying}
+use Rattle.bounds.specs.Refusals.{Answer}
 use Rattle.bounds.specs.declared.saying.Saying.TheVariants.{Exact, Below, Above, PastTheEnd}
 
 abbrev pub saying_number : Saying → ℕ
@@ -25,17 +25,20 @@ opposite_saying Below = Above
 opposite_saying Above = Below
 opposite_saying PastTheEnd = PastTheEnd
 
--- the answer without its saying: a word or a refusal
-abbrev pub plain : Written → Answer
-plain (Written.Word w s) = Answer.Word w
-plain (Written.Refused q) = Answer.Refused q
+-- a word and what is said of it
+abbrev pub written : ℕ → Saying → Answer Written
+written w s = Ok (record { word = w; saying = s })
 
--- the same answer, a word being said to be exact
-abbrev pub exactly : Answer → Written
-exactly (Answer.Word w) = Written.Word w Exact
-exactly (Answer.Refused q) = Written.Refused q
+-- the answer without its saying: a word or a refusal
+abbrev pub plain : Answer Written → Answer ℕ
+plain (Ok a) = Ok a.word
+plain (Err q) = Err q
+
+-- the word, said to be exact
+abbrev pub exactly : ℕ → Written
+exactly w = record { word = w; saying = Exact }
 
 -- A call answers a word or a refusal, as it does without sayings; and with a word it says this.
-pub record AndSays (Answers : Answer → Type 0) (Says : ℕ → Saying → Type 0) (r : Written) : Type 0 where
+pub record AndSays (Answers : Answer ℕ → Type 0) (Says : ℕ → Saying → Type 0) (r : Answer Written) : Type 0 where
   pub answers : Answers (plain r)
-  pub says : (w : ℕ) (s : Saying) → r ≡ Written.Word w s → Says w s
+  pub says : (w : ℕ) (s : Saying) → r ≡ written w s → Says w s

@@ -1,9 +1,8 @@
 -- What belongs to a width n: its end words, its NaR word and its exact-count limit (paper 01).
-use Rattle.std.specs.Prelude.{◌≡◌, ℕ, ◌+◌, ◌-◌, ◌^◌, ◌≤◌, ◌<◌}
-use Rattle.bounds.specs.declared.answer.Answer.{Answer}
-use Rattle.bounds.specs.declared.width.Limit.{Limit}
-use Rattle.bounds.specs.declared.width.Made.{Made}
-use Rattle.bounds.specs.Refusals.{width_test, Decided}
+use Rattle.std.specs.Prelude.{◌≡◌, ℕ, ◌+◌, ◌-◌, ◌^◌, ◌≤◌, ◌<◌, Ok, Err}
+use Rattle.bounds.specs.declared.good.GoodWidth.{GoodWidth}
+use Rattle.bounds.specs.declared.width.Width.{Width}
+use Rattle.bounds.specs.Refusals.{Answer, width_test, Decided}
 
 unfoldable pub largest : ℕ → ℕ
 largest n = 2 ^ (n - 1) - 1
@@ -33,12 +32,15 @@ pub record IsLimit (n l : ℕ) : Type 0 where
   pub limit : l ≡ 2 ^ v
 
 -- ---- what the calls answer
-unfoldable pub Makes : ℕ → Made → Type 0
-Makes n a = Decided (width_test n) (λ q. a ≡ Made.Refused q) (a ≡ Made.Width (record { bits = n }))
+unfoldable pub Makes : ℕ → Answer Width → Type 0
+Makes n a = Decided (width_test n) (λ q. a ≡ Err q) (a ≡ Ok (record { bits = n }))
+
+unfoldable pub IsGood : ℕ → Answer GoodWidth → Type 0
+IsGood n a = Decided (width_test n) (λ q. a ≡ Err q) ((width : GoodWidth) × (a ≡ Ok width) × (width.bits ≡ n))
 
 -- the word f n of the width n
-unfoldable pub GivesWord : (ℕ → ℕ) → ℕ → Answer → Type 0
-GivesWord f n a = Decided (width_test n) (λ q. a ≡ Answer.Refused q) (a ≡ Answer.Word (f n))
+unfoldable pub GivesWord : (ℕ → ℕ) → ℕ → Answer ℕ → Type 0
+GivesWord f n a = Decided (width_test n) (λ q. a ≡ Err q) (a ≡ Ok (f n))
 
-unfoldable pub GivesLimit : ℕ → Limit → Type 0
-GivesLimit n a = Decided (width_test n) (λ q. a ≡ Limit.Refused q) ((l : ℕ) × (a ≡ Limit.Count l) × IsLimit n l)
+unfoldable pub GivesLimit : ℕ → Answer ℕ → Type 0
+GivesLimit n a = Decided (width_test n) (λ q. a ≡ Err q) ((l : ℕ) × (a ≡ Ok l) × IsLimit n l)

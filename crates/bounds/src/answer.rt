@@ -1,34 +1,23 @@
-// What a call that gives a word answers.
-ghost use Rattle.std.specs.Prelude.{◌≡◌};
+// What a call that writes a value answers beside a refusal: the word, and which way it went.
+ghost use Rattle.std.specs.Prelude.{◌≡◌, Ok};
 ghost use Rattle.bounds.specs.Sayings.{exactly};
 
-use crate::refusal::Refusal;
 use crate::saying::Saying;
 
 #[derive(Clone, Copy)]
-pub enum Answer {
-    Word(u64),
-    Refused(Refusal),
+pub struct Written {
+    pub word: u64,
+    pub saying: Saying,
 }
 
-// The same of a call that writes a value: with the word it says which way it went.
-#[derive(Clone, Copy)]
-pub enum Written {
-    Word { word: u64, saying: Saying },
-    Refused(Refusal),
-}
-
-impl Answer {
-    // The same answer, of which a word is exactly what was to be written.
-    pub fn exactly(self) -> Written
-        ensures { result ≡ exactly self }
+impl Written {
+    // A word that is exactly what was to be written.
+    pub fn exactly(word: u64) -> Written
+        ensures { result ≡ exactly word }
     {
-        match self {
-            Answer::Word(word) => Written::Word {
-                word,
-                saying: Saying::Exact,
-            },
-            Answer::Refused(q) => Written::Refused(q),
+        Written {
+            word,
+            saying: Saying::Exact,
         }
     }
 }

@@ -2,6 +2,7 @@
 #![tactic(auto)]
 
 pub mod answer;
+pub mod good;
 pub mod refusal;
 pub mod room;
 pub mod saying;

@@ -1,8 +1,8 @@
-// Why a call is refused: the eleven refusals of paper 01 and Wish 10's RETIRED by name, and the verdict of a test.
+// Why a call is refused: the eleven refusals of paper 01 and Wish 10's RETIRED by name.
 ghost use Rattle.std.specs.Prelude.{◌≡◌};
-ghost use Rattle.bounds.specs.Refusals.{number_of, ◌then◌};
+ghost use Rattle.bounds.specs.Refusals.{number_of};
 
-#[derive(Clone, Copy)]
+#[derive(Clone, Copy, PartialEq, Eq)]
 pub enum Refusal {
     Width,
     Stray,
@@ -16,13 +16,6 @@ pub enum Refusal {
     Count,
     Fill,
     Retired,
-}
-
-// A test lets the input through or refuses it.
-#[derive(Clone, Copy)]
-pub enum Verdict {
-    Through,
-    Refused(Refusal),
 }
 
 impl Refusal {
@@ -47,14 +40,19 @@ impl Refusal {
     }
 }
 
-impl Verdict {
-    // Of two tests in a row, the first that refuses decides.
-    pub fn then(self, next: Verdict) -> Verdict
-        ensures { result ≡ self then next }
-    {
-        match self {
-            Verdict::Through => next,
-            Verdict::Refused(q) => Verdict::Refused(q),
-        }
+// Why a call over several words is refused: for what the call was given as a whole, or for the word at a position.
+#[derive(Clone, Copy, PartialEq, Eq)]
+pub enum ListRefusal {
+    Whole(Refusal),
+    At { position: usize, refusal: Refusal },
+}
+
+impl From<Refusal> for ListRefusal {
+    ghost use Rattle.bounds.specs.declared.refusal.ListRefusal.{ListRefusal};
+
+    ghost from_gives = { λ q e. e ≡ ListRefusal.Whole q };
+
+    fn from(q: Refusal) -> ListRefusal {
+        ListRefusal::Whole(q)
     }
 }

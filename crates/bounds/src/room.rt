@@ -2,14 +2,14 @@
 ghost use Rattle.std.specs.Prelude.{◌≡◌};
 ghost use Rattle.bounds.specs.Refusals.{room_test};
 
-use crate::refusal::{Refusal, Verdict};
+use crate::refusal::Refusal;
 
 // Refuses a result slice that has fewer places than there are words to write.
-pub fn test_room(count: usize, places: usize) -> Verdict
+pub fn test_room(count: usize, places: usize) -> Result<(), Refusal>
     ensures { result ≡ room_test count places }
 {
     if count <= places {
-        return Verdict::Through;
+        return Ok(());
     }
-    Verdict::Refused(Refusal::Room)
+    Err(Refusal::Room)
 }

@@ -3,7 +3,7 @@ ghost use Rattle.std.specs.Prelude.{◌≡◌};
 ghost use Rattle.bounds.specs.Sayings.{saying_number, says_exact, opposite_saying};
 
 // The word has exactly the value; it lies below the value, or above it, the sign counting; or the value lies past the end of the words.
-#[derive(Clone, Copy)]
+#[derive(Clone, Copy, PartialEq, Eq)]
 pub enum Saying {
     Exact,
     Below,
@@ -27,12 +27,7 @@ impl Saying {
     pub fn is_exact(self) -> bool
         ensures { result ≡ says_exact self }
     {
-        match self {
-            Saying::Exact => true,
-            Saying::Below => false,
-            Saying::Above => false,
-            Saying::PastTheEnd => false,
-        }
+        self == Saying::Exact
     }
 
     // What is said where value and word are negated: below and above change places.

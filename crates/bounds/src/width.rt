@@ -1,27 +1,15 @@
 // The width of a word: its bounds, the tests of a width and of a word, its end words, NaR word and exact-count limit.
-ghost use Rattle.std.specs.Prelude.{◌≡◌, ◌≤◌};
-ghost use Rattle.bounds.specs.Refusals.{width_test, stray_test, word_test};
-ghost use Rattle.bounds.specs.Widths.{Greatest, largest, smallest, nar_word, Makes, GivesWord, GivesLimit};
+ghost use Rattle.std.specs.Prelude.{◌≡◌};
+ghost use Rattle.bounds.specs.Refusals.{width_test, word_test};
+ghost use Rattle.bounds.specs.Widths.{Greatest, largest, smallest, nar_word, IsGood, Makes, GivesWord, GivesLimit};
 
-use crate::answer::Answer;
-use crate::refusal::{Refusal, Verdict};
+use crate::good::GoodWidth;
+use crate::refusal::Refusal;
 
 // Anybody can make one of any number, so every public call on a width tests it.
 #[derive(Clone, Copy)]
 pub struct Width {
     pub bits: u32,
-}
-
-#[derive(Clone, Copy)]
-pub enum Made {
-    Width(Width),
-    Refused(Refusal),
-}
-
-#[derive(Clone, Copy)]
-pub enum Limit {
-    Count(u64),
-    Refused(Refusal),
 }
 
 impl Width {
@@ -30,89 +18,71 @@ impl Width {
     pub const GREATEST: u32 = 64;
 
     // Refuses what isn't a width.
-    pub fn test(self) -> Verdict
+    pub fn test(self) -> Result<(), Refusal>
         ensures { result ≡ width_test self.bits }
     {
         let n = self.bits;
         if n < Width::LEAST {
-            return Verdict::Refused(Refusal::Width);
+            return Err(Refusal::Width);
         }
         if Width::GREATEST < n {
-            return Verdict::Refused(Refusal::Width);
+            return Err(Refusal::Width);
         }
-        Verdict::Through
+        Ok(())
+    }
+
+    // The width as one that needs no more tests.
+    pub fn good(self) -> Result<GoodWidth, Refusal>
+        ensures { IsGood self.bits result }
+    {
+        self.test()?;
+        Ok(GoodWidth { bits: self.bits })
     }
 
     // Refuses what isn't a word of the width: the width is tested first, then the word.
-    pub fn test_word(self, word: u64) -> Verdict
+    pub fn test_word(self, word: u64) -> Result<(), Refusal>
         ensures { result ≡ word_test self.bits word }
     {
-        match self.test() {
-            Verdict::Through => self.test_bits(word),
-            Verdict::Refused(q) => Verdict::Refused(q),
-        }
-    }
-
-    // Refuses a word that has a bit at or above the width.
-    fn test_bits(self, word: u64) -> Verdict
-        requires { (2 ≤ self.bits) × (self.bits ≤ 64) }
-        ensures { result ≡ stray_test self.bits word }
-    {
-        if word >> (self.bits - 1) < 2 {
-            return Verdict::Through;
-        }
-        Verdict::Refused(Refusal::Stray)
+        self.good()?.test_word(word)
     }
 
     // A width of a number.
-    pub fn new(bits: u32) -> Made
+    pub fn new(bits: u32) -> Result<Width, Refusal>
         ensures { Makes bits result }
     {
         let width = Width { bits };
-        match width.test() {
-            Verdict::Through => Made::Width(width),
-            Verdict::Refused(q) => Made::Refused(q),
-        }
+        width.test()?;
+        Ok(width)
     }
 
     // The largest positive word.
-    pub fn largest(self) -> Answer
+    pub fn largest(self) -> Result<u64, Refusal>
         ensures { GivesWord largest self.bits result }
     {
-        match self.test() {
-            Verdict::Through => Answer::Word(0xffff_ffff_ffff_ffff >> (65 - self.bits)),
-            Verdict::Refused(q) => Answer::Refused(q),
-        }
+        Ok(self.good()?.largest())
     }
 
     // The smallest positive word.
-    pub fn smallest(self) -> Answer
+    pub fn smallest(self) -> Result<u64, Refusal>
         ensures { GivesWord smallest self.bits result }
     {
-        match self.test() {
-            Verdict::Through => Answer::Word(1),
-            Verdict::Refused(q) => Answer::Refused(q),
-        }
+        self.test()?;
+        Ok(1)
     }
 
     // The word of NaR, "not a real".
-    pub fn nar(self) -> Answer
+    pub fn nar(self) -> Result<u64, Refusal>
         ensures { GivesWord nar_word self.bits result }
     {
-        match self.test() {
-            Verdict::Through => Answer::Word(1 << (self.bits - 1)),
-            Verdict::Refused(q) => Answer::Refused(q),
-        }
+        Ok(self.good()?.nar())
     }
 
     // The exact-count limit: every whole number from minus it to it has a word.
-    pub fn limit(self) -> Limit
+    pub fn limit(self) -> Result<u64, Refusal>
         ensures { GivesLimit self.bits result }
     {
-        match self.test() {
-            Verdict::Through => Limit::Count(1 << limit_exponent(self.bits)),
-            Verdict::Refused(q) => Limit::Refused(q),
-        }
+        self.test()?;
+        Ok(1 << limit_exponent(self.bits))
     }
 }
 

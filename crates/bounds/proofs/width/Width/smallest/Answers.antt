@@ -1,13 +1,14 @@
 -- `Width::smallest` meets its contract: the answer follows the verdict. Assumes nothing.
-use mathlib.Core.Path.{refl, sym, ◌∙◌}
-use Rattle.bounds.specs.Refusals.{through, refused}
+use mathlib.Core.Path.{refl, sym}
+use Rattle.bounds.specs.Refusals.{through}
 use Rattle.bounds.specs.Widths.{GivesWord, smallest}
+use Rattle.bounds.proofs.Verdicts.{handed_on}
 use Rattle.bounds.proofs.width.Width.smallest.Goals as goal
 
-pub returns-in-Through : goal.returns-in-Through
-unfolding GivesWord smallest
-returns-in-Through c = through (sym c.test.ensures ∙ c.in-Through.is) refl
-
-pub returns-in-Refused : goal.returns-in-Refused
+pub returns-in_err-test : goal.returns-in_err-test
 unfolding GivesWord
-returns-in-Refused c = refused (sym c.test.ensures ∙ c.in-Refused.is) refl
+returns-in_err-test c = handed_on _ _ c.from_residual.ensures.1 (sym c.in_err-test.ensures)
+
+pub returns : goal.returns
+unfolding GivesWord smallest
+returns c = through (sym c.in_ok-test.ensures) refl

@@ -1,4 +1,7 @@
 -- Up to width 57 a word taken out and written again, by either rule, is the first word. Assumes nothing.
+use Rattle.std.specs.Prelude.{Ok}
+use Rattle.bounds.specs.Refusals.{Answer}
+use Rattle.bounds.specs.Sayings.{written}
 use mathlib.Core.Path.{◌≡◌, sym, ap, ◌∙◌}
 use mathlib.Core.Bool.{Bool}
 use Prim.Native.Nat.{ℕ, ◌*◌, ◌^◌, ◌≤◌}
@@ -9,7 +12,6 @@ use lib.Ieee.Fits.{down_pos}
 use Rattle.word.specs.Reads.{signed_size}
 use Rattle.bounds.specs.Refusals.{IsWord}
 use Rattle.word.specs.Takum.{real, takum}
-use Rattle.bounds.specs.declared.answer.Answer.{Answer}
 use Rattle.bounds.proofs.Verdicts.{width_fits, answered}
 use Rattle.round.specs.declared.value.Rule.{Rule}
 use Rattle.write.specs.Writes.{is_negative}
@@ -22,7 +24,7 @@ use Rattle.binary64.proofs.Exactness.{taken_exact}
 use Rattle.binary64.proofs.Taken.{taken}
 
 -- a number with exactly a word's value is written as that word
-pub value_written_back : (n w : ℕ) (rule : Rule) (x : Float) (z : ℤ) (r : Answer) → IsWord n w → takum n w ≡ real z → HasValue x (is_negative z) (nat_abs z) (2 ^ 307) → IsWrittenBinary64 n rule x r → r ≡ Answer.Word w
+pub value_written_back : (n w : ℕ) (rule : Rule) (x : Float) (z : ℤ) (r : Answer ℕ) → IsWord n w → takum n w ≡ real z → HasValue x (is_negative z) (nat_abs z) (2 ^ 307) → IsWrittenBinary64 n rule x r → r ≡ Ok w
 unfolding IsWrittenBinary64
 value_written_back n w rule nan z r i q h y = absurd h
 value_written_back n w rule (inf s) z r i q h y = absurd h
@@ -30,7 +32,7 @@ value_written_back n w rule (fin s m e) z r i q h y =
     exact_written n i.least i.most rule s (m * up e * 2 ^ 307) (down e) w r (down_pos e)
     (record { z = nat_abs z; is = record { word = i; means = q ∙ ap real (sym (rejoined z) ∙ ap (λ (s : Bool). signed_size s (nat_abs z)) (sym h.0)) }; same = sym h.1 }) y
 
-pub out_then_in : (n w : ℕ) (rule : Rule) (x : Float) (r : Answer) → n ≤ 57 → TakesBinary64 n w (Binary64.Number x) → WritesBinary64 n rule x r → r ≡ Answer.Word w
+pub out_then_in : (n w : ℕ) (rule : Rule) (x : Float) (r : Answer ℕ) → n ≤ 57 → TakesBinary64 n w (Binary64.Number x) → WritesBinary64 n rule x r → r ≡ Ok w
 unfolding WritesBinary64
 out_then_in n w rule x r narrow p q =
     let t = taken_exact n w x narrow p in

@@ -1,4 +1,7 @@
 -- What is written for the value of a bit pattern, and said of it: whatever turns on the value alone is so of the pattern's number. Assumes nothing.
+use Rattle.std.specs.Prelude.{Ok}
+use Rattle.bounds.specs.Refusals.{Answer}
+use Rattle.bounds.specs.Sayings.{written}
 use mathlib.Core.Path.{◌≡◌, refl, sym, ap, ◌∙◌, subst}
 use mathlib.Core.Bool.{Bool}
 use Prim.Native.Nat.{ℕ, ◌+◌, ◌-◌, ◌*◌, ◌^◌, ◌≤◌, ◌<◌}
@@ -11,7 +14,6 @@ use lib.Ieee.Exact.{HasValue}
 use lib.Ieee.Fits.{down_pos}
 use Rattle.word.specs.Reads.{num, den}
 use Rattle.bounds.specs.Widths.{nar_word}
-use Rattle.bounds.specs.declared.answer.Answer.{Answer}
 use Rattle.bounds.specs.declared.saying.Saying.{Saying}
 use Rattle.bounds.specs.declared.saying.Saying.TheVariants.{Exact}
 use Rattle.word.proofs.Integers.{sub_add}
@@ -27,7 +29,7 @@ use Rattle.binary64.proofs.Fractions.{written_same, said_same}
 use Rattle.binary64.proofs.Patterns.{sign_bit, field, digits, lead, lead_small, Unbounded, is_nan, is_inf, pattern_value}
 
 -- ---- NaN and the infinities
-pub unbounded_written : (n : ℕ) (rule : Rule) (r : Answer) (x : Float) → Unbounded x → r ≡ Answer.Word (nar_word n) → IsWrittenBinary64 n rule x r
+pub unbounded_written : (n : ℕ) (rule : Rule) (r : Answer ℕ) (x : Float) → Unbounded x → r ≡ Ok (nar_word n) → IsWrittenBinary64 n rule x r
 unfolding IsWrittenBinary64
 unbounded_written n rule r nan is_nan q = q
 unbounded_written n rule r (inf s) is_inf q = q
@@ -81,11 +83,11 @@ module _ (P : Bool → ℕ → ℕ → Type 0) (same : (s : Bool) (a b a' b' : �
     without_lead q x = by_pattern b bounded (subst (λ (f : ℕ). P (sign_bit b) ((digits b + lead f * 2 ^ 52) * num (pos (f + (1 - lead f)) -ℤ pos 1075 +ℤ pos 307)) (den (pos (f + (1 - lead f)) -ℤ pos 1075 +ℤ pos 307))) (sym q) (subst (λ (y : ℕ). P (sign_bit b) (y * num (negsuc 1073 +ℤ pos 307)) (den (negsuc 1073 +ℤ pos 307))) (sym (add-zero (digits b))) x))
 
 -- ---- what is written, and what is said of it
-pub value_written : (n : ℕ) (rule : Rule) (r : Answer) (x : Float) (s : Bool) (a c : ℕ) → 0 < c → HasValue x s a c → IsWritten n rule s (a * 2 ^ 307) c r → IsWrittenBinary64 n rule x r
+pub value_written : (n : ℕ) (rule : Rule) (r : Answer ℕ) (x : Float) (s : Bool) (a c : ℕ) → 0 < c → HasValue x s a c → IsWritten n rule s (a * 2 ^ 307) c r → IsWrittenBinary64 n rule x r
 unfolding IsWrittenBinary64
 value_written n rule r = by_value (λ (s : Bool) (a b : ℕ). IsWritten n rule s a b r) (written_same n rule r) (λ (x : Float). IsWrittenBinary64 n rule x r) (λ s m e x. x)
 
-module _ (n : ℕ) (rule : Rule) (r : Answer) (b : ℕ) (bounded : field b ≡ 2047 → ⊥) where
+module _ (n : ℕ) (rule : Rule) (r : Answer ℕ) (b : ℕ) (bounded : field b ≡ 2047 → ⊥) where
   pub written_with_lead : lead (field b) ≡ 1 → IsWritten n rule (sign_bit b) ((digits b + 2 ^ 52) * num (pos (field b) -ℤ pos 1075 +ℤ pos 307)) (den (pos (field b) -ℤ pos 1075 +ℤ pos 307)) r → IsWrittenBinary64 n rule (of_bits binary64 b) r
   unfolding IsWrittenBinary64
   written_with_lead = with_lead (λ (s : Bool) (a b : ℕ). IsWritten n rule s a b r) (written_same n rule r) (λ (x : Float). IsWrittenBinary64 n rule x r) (λ s m e x. x) b bounded

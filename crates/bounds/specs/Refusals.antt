@@ -1,5 +1,6 @@
 -- When a call is refused: the refusal numbers of papers 01 and 02 as one table, and the tests that come first in the paper's order.
 use Rattle.std.specs.Prelude.{◌≡◌, Bool, cond, ◌&&◌, ℕ, ◌^◌, ◌≤◌, ◌<◌, leb, ltb, ⊤, Result, Ok, Err}
+use Rattle.bounds.specs.declared.refusal.ListRefusal.{ListRefusal}
 use Rattle.bounds.specs.declared.refusal.Refusal.{Refusal}
 use Rattle.bounds.specs.declared.refusal.Refusal.TheVariants.{Width, Stray, Nar, Inexact, Over, Room, Size, Mark, Check, Count, Fill, Retired}
 
@@ -21,6 +22,10 @@ number_of Retired = 13
 -- what a call answers: what it gives, or why it is refused
 abbrev pub Answer : Type 0 → Type 0
 Answer A = Result A Refusal
+
+-- what a call over several words answers
+abbrev pub ListAnswer : Type 0 → Type 0
+ListAnswer A = Result A ListRefusal
 
 -- a test lets the input through, or refuses it
 abbrev pub Verdict : Type 0

@@ -1,23 +1,24 @@
 -- Demand 3 at each position: a strict column that was moved keeps every value, and moved back it is the first column. Assumes nothing.
+use Rattle.std.specs.Prelude.{Ok, Err}
+use Rattle.bounds.specs.declared.refusal.ListRefusal.{ListRefusal}
+use Rattle.bounds.specs.Refusals.{Answer, ListAnswer}
 use mathlib.Core.Path.{◌≡◌, sym, ap, ◌∙◌, subst}
 use mathlib.Core.List.{List}
 use Prim.Native.Nat.{ℕ, ◌≤◌, ◌<◌}
 use native.Mathlib.Omega.{arith}
 use lib.ListN.{length, get_or, take}
 use lib.Seq.{length-take-le, get_or-take, ext_get_or}
-use Rattle.bounds.specs.declared.answer.Answer.{Answer}
 use Rattle.word.specs.Takum.{takum}
 use Rattle.bounds.proofs.Answers.{word_of, GivesAWord}
 use Rattle.bounds.proofs.Verdicts.{answered}
 use Rattle.round.specs.declared.value.Rule.{Rule}
 use Rattle.write.specs.Writes.{Moves}
 use Rattle.write.proofs.Moves.{strict_keeps, there_and_back}
-use Rattle.column.specs.declared.moving.Column.{Column}
 use Rattle.column.specs.Columns.{IsTried, MovesColumn, Holds}
 use Rattle.column.proofs.Positions.{Passed, passes, moved_passed, every_word_counted, word_at}
 
-module _ (n n' : ℕ) (words before : List ℕ) (count : ℕ) (after : List ℕ) (answer : MovesColumn n n' Rule.Strict words (length before) (Column.Moved count)) (held : Holds n n' Rule.Strict words before (Column.Moved count) after) where
-  moved_at : (i : ℕ) → i < length words → Moves n n' Rule.Strict (get_or words i 0) (Answer.Word (get_or after i 0))
+module _ (n n' : ℕ) (words before : List ℕ) (count : ℕ) (after : List ℕ) (answer : MovesColumn n n' Rule.Strict words (length before) (Ok count)) (held : Holds n n' Rule.Strict words before (Ok count) after) where
+  moved_at : (i : ℕ) → i < length words → Moves n n' Rule.Strict (get_or words i 0) (Ok (get_or after i 0))
   moved_at = word_at n n' Rule.Strict words before count after answer held
 
   pub strict_column_keeps : (i : ℕ) → i < length words → takum n' (get_or after i 0) ≡ takum n (get_or words i 0)
@@ -28,22 +29,22 @@ module _ (n n' : ℕ) (words before : List ℕ) (count : ℕ) (after : List ℕ)
     every_word : count ≡ length words
     every_word = every_word_counted n n' Rule.Strict words before count after answer held
 
-    ready : Passed n n' Rule.Strict words (length before) (Column.Moved count)
+    ready : Passed n n' Rule.Strict words (length before) (Ok count)
     ready = moved_passed n n' Rule.Strict words before count after answer held
 
     pub results_counted : length (take count after) ≡ count
     unfolding Holds
     results_counted = length-take-le count after (omega (arith, every_word, ready.fits, held.room))
 
-    back : (i : ℕ) (r : Answer) → i < count → Moves n' n rule (get_or (take count after) i 0) r → r ≡ Answer.Word (get_or words i 0)
+    back : (i : ℕ) (r : Answer ℕ) → i < count → Moves n' n rule (get_or (take count after) i 0) r → r ≡ Ok (get_or words i 0)
     back i r h m = there_and_back n n' (get_or words i 0) (get_or after i 0) rule r (moved_at i (omega (arith, h, every_word))) (subst (λ (w : ℕ). Moves n' n rule w r) (get_or-take count after i 0 h) m)
 
-    pub column_comes_home : (a : Column) (after' : List ℕ) → MovesColumn n' n rule (take count after) (length before') a → Holds n' n rule (take count after) before' a after' → (a ≡ Column.Moved count) × (take count after' ≡ words)
+    pub column_comes_home : (a : ListAnswer ℕ) (after' : List ℕ) → MovesColumn n' n rule (take count after) (length before') a → Holds n' n rule (take count after) before' a after' → (a ≡ Ok count) × (take count after' ≡ words)
     unfolding MovesColumn IsTried Holds word_of GivesAWord
     column_comes_home a after' x = by a (answered (passes n' n (length (take count after)) (length before') ready.target ready.source (omega (arith, results_counted, room))) x)
       where
-        by : (a : Column) → IsTried n' n rule (take count after) a → Holds n' n rule (take count after) before' a after' → (a ≡ Column.Moved count) × (take count after' ≡ words)
-        by (Column.Moved count') z y = (ap Column.Moved (z.0 ∙ results_counted), ext_get_or 0 (take count after') words (counted ∙ every_word) same)
+        by : (a : ListAnswer ℕ) → IsTried n' n rule (take count after) a → Holds n' n rule (take count after) before' a after' → (a ≡ Ok count) × (take count after' ≡ words)
+        by (Ok count') z y = (ap Ok (z.0 ∙ results_counted), ext_get_or 0 (take count after') words (counted ∙ every_word) same)
           where
             counted : length (take count after') ≡ count
             counted = length-take-le count after' (omega (arith, room, y.room))
@@ -51,6 +52,6 @@ module _ (n n' : ℕ) (words before : List ℕ) (count : ℕ) (after : List ℕ)
             same : (i : ℕ) → i < length (take count after') → get_or (take count after') i 0 ≡ get_or words i 0
             same i h =
                 let inside : i < count = omega (arith, h, counted) in
-                get_or-take count after' i 0 inside ∙ ap word_of (back i (Answer.Word (get_or after' i 0)) inside (y.moved i (omega (arith, inside, z.0, results_counted))))
-        by (Column.Refused q) z y = absurd z
-        by (Column.RefusedAt position q) z y = absurd (subst GivesAWord (sym (back position (Answer.Refused q) (omega (arith, z.inside, results_counted)) z.is)) tt)
+                get_or-take count after' i 0 inside ∙ ap word_of (back i (Ok (get_or after' i 0)) inside (y.moved i (omega (arith, inside, z.0, results_counted))))
+        by (Err (ListRefusal.Whole q)) z y = absurd z
+        by (Err (ListRefusal.At position q)) z y = absurd (subst GivesAWord (sym (back position (Err q) (omega (arith, z.inside, results_counted)) z.is)) tt)

@@ -1,9 +1,9 @@
 -- A word that is tried is let through exactly where it is moved to some word. Assumes nothing.
+use Rattle.std.specs.Prelude.{Ok, Err}
+use Rattle.bounds.specs.Refusals.{passed, Answer}
 use mathlib.Core.Path.{◌≡◌, refl, sym, ◌∙◌, subst}
 use Prim.Native.Nat.{ℕ}
-use Rattle.bounds.specs.declared.answer.Answer.{Answer}
 use Rattle.bounds.specs.declared.refusal.Refusal.{Refusal}
-use Rattle.bounds.specs.declared.refusal.Verdict.{Verdict}
 use Rattle.bounds.specs.Refusals.{width_test, word_test, refused}
 use Rattle.bounds.proofs.Answers.{GivesAWord}
 use Rattle.bounds.proofs.Verdicts.{width_through, word_through}
@@ -15,26 +15,26 @@ use Rattle.column.specs.Columns.{Movable}
 use Rattle.column.specs.Trials.{TriesWord}
 
 -- Rounded, only a stray bit is refused: every word of the width is moved to some word.
-pub rounded_movable : (n n' w : ℕ) → width_test n' ≡ Verdict.Through → word_test n w ≡ Verdict.Through → Movable n n' Rule.Rounded w
+pub rounded_movable : (n n' w : ℕ) → width_test n' ≡ passed → word_test n w ≡ passed → Movable n n' Rule.Rounded w
 unfolding Movable
 rounded_movable n n' w h' s = let t = width_through n' h' in rounded_moves n n' w (word_through n w s) t.0 t.1
 
-pub rounded_tried : (n n' w : ℕ) (v : Verdict) → width_test n ≡ Verdict.Through → width_test n' ≡ Verdict.Through → v ≡ word_test n w → TriesWord n n' Rule.Rounded w v
+pub rounded_tried : (n n' w : ℕ) (v : Verdict) → width_test n ≡ passed → width_test n' ≡ passed → v ≡ word_test n w → TriesWord n n' Rule.Rounded w v
 unfolding TriesWord Moves
-rounded_tried n n' w Verdict.Through h h' s = rounded_movable n n' w h' (sym s)
-rounded_tried n n' w (Verdict.Refused q) h h' s = refused {q = q} (rw (h, h') (rw h at (sym s))) refl
+rounded_tried n n' w (Ok _) h h' s = rounded_movable n n' w h' (sym s)
+rounded_tried n n' w (Err q) h h' s = refused {q = q} (rw (h, h') (rw h at (sym s))) refl
 
 -- By either rule, the move itself tells.
-module _ (n n' w : ℕ) (rule : Rule) (a : Answer) (is : Moves n n' rule w a) where
-  pub word_given : (w' : ℕ) → a ≡ Answer.Word w' → TriesWord n n' rule w Verdict.Through
+module _ (n n' w : ℕ) (rule : Rule) (a : Answer ℕ) (is : Moves n n' rule w a) where
+  pub word_given : (w' : ℕ) → a ≡ Ok w' → TriesWord n n' rule w passed
   unfolding TriesWord Movable
   word_given w' q = (w', subst (Moves n n' rule w) q is)
 
-  pub refusal_given : (q : Refusal) → a ≡ Answer.Refused q → TriesWord n n' rule w (Verdict.Refused q)
+  pub refusal_given : (q : Refusal) → a ≡ Err q → TriesWord n n' rule w (Err q)
   unfolding TriesWord
   refusal_given q e = subst (Moves n n' rule w) e is
 
   -- a word that is moved to some word is not refused
-  pub not_refused : (q : Refusal) → Movable n n' rule w → a ≡ Answer.Refused q → ⊥
+  pub not_refused : (q : Refusal) → Movable n n' rule w → a ≡ Err q → ⊥
   unfolding Movable GivesAWord
-  not_refused q (w', m) e = subst GivesAWord (moves_one n n' rule w (Answer.Word w') a m is ∙ e) tt
+  not_refused q (w', m) e = subst GivesAWord (moves_one n n' rule w (Ok w') a m is ∙ e) tt

@@ -1,4 +1,8 @@
 -- A walk of a column, one word further: what has been tried, what has been written, and how many are exact. Assumes nothing.
+use Rattle.std.specs.Prelude.{Ok, Err}
+use Rattle.bounds.specs.declared.refusal.ListRefusal.{ListRefusal}
+use Rattle.bounds.specs.Refusals.{passed}
+use Rattle.bounds.specs.Sayings.{written}
 use mathlib.Core.Path.{◌≡◌, refl, sym, ◌∙◌, subst}
 use mathlib.Core.List.{List}
 use Prim.Native.Nat.{ℕ, ◌+◌, ◌≤◌, ◌<◌}
@@ -8,13 +12,10 @@ use mir.Val.{bool_byte}
 use borrow.Author.Count.{below_none, below_more}
 use lib.ListN.{length, get_or, set, length-set}
 use lib.Seq.{get_or-set_same, get_or-set_other}
-use Rattle.bounds.specs.declared.answer.Answer.{Answer}
 use Rattle.bounds.specs.declared.refusal.Refusal.{Refusal}
-use Rattle.bounds.specs.declared.refusal.Verdict.{Verdict}
 use Rattle.word.specs.Takum.{takum}
 use Rattle.round.specs.declared.value.Rule.{Rule}
 use Rattle.write.specs.Writes.{Moves}
-use Rattle.column.specs.declared.moving.Column.{Column}
 use Rattle.column.specs.Columns.{Movable, MovableUpTo, IsTried, AreMoved}
 use Rattle.column.specs.declared.moving.MovedWord.{MovedWord}
 use Rattle.column.specs.Counts.{Counts, KeepsTheMeaning}
@@ -29,30 +30,30 @@ module _ (n n' : ℕ) (rule : Rule) (words : List ℕ) where
 
   -- the word at i has been tried, with the verdict v
   module _ (i : ℕ) (v : Verdict) (tried : TriesWord n n' rule (get_or words i 0) v) (before : MovableUpTo n n' rule words i) where
-    pub one_more_tried : v ≡ Verdict.Through → MovableUpTo n n' rule words (i + 1)
+    pub one_more_tried : v ≡ passed → MovableUpTo n n' rule words (i + 1)
     unfolding MovableUpTo TriesWord
     one_more_tried h = below_more (λ i. Movable n n' rule (get_or words i 0)) i before (subst (TriesWord n n' rule (get_or words i 0)) h tried)
 
-    pub first_refused : (q : Refusal) → i < length words → v ≡ Verdict.Refused q → IsTried n n' rule words (Column.RefusedAt i q)
+    pub first_refused : (q : Refusal) → i < length words → v ≡ Err q → IsTried n n' rule words (Err (ListRefusal.At i q))
     unfolding IsTried TriesWord
     first_refused q inside h = record { inside = inside; lowest = before; is = subst (TriesWord n n' rule (get_or words i 0)) h tried }
 
-  pub all_tried : (i : ℕ) → i ≤ length words → length words ≤ i → MovableUpTo n n' rule words i → IsTried n n' rule words (Column.Moved i)
+  pub all_tried : (i : ℕ) → i ≤ length words → length words ≤ i → MovableUpTo n n' rule words i → IsTried n n' rule words (Ok i)
   unfolding IsTried
   all_tried i lo hi x = (le_antisymm lo hi, x)
 
   -- ---- writing
   pub none_written : (before : List ℕ) → AreMoved n n' rule words 0 before before
-  none_written before = record { room = refl; moved = below_none (λ i. Moves n n' rule (get_or words i 0) (Answer.Word (get_or before i 0))); others = λ i h. refl }
+  none_written before = record { room = refl; moved = below_none (λ i. Moves n n' rule (get_or words i 0) (Ok (get_or before i 0))); others = λ i h. refl }
 
-  pub one_more_written : (i w' : ℕ) (before after : List ℕ) → i < length before → AreMoved n n' rule words i before after → Moves n n' rule (get_or words i 0) (Answer.Word w') → AreMoved n n' rule words (i + 1) before (set after i w')
+  pub one_more_written : (i w' : ℕ) (before after : List ℕ) → i < length before → AreMoved n n' rule words i before after → Moves n n' rule (get_or words i 0) (Ok w') → AreMoved n n' rule words (i + 1) before (set after i w')
   one_more_written i w' before after inside x m =
       record {
         room = length-set after i w' ∙ x.room;
         moved =
-            below_more (λ k. Moves n n' rule (get_or words k 0) (Answer.Word (get_or (set after i w') k 0))) i
-            (λ k h. subst (λ (v : ℕ). Moves n n' rule (get_or words k 0) (Answer.Word v)) (sym (get_or-set_other after i k w' 0 (λ q. omega (arith, h, q)))) (x.moved k h))
-            (subst (λ (v : ℕ). Moves n n' rule (get_or words i 0) (Answer.Word v)) (sym (get_or-set_same after i w' 0 (omega (arith, inside, x.room)))) m);
+            below_more (λ k. Moves n n' rule (get_or words k 0) (Ok (get_or (set after i w') k 0))) i
+            (λ k h. subst (λ (v : ℕ). Moves n n' rule (get_or words k 0) (Ok v)) (sym (get_or-set_other after i k w' 0 (λ q. omega (arith, h, q)))) (x.moved k h))
+            (subst (λ (v : ℕ). Moves n n' rule (get_or words i 0) (Ok v)) (sym (get_or-set_same after i w' 0 (omega (arith, inside, x.room)))) m);
         others = λ k h. get_or-set_other after i k w' 0 (λ q. omega (arith, h, q)) ∙ x.others k (omega (arith, h));
       }
 

@@ -1,15 +1,16 @@
 -- What moving a column means (paper 01, "Columns"): the answer, and what the result slice holds afterwards.
+use Rattle.std.specs.Prelude.{Ok, Err}
+use Rattle.bounds.specs.declared.refusal.ListRefusal.{ListRefusal}
+use Rattle.bounds.specs.Refusals.{ListAnswer}
 use Rattle.std.specs.Prelude.{◌≡◌, List, ℕ, ◌≤◌, ◌<◌, length, get_or}
-use Rattle.bounds.specs.declared.answer.Answer.{Answer}
 use Rattle.bounds.specs.declared.refusal.Refusal.{Refusal}
 use Rattle.bounds.specs.Refusals.{width_test, room_test, ◌then◌, Decided}
 use Rattle.round.specs.declared.value.Rule.{Rule}
 use Rattle.write.specs.Writes.{Moves}
-use Rattle.column.specs.declared.moving.Column.{Column}
 
 -- the word is moved to some word
 unfoldable pub Movable : ℕ → ℕ → Rule → ℕ → Type 0
-Movable n n' rule w = (w' : ℕ) × Moves n n' rule w (Answer.Word w')
+Movable n n' rule w = (w' : ℕ) × Moves n n' rule w (Ok w')
 
 -- every word of the column before the position is moved to some word
 unfoldable pub MovableUpTo : ℕ → ℕ → Rule → List ℕ → ℕ → Type 0
@@ -19,26 +20,26 @@ MovableUpTo n n' rule words position = (i : ℕ) → i < position → Movable n 
 pub record FirstRefusal (n n' : ℕ) (rule : Rule) (words : List ℕ) (position : ℕ) (q : Refusal) : Type 0 where
   pub inside : position < length words
   pub lowest : MovableUpTo n n' rule words position
-  pub is : Moves n n' rule (get_or words position 0) (Answer.Refused q)
+  pub is : Moves n n' rule (get_or words position 0) (Err q)
 
 -- what trying the words in order gives: their number where every word is moved, else the first refusal
-unfoldable pub IsTried : ℕ → ℕ → Rule → List ℕ → Column → Type 0
-IsTried n n' rule words (Column.Moved count) = (count ≡ length words) × MovableUpTo n n' rule words count
-IsTried n n' rule words (Column.RefusedAt position q) = FirstRefusal n n' rule words position q
-IsTried n n' rule words (Column.Refused q) = ⊥
+unfoldable pub IsTried : ℕ → ℕ → Rule → List ℕ → ListAnswer ℕ → Type 0
+IsTried n n' rule words (Ok count) = (count ≡ length words) × MovableUpTo n n' rule words count
+IsTried n n' rule words (Err (ListRefusal.At position q)) = FirstRefusal n n' rule words position q
+IsTried n n' rule words (Err (ListRefusal.Whole q)) = ⊥
 
 -- the first results are the moved words in order, the others are unchanged
 pub record AreMoved (n n' : ℕ) (rule : Rule) (words : List ℕ) (count : ℕ) (before after : List ℕ) : Type 0 where
   pub room : length after ≡ length before
-  pub moved : (i : ℕ) → i < count → Moves n n' rule (get_or words i 0) (Answer.Word (get_or after i 0))
+  pub moved : (i : ℕ) → i < count → Moves n n' rule (get_or words i 0) (Ok (get_or after i 0))
   pub others : (i : ℕ) → count ≤ i → get_or after i 0 ≡ get_or before i 0
 
 -- ---- what the call answers: WIDTH of the source, then of the target, then ROOM, then the lowest position's refusal
-unfoldable pub MovesColumn : ℕ → ℕ → Rule → List ℕ → ℕ → Column → Type 0
-MovesColumn n n' rule words room a = Decided (width_test n then width_test n' then room_test (length words) room) (λ q. a ≡ Column.Refused q) (IsTried n n' rule words a)
+unfoldable pub MovesColumn : ℕ → ℕ → Rule → List ℕ → ℕ → ListAnswer ℕ → Type 0
+MovesColumn n n' rule words room a = Decided (width_test n then width_test n' then room_test (length words) room) (λ q. a ≡ Err (ListRefusal.Whole q)) (IsTried n n' rule words a)
 
 -- ---- and what the result slice holds afterwards: after a refusal, what it held before
-unfoldable pub Holds : ℕ → ℕ → Rule → List ℕ → List ℕ → Column → List ℕ → Type 0
-Holds n n' rule words before (Column.Moved count) after = AreMoved n n' rule words count before after
-Holds n n' rule words before (Column.Refused q) after = after ≡ before
-Holds n n' rule words before (Column.RefusedAt position q) after = after ≡ before
+unfoldable pub Holds : ℕ → ℕ → Rule → List ℕ → List ℕ → ListAnswer ℕ → List ℕ → Type 0
+Holds n n' rule words before (Ok count) after = AreMoved n n' rule words count before after
+Holds n n' rule words before (Err (ListRefusal.Whole q)) after = after ≡ before
+Holds n n' rule words before (Err (ListRefusal.At position q)) after = after ≡ before

@@ -1,8 +1,10 @@
 -- How many words of a column were moved exactly (paper 02, Wish 4), from the values alone and not from what was said of each word.
+use Rattle.std.specs.Prelude.{Ok, Err}
+use Rattle.bounds.specs.declared.refusal.ListRefusal.{ListRefusal}
+use Rattle.bounds.specs.Refusals.{ListAnswer}
 use Rattle.std.specs.Prelude.{◌≡◌, List, ℕ, suc, get_or}
 use Rattle.word.specs.Takum.{takum}
 use Rattle.round.specs.declared.value.Rule.{Rule}
-use Rattle.column.specs.declared.moving.Column.{Column}
 use Rattle.column.specs.declared.moving.MovedColumn.{MovedColumn}
 use Rattle.column.specs.Columns.{Holds}
 
@@ -17,10 +19,10 @@ unfoldable pub KeepsTheMeaning : ℕ → ℕ → List ℕ → List ℕ → ℕ �
 KeepsTheMeaning n n' words after i = takum n' (get_or after i 0) ≡ takum n (get_or words i 0)
 
 -- at how many positions of a moved column it does; of a refused one at none
-unfoldable pub CountsExact : ℕ → ℕ → List ℕ → List ℕ → Column → ℕ → Type 0
-CountsExact n n' words after (Column.Moved count) exact = Counts (KeepsTheMeaning n n' words after) count exact
-CountsExact n n' words after (Column.Refused q) exact = exact ≡ 0
-CountsExact n n' words after (Column.RefusedAt position q) exact = exact ≡ 0
+unfoldable pub CountsExact : ℕ → ℕ → List ℕ → List ℕ → ListAnswer ℕ → ℕ → Type 0
+CountsExact n n' words after (Ok count) exact = Counts (KeepsTheMeaning n n' words after) count exact
+CountsExact n n' words after (Err (ListRefusal.Whole q)) exact = exact ≡ 0
+CountsExact n n' words after (Err (ListRefusal.At position q)) exact = exact ≡ 0
 
 -- ---- what the result slice holds after the call, and how many of its words are exact
 unfoldable pub HoldsAndCounts : ℕ → ℕ → Rule → List ℕ → List ℕ → MovedColumn → List ℕ → Type 0

@@ -1,27 +1,25 @@
 -- How an answer is handed over to C and Rust: the refusal's number, 0 where nothing was refused, with the answer beside it, which is all zeros
 -- where it was refused, but for the position of a word that was refused in a column or a block. Nothing else is decided here.
+use Rattle.std.specs.Prelude.{Ok, Err}
+use Rattle.bounds.specs.declared.refusal.ListRefusal.{ListRefusal}
+use Rattle.bounds.specs.Refusals.{Answer, ListAnswer}
+use Rattle.std.specs.Ordering.{Ordering}
+use Rattle.std.specs.Prelude.{⊤}
 use Rattle.std.specs.Prelude.{◌≡◌, true, false, List, ℕ, zero, suc, pos, length}
 use Rattle.std.specs.Float.{nan, binary64}
 use Rattle.std.specs.Float.Ieee.{of_bits}
 use Rattle.bounds.specs.Refusals.{number_of}
 use Rattle.bounds.specs.Sayings.{saying_number}
-use Rattle.bounds.specs.declared.answer.Answer.{Answer}
 use Rattle.bounds.specs.declared.answer.Written.{Written}
-use Rattle.order.specs.declared.order.Comparison.{Comparison}
 use Rattle.word.specs.declared.reading.Kind.{Kind}
 use Rattle.word.specs.declared.reading.Reading.{Reading}
-use Rattle.bounds.specs.declared.width.Limit.{Limit}
-use Rattle.bounds.specs.declared.width.Made.{Made}
 use Rattle.round.specs.declared.value.Rule.{Rule}
 use Rattle.whole.specs.declared.taking.Taking.{Taking}
-use Rattle.whole.specs.declared.taking.Whole.{Whole}
 use Rattle.binary64.specs.declared.taking.Binary64.{Binary64}
-use Rattle.column.specs.declared.moving.Column.{Column}
 use Rattle.column.specs.declared.moving.MovedColumn.{MovedColumn}
 use Rattle.column.specs.Columns.{MovesColumn}
 use Rattle.column.specs.Counts.{HoldsAndCounts}
 use Rattle.sheet.specs.declared.block.Block.{Block}
-use Rattle.sheet.specs.declared.writing.Writing.{Writing}
 use Rattle.sheet.specs.Writes.{WritesBlock, FillsBuffer}
 use Rattle.ledusprig.specs.declared.handed.words.HandedWord.{HandedWord}
 use Rattle.ledusprig.specs.declared.handed.words.HandedSaying.{HandedSaying}
@@ -45,60 +43,60 @@ taking_of zero = Taking.Nearest
 taking_of (suc other) = Taking.Strict
 
 -- how each answer is handed over
-abbrev pub word_handed : Answer → HandedWord
-word_handed (Answer.Word w) = record { refusal = 0; word = w }
-word_handed (Answer.Refused q) = record { refusal = number_of q; word = 0 }
+abbrev pub word_handed : Answer ℕ → HandedWord
+word_handed (Ok w) = record { refusal = 0; word = w }
+word_handed (Err q) = record { refusal = number_of q; word = 0 }
 
-abbrev pub saying_handed : Written → HandedSaying
-saying_handed (Written.Word w s) = record { refusal = 0; saying = saying_number s; word = w }
-saying_handed (Written.Refused q) = record { refusal = number_of q; saying = 0; word = 0 }
+abbrev pub saying_handed : Answer Written → HandedSaying
+saying_handed (Ok (w,s)) = record { refusal = 0; saying = saying_number s; word = w }
+saying_handed (Err q) = record { refusal = number_of q; saying = 0; word = 0 }
 
 abbrev pub kind_handed : Kind → ℕ → HandedReading
 kind_handed Kind.Zero own = record { refusal = 0; kind = 0; negative = false; h = pos 0; m = 0; p = 0; own = own }
 kind_handed Kind.Nar own = record { refusal = 0; kind = 1; negative = false; h = pos 0; m = 0; p = 0; own = own }
 kind_handed (Kind.Number negative h m p) own = record { refusal = 0; kind = 2; negative = negative; h = h; m = m; p = p; own = own }
-kind_handed (Kind.Refused q) own = record { refusal = number_of q; kind = 0; negative = false; h = pos 0; m = 0; p = 0; own = own }
+kind_handed (Err q) own = record { refusal = number_of q; kind = 0; negative = false; h = pos 0; m = 0; p = 0; own = own }
 
 abbrev pub reading_handed : Reading → HandedReading
 reading_handed a = kind_handed a.kind a.own
 
-abbrev pub comparison_handed : Comparison → HandedComparison
+abbrev pub comparison_handed : Answer Ordering → HandedComparison
 comparison_handed (Comparison.Is order) = record { refusal = 0; order = order }
-comparison_handed (Comparison.Refused q) = record { refusal = number_of q; order = pos 0 }
+comparison_handed (Err q) = record { refusal = number_of q; order = pos 0 }
 
-abbrev pub limit_handed : Limit → HandedLimit
-limit_handed (Limit.Count limit) = record { refusal = 0; limit = limit }
-limit_handed (Limit.Refused q) = record { refusal = number_of q; limit = 0 }
+abbrev pub limit_handed : Answer ℕ → HandedLimit
+limit_handed (Ok limit) = record { refusal = 0; limit = limit }
+limit_handed (Err q) = record { refusal = number_of q; limit = 0 }
 
-abbrev pub width_handed : Made → HandedWidth
-width_handed (Made.Width width) = record { refusal = 0; width = width.bits }
-width_handed (Made.Refused q) = record { refusal = number_of q; width = 0 }
+abbrev pub width_handed : Answer Width → HandedWidth
+width_handed (Ok width) = record { refusal = 0; width = width.bits }
+width_handed (Err q) = record { refusal = number_of q; width = 0 }
 
-abbrev pub whole_handed : Whole → HandedWhole
-whole_handed (Whole.Is x) = record { refusal = 0; whole = x }
-whole_handed (Whole.Refused q) = record { refusal = number_of q; whole = pos 0 }
+abbrev pub whole_handed : Answer ℤ → HandedWhole
+whole_handed (Ok x) = record { refusal = 0; whole = x }
+whole_handed (Err q) = record { refusal = number_of q; whole = pos 0 }
 
 abbrev pub number_handed : Binary64 → HandedNumber
 number_handed (Binary64.Number x) = record { refusal = 0; real = true; number = x }
 number_handed Binary64.Nar = record { refusal = 0; real = false; number = nan }
 number_handed (Binary64.Refused q) = record { refusal = number_of q; real = false; number = of_bits binary64 0 }
 
-abbrev pub answer_handed : Column → ℕ → HandedColumn
-answer_handed (Column.Moved count) exact = record { refusal = 0; position = 0; moved = count; exact = exact }
-answer_handed (Column.Refused q) exact = record { refusal = number_of q; position = 0; moved = 0; exact = exact }
-answer_handed (Column.RefusedAt position q) exact = record { refusal = number_of q; position = position; moved = 0; exact = exact }
+abbrev pub answer_handed : ListAnswer ℕ → ℕ → HandedColumn
+answer_handed (Ok count) exact = record { refusal = 0; position = 0; moved = count; exact = exact }
+answer_handed (Err (ListRefusal.Whole q)) exact = record { refusal = number_of q; position = 0; moved = 0; exact = exact }
+answer_handed (Err (ListRefusal.At position q)) exact = record { refusal = number_of q; position = position; moved = 0; exact = exact }
 
 abbrev pub column_handed : MovedColumn → HandedColumn
 column_handed a = answer_handed a.answer a.exact
 
 abbrev pub block_handed : Block → HandedBlock
 block_handed (Block.Read width number count) = record { refusal = 0; width = width; number = number; count = count }
-block_handed (Block.Refused q) = record { refusal = number_of q; width = 0; number = 0; count = 0 }
+block_handed (Err q) = record { refusal = number_of q; width = 0; number = 0; count = 0 }
 
-abbrev pub writing_handed : Writing → HandedWriting
-writing_handed Writing.Written = record { refusal = 0; position = 0 }
-writing_handed (Writing.Refused q) = record { refusal = number_of q; position = 0 }
-writing_handed (Writing.RefusedAt position q) = record { refusal = number_of q; position = position }
+abbrev pub writing_handed : ListAnswer ⊤ → HandedWriting
+writing_handed Ok tt = record { refusal = 0; position = 0 }
+writing_handed (Err (ListRefusal.Whole q)) = record { refusal = number_of q; position = 0 }
+writing_handed (Err (ListRefusal.At position q)) = record { refusal = number_of q; position = position }
 
 -- ---- what every function of the face answers: the answer that the public call gives, handed over
 pub record HandsOver {Answers Handed : Type 0} (handed : Answers → Handed) (Gives : Answers → Type 0) (r : Handed) : Type 0 where
@@ -111,5 +109,5 @@ unfoldable pub MovesTheColumn : ℕ → ℕ → Rule → List ℕ → List ℕ �
 MovesTheColumn n n' rule words before after a = MovesColumn n n' rule words (length before) a.answer × HoldsAndCounts n n' rule words before a after
 
 -- the writing's answer, and what its buffer holds after it
-unfoldable pub WritesTheBlock : ℕ → ℕ → List ℕ → List ℕ → List ℕ → Writing → Type 0
+unfoldable pub WritesTheBlock : ℕ → ℕ → List ℕ → List ℕ → List ℕ → ListAnswer ⊤ → Type 0
 WritesTheBlock n number words before after a = WritesBlock n words before a × FillsBuffer n number words before a after

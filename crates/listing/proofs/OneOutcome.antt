@@ -1,4 +1,6 @@
 -- One listing: the definitions allow one text for a block at a place, and the contract of `list_block` one outcome. Assumes nothing.
+use Rattle.std.specs.Prelude.{Ok, Err}
+use Rattle.bounds.specs.Refusals.{Answer}
 use mathlib.Core.Path.{◌≡◌, sym, ap, ap₂, ◌∙◌, subst}
 use mathlib.Core.List.{List, [], ◌∷◌, ◌++◌}
 use Prim.Native.Nat.{ℕ, suc, ◌+◌, ◌-◌, ◌≤◌, ◌<◌}
@@ -17,7 +19,6 @@ use Rattle.sheet.specs.Layout.{width, block_number, words}
 use Rattle.word.specs.declared.reading.Reading.{Reading}
 use Rattle.word.proofs.Binades.{reads_one}
 use Rattle.whole.specs.declared.taking.Taking.{Taking}
-use Rattle.whole.specs.declared.taking.Whole.{Whole}
 use Rattle.whole.proofs.OneOutcome.{takes_whole_one}
 use Rattle.listing.specs.declared.blocks.Listed.{Listed}
 use Rattle.listing.specs.Listing.{ListsBlock, IsListed, ListsInto}
@@ -44,10 +45,10 @@ unfolding IsSigned
 signed_one (pos n) t u p q = decimal_one n t u p q
 signed_one (negsuc n) t u (d, p, e) (d', q, f) = e ∙ ap (λ (x : List ℕ). minus ∷ x) (decimal_one (suc n) d d' p q) ∙ sym f
 
-shown_one : (a : Whole) (t u : List ℕ) → IsShown a t → IsShown a u → t ≡ u
+shown_one : (a : Answer ℤ) (t u : List ℕ) → IsShown a t → IsShown a u → t ≡ u
 unfolding IsShown
-shown_one (Whole.Is x) t u p q = signed_one x t u p q
-shown_one (Whole.Refused r) t u p q = p ∙ sym q
+shown_one (Ok x) t u p q = signed_one x t u p q
+shown_one (Err r) t u p q = p ∙ sym q
 
 field_one : (n : ℕ) (t u : List ℕ) → IsField n t → IsField n u → t ≡ u
 unfolding IsField
@@ -56,7 +57,7 @@ field_one n t u (d, p, e) (d', q, f) = e ∙ ap (λ (x : List ℕ). x ++ (space 
 whole_one : (n w : ℕ) (t u : List ℕ) → IsWholeText n w t → IsWholeText n w u → t ≡ u
 unfolding IsWholeText
 whole_one n w t u (a, d, x, p, e) (b, d', y, q, f) =
-    e ∙ ap (λ (x : List ℕ). (space ∷ []) ++ x) (shown_one b d d' (subst (λ (a : Whole). IsShown a d) (takes_whole_one n Taking.Nearest w a b x y) p) q) ∙ sym f
+    e ∙ ap (λ (x : List ℕ). (space ∷ []) ++ x) (shown_one b d d' (subst (λ (a : Answer ℤ). IsShown a d) (takes_whole_one n Taking.Nearest w a b x y) p) q) ∙ sym f
 
 own_one : (n w : ℕ) (t u : List ℕ) → IsOwnText n w t → IsOwnText n w u → t ≡ u
 unfolding IsOwnText
@@ -97,8 +98,8 @@ unfolding IsListed
 listed_one block i before f g (Listed.Length n r) (Listed.Length m s) x y =
     let same = puts_one (ListsBlock block i) (block_one block i) before 0 f n g m x.0 y.0 in
     (ap₂ Listed.Length same.0 (x.2 ∙ sym y.2), same.1)
-listed_one block i before f g (Listed.Refused q) b x y = absurd x
-listed_one block i before f g (Listed.Length n r) (Listed.Refused q) x y = absurd y
+listed_one block i before f g (Err q) b x y = absurd x
+listed_one block i before f g (Listed.Length n r) (Err q) x y = absurd y
 
 -- what the call answers, and what the lent slice holds afterwards
 pub lists_into_one : (block : List ℕ) (i : ℕ) (before f g : List ℕ) (a b : Listed) → ListsInto block i before f a → ListsInto block i before g b → (a ≡ b) × (f ≡ g)

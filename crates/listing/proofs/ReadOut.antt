@@ -1,4 +1,6 @@
 -- What is printed for a block that was read, or refused, is what the listing has for it, and its number that of the verdict. Assumes nothing.
+use Rattle.std.specs.Prelude.{Err}
+use Rattle.bounds.specs.Refusals.{passed}
 use mathlib.Core.Path.{◌≡◌, sym, ap, ◌∙◌, subst, subst₂, subst₃}
 use mathlib.Core.List.{List}
 use Prim.Native.Nat.{ℕ, ◌≤◌}
@@ -7,7 +9,6 @@ use native.Mathlib.Omega.{arith}
 use lib.ListN.{length, take, drop}
 use lib.Seq.{take_at}
 use Rattle.bounds.specs.declared.refusal.Refusal.{Refusal}
-use Rattle.bounds.specs.declared.refusal.Verdict.{Verdict}
 use Rattle.bounds.specs.Refusals.{number_of, through, refused}
 use Rattle.sheet.specs.declared.block.Block.{Block}
 use Rattle.sheet.specs.Layout.{width, words}
@@ -31,8 +32,8 @@ module _ (block before after : List ℕ) (w i n : ℕ) (room : length before ≡
       let t = was_read block (length before) w i n r in
       le_trans (le_of_eq t.2) (le_trans (passes block (length before) t.0).room (le_of_eq room))
 
-  passed : block_test block most ≡ Verdict.Through
-  passed = subst (λ (m : ℕ). block_test block m ≡ Verdict.Through) room (was_read block (length before) w i n r).0
+  passed : block_test block most ≡ passed
+  passed = subst (λ (m : ℕ). block_test block m ≡ passed) room (was_read block (length before) w i n r).0
 
   pub lines_listed : (place : ℕ) (t : List ℕ) → AreLines i w 0 (take n after) t → ListsBlock block place t
   unfolding ListsBlock
@@ -46,16 +47,16 @@ module _ (block before after : List ℕ) (w i n : ℕ) (room : length before ≡
   number_0 = sym (ap refusal_number passed)
 
 -- a block that was refused
-module _ (block : List ℕ) (places : ℕ) (q : Refusal) (room : places ≡ most) (r : ReadsBlock block places (Block.Refused q)) where
-  stopped : ReadsBlock block places (Block.Refused q) → block_test block most ≡ Verdict.Refused q
+module _ (block : List ℕ) (places : ℕ) (q : Refusal) (room : places ≡ most) (r : ReadsBlock block places (Err q)) where
+  stopped : ReadsBlock block places (Err q) → block_test block most ≡ Err q
   unfolding ReadsBlock
-  stopped (refused h e) = subst₂ (λ (m : ℕ) (p : Refusal). block_test block m ≡ Verdict.Refused p) room (refusal_of e) h
+  stopped (refused h e) = subst₂ (λ (m : ℕ) (p : Refusal). block_test block m ≡ Err p) room (refusal_of e) h
     where
-      refusal_of : {q q' : Refusal} → Block.Refused q ≡ Block.Refused q' → q' ≡ q
+      refusal_of : {q q' : Refusal} → Err q ≡ Err q' → q' ≡ q
       refusal_of e = cc
   stopped (through h e) = absurd (not_read e)
     where
-      not_read : {q : Refusal} {w i n : ℕ} → Block.Refused q ≡ Block.Read w i n → ⊥
+      not_read : {q : Refusal} {w i n : ℕ} → Err q ≡ Block.Read w i n → ⊥
       not_read e = let z : ◌≡◌ {A = ℕ} 0 1 = cc in absurd (omega arith)
 
   pub refused_listed : (place : ℕ) (t : List ℕ) → IsRefusedLine place q t → ListsBlock block place t

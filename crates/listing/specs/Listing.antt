@@ -1,6 +1,6 @@
 -- What is printed for a block (paper 01, "The lister"), and what the call that puts it into a lent slice answers and leaves.
+use Rattle.std.specs.Prelude.{Ok, Err}
 use Rattle.std.specs.Prelude.{◌≡◌, List, ℕ, ◌≤◌, length}
-use Rattle.bounds.specs.declared.refusal.Verdict.{Verdict}
 use Rattle.bounds.specs.Refusals.{number_of, room_test, Decided}
 use Rattle.sheet.specs.Layout.{width, block_number, words}
 use Rattle.sheet.specs.Reads.{block_test}
@@ -18,8 +18,8 @@ ListsBlock block i t = Decided (block_test block most) (λ q. IsRefusedLine i q 
 
 -- The number of a block's refusal, and 0 for a block that is read.
 unfoldable pub refusal_number : Verdict → ℕ
-refusal_number Verdict.Through = 0
-refusal_number (Verdict.Refused q) = number_of q
+refusal_number (Ok _) = 0
+refusal_number (Err q) = number_of q
 
 -- Room for the text of any block: 496 lines of up to 96 bytes.
 unfoldable pub text_room : ℕ
@@ -29,8 +29,8 @@ text_room = 47616
 -- number of the block's refusal
 unfoldable pub IsListed : List ℕ → ℕ → List ℕ → List ℕ → Listed → Type 0
 IsListed block i before after (Listed.Length n r) = PutsSome (ListsBlock block i) before 0 after n × (n ≤ text_room) × (r ≡ refusal_number (block_test block most))
-IsListed block i before after (Listed.Refused q) = ⊥
+IsListed block i before after (Err q) = ⊥
 
 -- ---- what the call answers and leaves: a slice with less room is refused, with ROOM, and stays as it came
 unfoldable pub ListsInto : List ℕ → ℕ → List ℕ → List ℕ → Listed → Type 0
-ListsInto block i before after a = Decided (room_test text_room (length before)) (λ q. (a ≡ Listed.Refused q) × (after ≡ before)) (IsListed block i before after a)
+ListsInto block i before after a = Decided (room_test text_room (length before)) (λ q. (a ≡ Err q) × (after ≡ before)) (IsListed block i before after a)

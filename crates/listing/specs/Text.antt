@@ -1,4 +1,7 @@
 -- The text of a line (paper 01, "The lister"; its whole number by paper 02, Wish 2, its last field by Wish 3, ` old` by Wish 10), as a list of bytes.
+use Rattle.std.specs.Prelude.{Ok, Err}
+use Rattle.bounds.specs.Refusals.{Answer}
+use Rattle.bounds.specs.Sayings.{written}
 use Rattle.std.specs.Prelude.{◌≡◌, cond, List, [], ◌∷◌, ◌++◌, ℕ, suc, ◌/◌, eqb, ℤ, pos, negsuc}
 use Rattle.io.specs.Digits.{last_digits, IsDigitCount}
 use Rattle.bounds.specs.Refusals.{number_of}
@@ -6,7 +9,6 @@ use Rattle.bounds.specs.declared.refusal.Refusal.{Refusal}
 use Rattle.word.specs.declared.reading.Reading.{Reading}
 use Rattle.word.specs.Reads.{Reads}
 use Rattle.whole.specs.declared.taking.Taking.{Taking}
-use Rattle.whole.specs.declared.taking.Whole.{Whole}
 use Rattle.whole.specs.Wholes.{TakesWhole}
 use Rattle.sheet.specs.Writes.{is_retired}
 
@@ -45,9 +47,9 @@ unfoldable pub refusal_text : Refusal → List ℕ
 refusal_text q = cond (eqb (number_of q) 5) over nar
 
 -- the nearest whole number, or the word that stands for its refusal
-unfoldable pub IsShown : Whole → List ℕ → Type 0
-IsShown (Whole.Is x) t = IsSigned x t
-IsShown (Whole.Refused q) t = t ≡ refusal_text q
+unfoldable pub IsShown : Answer ℤ → List ℕ → Type 0
+IsShown (Ok x) t = IsSigned x t
+IsShown (Err q) t = t ≡ refusal_text q
 
 -- a number and the space after it
 unfoldable pub IsField : ℕ → List ℕ → Type 0
@@ -55,7 +57,7 @@ IsField n t = (d : List ℕ) × IsDecimal n d × (t ≡ d ++ (space ∷ []))
 
 -- a space and the word's whole number
 unfoldable pub IsWholeText : ℕ → ℕ → List ℕ → Type 0
-IsWholeText n w t = (a : Whole) × (d : List ℕ) × TakesWhole n Taking.Nearest w a × IsShown a d × (t ≡ (space ∷ []) ++ d)
+IsWholeText n w t = (a : Answer ℤ) × (d : List ℕ) × TakesWhole n Taking.Nearest w a × IsShown a d × (t ≡ (space ∷ []) ++ d)
 
 -- a space and how fine the word's reading is
 unfoldable pub IsOwnText : ℕ → ℕ → List ℕ → Type 0

@@ -1,11 +1,12 @@
 -- Every class of sizes holds a size, so it has one nearest word and one saying: two outcomes that the contract of `nearest` allows are equal. Assumes
 -- nothing.
+use Rattle.std.specs.Prelude.{Ok}
+use Rattle.bounds.specs.Refusals.{Answer}
 use mathlib.Core.Path.{◌≡◌, refl, sym, ap, ◌∙◌, subst}
 use mathlib.Core.Bool.{Bool}
 use Prim.Native.Nat.{ℕ, ◌+◌, ◌%◌, ◌^◌, ◌≤◌}
 use native.Mathlib.Omega.{arith}
 use lib.IntN.{ℤ, pos, ◌-ℤ◌}
-use Rattle.bounds.specs.declared.answer.Answer.{Answer}
 use Rattle.bounds.specs.declared.answer.Written.{Written}
 use Rattle.bounds.specs.declared.saying.Saying.{Saying}
 use Rattle.bounds.specs.Refusals.{through, refused}
@@ -45,17 +46,17 @@ rest_one below Rest.OverHalf Rest.UnderHalf x y = absurd (omega (arith, x, y.1))
 rest_one below Rest.OverHalf Rest.Half x y = absurd (omega (arith, x, y))
 rest_one below Rest.OverHalf Rest.OverHalf x y = refl
 
-pub finds_nearest_one : (n : ℕ) (negative : Bool) (h : ℤ) (m below : ℕ) (a b : Answer) → FindsNearest n negative h m below a → FindsNearest n negative h m below b → a ≡ b
+pub finds_nearest_one : (n : ℕ) (negative : Bool) (h : ℤ) (m below : ℕ) (a b : Answer ℕ) → FindsNearest n negative h m below a → FindsNearest n negative h m below b → a ≡ b
 unfolding FindsNearest
 finds_nearest_one n negative h m below a b (through v x) y =
     let t = width_through n v in
     let z = answered v y in
     let same = rest_one below z.2 x.2 z.3 x.3 in
-    x.1 ∙ ap Answer.Word (class_one n t.0 t.1 negative h (2 ^ 63 + m % 2 ^ 63) x.2 x.0 z.0 x.4 (subst (λ (rest : Rest). IsSignedNearest n negative h (2 ^ 63 + m % 2 ^ 63) rest z.0) same z.4)) ∙ sym z.1
+    x.1 ∙ ap Ok (class_one n t.0 t.1 negative h (2 ^ 63 + m % 2 ^ 63) x.2 x.0 z.0 x.4 (subst (λ (rest : Rest). IsSignedNearest n negative h (2 ^ 63 + m % 2 ^ 63) rest z.0) same z.4)) ∙ sym z.1
 finds_nearest_one n negative h m below a b (refused v x) y = x ∙ sym (refused_as _ v y)
 
 -- and one saying, of the word that every size of the class has as its nearest
-found_says_one : (n : ℕ) (negative : Bool) (h : ℤ) (m below w : ℕ) (s t : Saying) → FindsNearest n negative h m below (Answer.Word w) → SaysFound n negative h m below w s → SaysFound n negative h m below w t → s ≡ t
+found_says_one : (n : ℕ) (negative : Bool) (h : ℤ) (m below w : ℕ) (s t : Saying) → FindsNearest n negative h m below (Ok w) → SaysFound n negative h m below w s → SaysFound n negative h m below w t → s ≡ t
 unfolding FindsNearest SaysFound SaysOffered IsSignedNearest word_of GivesAWord
 found_says_one n negative h m below w s t (through v x) p q =
     let b = width_through n v in
@@ -64,6 +65,6 @@ found_says_one n negative h m below w s t (through v x) p q =
     says_one n b.0 b.1 negative z.0 z.1 w s t is.is.word (p x.2 x.3 z.0 z.1 z.2 z.3) (q x.2 x.3 z.0 z.1 z.2 z.3)
 found_says_one n negative h m below w s t (refused v x) p q = absurd (subst GivesAWord x tt)
 
-pub finds_and_says_one : (n : ℕ) (negative : Bool) (h : ℤ) (m below : ℕ) (a b : Written) → FindsAndSays n negative h m below a → FindsAndSays n negative h m below b → a ≡ b
+pub finds_and_says_one : (n : ℕ) (negative : Bool) (h : ℤ) (m below : ℕ) (a b : Answer Written) → FindsAndSays n negative h m below a → FindsAndSays n negative h m below b → a ≡ b
 unfolding FindsAndSays
 finds_and_says_one n negative h m below a b x y = said_one (finds_nearest_one n negative h m below) (found_says_one n negative h m below) a b x y

@@ -1,6 +1,7 @@
 -- The normal size that is offered to `nearest`, (m + rest) * 2^(h - 63), and the word that it answers.
+use Rattle.std.specs.Prelude.{Ok, Err}
+use Rattle.bounds.specs.Refusals.{Answer}
 use Rattle.std.specs.Prelude.{◌≡◌, Bool, false, ℕ, ◌+◌, ◌*◌, ◌%◌, ◌^◌, ◌<◌, ℤ, pos, ◌+ℤ◌, ◌-ℤ◌}
-use Rattle.bounds.specs.declared.answer.Answer.{Answer}
 use Rattle.bounds.specs.Refusals.{width_test, Decided}
 use Rattle.word.specs.Reads.{num, den}
 use Rattle.nearest.specs.declared.size.Rest.{Rest}
@@ -33,5 +34,5 @@ unfoldable pub IsSignedNearest : ℕ → Bool → ℤ → ℕ → Rest → ℕ �
 IsSignedNearest n negative h m rest w = (a b : ℕ) → 0 < b → IsOffered m rest (h -ℤ pos 63) a b → Nearest n negative a b w
 
 -- WIDTH; else the word of the sign that is nearest to the size of m and what lies below it, the top bit of m being taken as set
-unfoldable pub FindsNearest : ℕ → Bool → ℤ → ℕ → ℕ → Answer → Type 0
-FindsNearest n negative h m below r = Decided (width_test n) (λ q. r ≡ Answer.Refused q) ((w : ℕ) × (r ≡ Answer.Word w) × (rest : Rest) × IsRest below rest × IsSignedNearest n negative h (2 ^ 63 + m % 2 ^ 63) rest w)
+unfoldable pub FindsNearest : ℕ → Bool → ℤ → ℕ → ℕ → Answer ℕ → Type 0
+FindsNearest n negative h m below r = Decided (width_test n) (λ q. r ≡ Err q) ((w : ℕ) × (r ≡ Ok w) × (rest : Rest) × IsRest below rest × IsSignedNearest n negative h (2 ^ 63 + m % 2 ^ 63) rest w)

@@ -1,5 +1,6 @@
 -- Which way it went (paper 02, Wish 4), from the values alone: what is said of the word w of n bits that is given for a value. As in Nearest.antt the value
 -- offered has a sign and the size a / b, counted in 2^-307, and both sides of a comparison are multiplied by b.
+use Rattle.bounds.specs.Refusals.{Answer}
 use Rattle.std.specs.Prelude.{◌≡◌, Bool, false, ℕ, ◌+◌, ◌*◌, ◌%◌, ◌^◌, ◌<◌, ℤ, pos, negsuc, ◌*ℤ◌, ◌-ℤ◌}
 use Rattle.bounds.specs.declared.answer.Written.{Written}
 use Rattle.bounds.specs.declared.saying.Saying.{Saying}
@@ -41,5 +42,5 @@ unfoldable pub SaysFound : ℕ → Bool → ℤ → ℕ → ℕ → ℕ → Sayi
 SaysFound n negative h m below w s = (rest : Rest) → IsRest below rest → SaysOffered n negative h (2 ^ 63 + m % 2 ^ 63) rest w s
 
 -- ---- what the call answers, and says
-unfoldable pub FindsAndSays : ℕ → Bool → ℤ → ℕ → ℕ → Written → Type 0
+unfoldable pub FindsAndSays : ℕ → Bool → ℤ → ℕ → ℕ → Answer Written → Type 0
 FindsAndSays n negative h m below r = AndSays (FindsNearest n negative h m below) (SaysFound n negative h m below) r

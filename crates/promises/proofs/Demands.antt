@@ -4,7 +4,6 @@ use mathlib.Core.Bool.{false}
 use Prim.Native.Nat.{ℕ, ◌-◌, ◌^◌, ◌≤◌, ◌<◌}
 use native.Mathlib.Omega.{arith}
 use lib.Pow.{pow_pos}
-use Rattle.order.specs.declared.order.Comparison.{Comparison}
 use Rattle.word.specs.Takum.{takum, fraction_bits}
 use Rattle.bounds.specs.Widths.{nar_word, largest, smallest}
 use Rattle.word.specs.Reads.{IsKind, Reads}

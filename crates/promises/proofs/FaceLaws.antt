@@ -1,15 +1,15 @@
 -- The law of the face: a struct follows the lines that the answer follows, because a refusal is handed over by its number, with zeros. Assumes nothing.
+use Rattle.std.specs.Prelude.{Ok, Err}
+use Rattle.bounds.specs.Refusals.{passed, Answer}
 use mathlib.Core.Path.{◌≡◌, refl, sym, ap, ◌∙◌, subst}
 use mathlib.Core.Bool.{Bool, true, false}
 use mathlib.Core.List.{List, [], ◌∷◌, ◌++◌}
 use mathlib.Core.Logic.{inl, inr}
 use Prim.Native.Nat.{ℕ, zero, suc}
 use native.Mathlib.Omega.{arith}
-use Rattle.bounds.specs.declared.answer.Answer.{Answer}
 use Rattle.bounds.specs.declared.answer.Written.{Written}
 use Rattle.bounds.specs.declared.saying.Saying.{Saying}
 use Rattle.bounds.specs.declared.refusal.Refusal.{Refusal}
-use Rattle.bounds.specs.declared.refusal.Verdict.{Verdict}
 use Rattle.bounds.specs.Sayings.{saying_number, plain, AndSays}
 use Rattle.bounds.proofs.Answers.{plain_refused}
 use Rattle.bounds.specs.Refusals.{number_of, Decided, through, refused}
@@ -42,13 +42,13 @@ module _ {A H : Type 0} (R : Refusal → A) {handed : A → H} (refusal : H → 
       by a x = handed_so R a _ lines _ _ (λ q e. subst (λ (b : A). (refusal (handed b) ≡ number_of q) × Zeros (handed b)) (sym e) (zeros q (subst Gives e x))) (then a x) (follows a x)
 
 -- a call that answers with a word
-module _ (lines : List Line) {Gives : Answer → Type 0} (Is : ℕ → Type 0) where
-  pub word_hands : ((w : ℕ) → Gives (Answer.Word w) → Is w) → ((a : Answer) → Gives a → Follows Answer.Refused a lines) → (r : HandedWord) → HandsOver word_handed Gives r → HandsWord lines Is r
-  word_hands is follows r h = hands Answer.Refused (λ r. r.refusal) (λ r. r.word ≡ 0) (λ r. (r.refusal ≡ 0) × Is r.word) lines (λ q x. (refl, refl)) by follows r h
+module _ (lines : List Line) {Gives : Answer ℕ → Type 0} (Is : ℕ → Type 0) where
+  pub word_hands : ((w : ℕ) → Gives (Ok w) → Is w) → ((a : Answer ℕ) → Gives a → Follows Err a lines) → (r : HandedWord) → HandsOver word_handed Gives r → HandsWord lines Is r
+  word_hands is follows r h = hands Err (λ r. r.refusal) (λ r. r.word ≡ 0) (λ r. (r.refusal ≡ 0) × Is r.word) lines (λ q x. (refl, refl)) by follows r h
     where
-      by : (a : Answer) → Gives a → ((q : Refusal) → a ≡ Answer.Refused q → ⊥) → ((word_handed a).refusal ≡ 0) × Is (word_handed a).word
-      by (Answer.Word w) x none = (refl, is w x)
-      by (Answer.Refused q) x none = absurd (none q refl)
+      by : (a : Answer ℕ) → Gives a → ((q : Refusal) → a ≡ Err q → ⊥) → ((word_handed a).refusal ≡ 0) × Is (word_handed a).word
+      by (Ok w) x none = (refl, is w x)
+      by (Err q) x none = absurd (none q refl)
 
 -- answers that are refused alike follow the same lines
 pub refused_alike : {A B : Type 0} (R : Refusal → A) (R' : Refusal → B) (a : A) (b : B) (lines : List Line) → ((q : Refusal) → a ≡ R q → b ≡ R' q) → ((q : Refusal) → b ≡ R' q → a ≡ R q) → Follows R a lines → Follows R' b lines
@@ -58,21 +58,21 @@ refused_alike R R' a b (line number When ∷ lines) to from (inl (h, x)) = inl (
 refused_alike R R' a b (line number When ∷ lines) to from (inr (h, x)) = inr (h, refused_alike R R' a b lines to from x)
 
 -- a call that answers with a word and its saying
-module _ (lines : List Line) {Gives : Answer → Type 0} (Is : ℕ → Type 0) (SaysOf : ℕ → Saying → Type 0) where
-  pub said_hands : ((w : ℕ) → Gives (Answer.Word w) → Is w) → ((a : Answer) → Gives a → Follows Answer.Refused a lines) → (r : HandedSaying) → HandsOver saying_handed (AndSays Gives SaysOf) r → HandsSaid lines Is SaysOf r
+module _ (lines : List Line) {Gives : Answer ℕ → Type 0} (Is : ℕ → Type 0) (SaysOf : ℕ → Saying → Type 0) where
+  pub said_hands : ((w : ℕ) → Gives (Ok w) → Is w) → ((a : Answer ℕ) → Gives a → Follows Err a lines) → (r : HandedSaying) → HandsOver saying_handed (AndSays Gives SaysOf) r → HandsSaid lines Is SaysOf r
   said_hands is follows r h =
-      hands Written.Refused (λ r. r.refusal) (λ r. (r.saying ≡ 0) × (r.word ≡ 0)) Said lines (λ q x. (refl, (refl, refl))) by
-      (λ a x. refused_alike Answer.Refused Written.Refused (plain a) a lines (plain_refused a) (λ q e. ap plain e) (follows (plain a) x.answers)) r h
+      hands Err (λ r. r.refusal) (λ r. (r.saying ≡ 0) × (r.word ≡ 0)) Said lines (λ q x. (refl, (refl, refl))) by
+      (λ a x. refused_alike Err Err (plain a) a lines (plain_refused a) (λ q e. ap plain e) (follows (plain a) x.answers)) r h
     where
       Said : HandedSaying → Type 0
       Said r = (r.refusal ≡ 0) × (Is r.word × ((s : Saying) × (r.saying ≡ saying_number s) × SaysOf r.word s))
 
-      by : (a : Written) → AndSays Gives SaysOf a → ((q : Refusal) → a ≡ Written.Refused q → ⊥) → Said (saying_handed a)
-      by (Written.Word w s) x none = (refl, (is w x.answers, (s, refl, x.says w s refl)))
-      by (Written.Refused q) x none = absurd (none q refl)
+      by : (a : Answer Written) → AndSays Gives SaysOf a → ((q : Refusal) → a ≡ Err q → ⊥) → Said (saying_handed a)
+      by (Ok (w,s)) x none = (refl, (is w x.answers, (s, refl, x.says w s refl)))
+      by (Err q) x none = absurd (none q refl)
 
 -- an answer that is no refusal passed the tests, and is what the contract says
-pub unrefused : {A : Type 0} {R : Refusal → A} {a : A} {v : Verdict} {Q : Type 0} → ((q : Refusal) → a ≡ R q → ⊥) → Decided v (λ q. a ≡ R q) Q → (v ≡ Verdict.Through) × Q
+pub unrefused : {A : Type 0} {R : Refusal → A} {a : A} {v : Verdict} {Q : Type 0} → ((q : Refusal) → a ≡ R q → ⊥) → Decided v (λ q. a ≡ R q) Q → (v ≡ passed) × Q
 unrefused none (through h x) = (h, x)
 unrefused none (refused h e) = absurd (none _ e)
 

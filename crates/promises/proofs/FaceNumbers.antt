@@ -1,4 +1,7 @@
 -- What the exported calls that write, move and take numbers hand over, from their contracts. Assumes nothing.
+use Rattle.std.specs.Prelude.{Ok, Err}
+use Rattle.bounds.specs.Refusals.{passed, Answer}
+use Rattle.bounds.specs.Sayings.{written}
 use mathlib.Core.Path.{◌≡◌, refl, sym, ap, ◌∙◌, subst}
 use mathlib.Core.Bool.{Bool, true, false, false≢true}
 use mathlib.Core.List.{List, [], ◌∷◌}
@@ -7,10 +10,7 @@ use Prim.Native.Nat.{ℕ, ◌*◌, ◌^◌}
 use native.Mathlib.Omega.{arith}
 use lib.Ieee.{Float, nan, inf, fin, up, down, binary64, of_bits}
 use lib.IntN.{ℤ, pos, nat_abs, ◌+ℤ◌}
-use Rattle.bounds.specs.declared.answer.Answer.{Answer}
-use Rattle.bounds.specs.declared.width.Made.{Made}
 use Rattle.bounds.specs.declared.refusal.Refusal.{Refusal}
-use Rattle.bounds.specs.declared.refusal.Verdict.{Verdict}
 use Rattle.bounds.specs.declared.saying.Saying.TheVariants.{Exact}
 use Rattle.bounds.specs.Refusals.{width_test, IsWord, Decided}
 use Rattle.bounds.specs.Sayings.{AndSays}
@@ -23,7 +23,6 @@ use Rattle.nearest.specs.Sayings.{Says}
 use Rattle.round.specs.Writes.{IsExact, IsWritten}
 use Rattle.write.specs.Writes.{IsMoved, is_negative, Writes, Moves}
 use Rattle.write.specs.Sayings.{SaysMoved, WritesAndSays, MovesAndSays}
-use Rattle.whole.specs.declared.taking.Whole.{Whole}
 use Rattle.whole.specs.Wholes.{IsNearestWhole, WritesWhole, TakesWhole}
 use Rattle.whole.specs.Sayings.{WritesWholeAndSays}
 use Rattle.whole.specs.Shortest.{IsShortest, GivesShortest}
@@ -54,21 +53,21 @@ use Rattle.promises.proofs.Refusals.{refusals_follow_the_table}
 use Rattle.promises.proofs.WordRefusals.{word_none, inexact_line}
 
 -- ---- writing: the rule gives what is asked for
-given : (strict : Bool) (n : ℕ) (s : Bool) (a b w : ℕ) → IsWritten n (rule_of (numbered strict)) s a b (Answer.Word w) → IsGiven strict n s a b w
+given : (strict : Bool) (n : ℕ) (s : Bool) (a b w : ℕ) → IsWritten n (rule_of (numbered strict)) s a b (Ok w) → IsGiven strict n s a b w
 unfolding IsWritten IsGiven
 given true n s a b w x = x
 given false n s a b w x = x
 
 -- what is written for a value, at a width that is tested first
-IsWrittenAt : ℕ → Bool → Bool → ℕ → ℕ → Answer → Type 0
-IsWrittenAt n strict s a b r = Decided (width_test n) (λ q. r ≡ Answer.Refused q) (IsWritten n (rule_of (numbered strict)) s a b r)
+IsWrittenAt : ℕ → Bool → Bool → ℕ → ℕ → Answer ℕ → Type 0
+IsWrittenAt n strict s a b r = Decided (width_test n) (λ q. r ≡ Err q) (IsWritten n (rule_of (numbered strict)) s a b r)
 
 value_hands : (n : ℕ) (strict s : Bool) (a b : ℕ) (r : HandedSaying) → HandsOver saying_handed (AndSays (IsWrittenAt n strict s a b) (Says n s a b)) r → HandsValue n strict s a b r
 unfolding IsWrittenAt Follows FollowsUpTo
 value_hands n strict s a b = said_hands (width n ∷ inexact strict (IsExact n s a b) ∷ []) (IsGiven strict n s a b) (Says n s a b) (λ w x. given strict n s a b w (unrefused (word_none w _ refl) x).1) follows
   where
-    follows : (r : Answer) → IsWrittenAt n strict s a b r → Follows Answer.Refused r (width n ∷ inexact strict (IsExact n s a b) ∷ [])
-    follows r x = rule_retold Answer.Refused r (width n ∷ []) 4 strict ((w : ℕ) → IsExact n s a b w → ⊥) (follow Refusal.Width (width_tells n) x (λ e. inexact_line n (rule_of (numbered strict)) s a b (IsExact n s a b) r (λ w y. y) (λ w y. y)))
+    follows : (r : Answer ℕ) → IsWrittenAt n strict s a b r → Follows Err r (width n ∷ inexact strict (IsExact n s a b) ∷ [])
+    follows r x = rule_retold Err r (width n ∷ []) 4 strict ((w : ℕ) → IsExact n s a b w → ⊥) (follow Refusal.Width (width_tells n) x (λ e. inexact_line n (rule_of (numbered strict)) s a b (IsExact n s a b) r (λ w y. y) (λ w y. y)))
 
 pub write_hands : (n : ℕ) (strict s : Bool) (m : ℕ) (k : ℤ) (r : HandedSaying) → HandsOver saying_handed (WritesAndSays n (rule_of (numbered strict)) (record { negative = s; m = m; k = k })) r → HandsWritten n strict s m k r
 unfolding HandsWritten WritesAndSays Writes IsWrittenAt
@@ -79,7 +78,7 @@ unfolding HandsWholeWritten WritesWholeAndSays WritesWhole IsWrittenAt
 write_whole_hands n strict x r h = value_hands n strict (is_negative x) (nat_abs x * 2 ^ 307) 1 r h
 
 -- the NaR word means NaR
-is_NaR : (n w : ℕ) → width_test n ≡ Verdict.Through → nar_word n ≡ w → IsNaR n w
+is_NaR : (n w : ℕ) → width_test n ≡ passed → nar_word n ≡ w → IsNaR n w
 unfolding IsNaR TheNaRWord
 is_NaR n w h e = let u = width_through n h in let t = the_NaR_word n u.0 u.1 in subst (IsNaR n) e (t.0, t.1)
 
@@ -95,26 +94,26 @@ write_binary64_hands n strict (inf s) r h = NaR_said n r h
 write_binary64_hands n strict (fin s m e) r h = value_hands n strict s (m * up e * 2 ^ 307) (down e) r h
 
 -- ---- moving
-moved_to : (strict : Bool) (n : ℕ) (t : Takum) (w : ℕ) → width_test n ≡ Verdict.Through → IsMoved n (rule_of (numbered strict)) t (Answer.Word w) → IsMovedTo n strict t w
+moved_to : (strict : Bool) (n : ℕ) (t : Takum) (w : ℕ) → width_test n ≡ passed → IsMoved n (rule_of (numbered strict)) t (Ok w) → IsMovedTo n strict t w
 unfolding IsMoved IsMovedTo
 moved_to strict n (real z) w h x = given strict n (is_negative z) (nat_abs z) 1 w x
 moved_to strict n NaR w h x = is_NaR n w h cc
 
 -- a moved word is what is asked for
-pub moved_word : (n n' : ℕ) (strict : Bool) (w w' : ℕ) → Moves n n' (rule_of (numbered strict)) w (Answer.Word w') → IsMovedTo n' strict (takum n w) w'
+pub moved_word : (n n' : ℕ) (strict : Bool) (w w' : ℕ) → Moves n n' (rule_of (numbered strict)) w (Ok w') → IsMovedTo n' strict (takum n w) w'
 unfolding Moves
 moved_word n n' strict w w' x = let t = unrefused (word_none w' _ refl) x in moved_to strict n' (takum n w) w' (move_through n n' w t.0).1 t.1
 
-pub moved_follows : (n n' : ℕ) (strict : Bool) (w : ℕ) (a : Answer) → Moves n n' (rule_of (numbered strict)) w a → Follows Answer.Refused a (width n ∷ width n' ∷ word_lines n n' strict w)
+pub moved_follows : (n n' : ℕ) (strict : Bool) (w : ℕ) (a : Answer ℕ) → Moves n n' (rule_of (numbered strict)) w a → Follows Err a (width n ∷ width n' ∷ word_lines n n' strict w)
 unfolding move_lines word_lines
-moved_follows n n' strict w a x = rule_retold Answer.Refused a (width n ∷ width n' ∷ stray n w ∷ []) 4 strict ((w' : ℕ) → IsWord n' w' × (takum n' w' ≡ takum n w) → ⊥) (refusals_follow_the_table.move_word n n' (rule_of (numbered strict)) w a x)
+moved_follows n n' strict w a x = rule_retold Err a (width n ∷ width n' ∷ stray n w ∷ []) 4 strict ((w' : ℕ) → IsWord n' w' × (takum n' w' ≡ takum n w) → ⊥) (refusals_follow_the_table.move_word n n' (rule_of (numbered strict)) w a x)
 
 pub move_hands : (n n' : ℕ) (strict : Bool) (w : ℕ) (r : HandedSaying) → HandsOver saying_handed (MovesAndSays n n' (rule_of (numbered strict)) w) r → HandsMoved n n' strict w r
 unfolding HandsMoved MovesAndSays
 move_hands n n' strict w = said_hands (width n ∷ width n' ∷ word_lines n n' strict w) (IsMovedTo n' strict (takum n w)) (SaysMoved n' (takum n w)) (moved_word n n' strict w) (moved_follows n n' strict w)
 
 -- ---- taking
-taken_strictly : (strict : Bool) (n w : ℕ) (x : ℤ) → TakesWhole n (taking_of (numbered strict)) w (Whole.Is x) → strict ≡ true → IsWhole n x w
+taken_strictly : (strict : Bool) (n w : ℕ) (x : ℤ) → TakesWhole n (taking_of (numbered strict)) w (Ok x) → strict ≡ true → IsWhole n x w
 unfolding IsWhole value_of
 taken_strictly true n w x y e = let k = strictly_taken n w x y in record { word = k.word; means = k.means }
 taken_strictly false n w x y e = absurd (false≢true e)
@@ -122,8 +121,8 @@ taken_strictly false n w x y e = absurd (false≢true e)
 pub take_whole_hands : (n : ℕ) (strict : Bool) (w : ℕ) (r : HandedWhole) → HandsOver whole_handed (TakesWhole n (taking_of (numbered strict)) w) r → HandsWhole n strict w r
 unfolding HandsWhole
 take_whole_hands n strict w =
-    hands Whole.Refused (λ r. r.refusal) (λ r. r.whole ≡ pos 0) (λ r. (r.refusal ≡ 0) × Taken r.whole) lines (λ q x. (refl, refl)) by
-    (λ a x. last_retold Whole.Refused a (width n ∷ stray n w ∷ nar n w ∷ over n w ∷ []) 4 _ _ (λ h. (takes_strictly strict h.0, h.1)) (λ h. (ap (λ (b : Bool). taking_of (numbered b)) h.0, h.1)) (refusals_follow_the_table.take_whole n (taking_of (numbered strict)) w a x))
+    hands Err (λ r. r.refusal) (λ r. r.whole ≡ pos 0) (λ r. (r.refusal ≡ 0) × Taken r.whole) lines (λ q x. (refl, refl)) by
+    (λ a x. last_retold Err a (width n ∷ stray n w ∷ nar n w ∷ over n w ∷ []) 4 _ _ (λ h. (takes_strictly strict h.0, h.1)) (λ h. (ap (λ (b : Bool). taking_of (numbered b)) h.0, h.1)) (refusals_follow_the_table.take_whole n (taking_of (numbered strict)) w a x))
   where
     lines : List Line
     lines = width n ∷ stray n w ∷ nar n w ∷ over n w ∷ inexact strict (λ x. IsWhole n x w) ∷ []
@@ -131,9 +130,9 @@ take_whole_hands n strict w =
     Taken : ℤ → Type 0
     Taken x = ((z : ℤ) × (takum n w ≡ real z) × IsNearestWhole z x) × (strict ≡ true → IsWhole n x w)
 
-    by : (a : Whole) → TakesWhole n (taking_of (numbered strict)) w a → ((q : Refusal) → a ≡ Whole.Refused q → ⊥) → ((whole_handed a).refusal ≡ 0) × Taken (whole_handed a).whole
-    by (Whole.Is x) y none = let k = taken_out n (taking_of (numbered strict)) w x y in (refl, ((k.z, k.means, k.near), taken_strictly strict n w x y))
-    by (Whole.Refused q) y none = absurd (none q refl)
+    by : (a : Answer ℤ) → TakesWhole n (taking_of (numbered strict)) w a → ((q : Refusal) → a ≡ Err q → ⊥) → ((whole_handed a).refusal ≡ 0) × Taken (whole_handed a).whole
+    by (Ok x) y none = let k = taken_out n (taking_of (numbered strict)) w x y in (refl, ((k.z, k.means, k.near), taken_strictly strict n w x y))
+    by (Err q) y none = absurd (none q refl)
 
 -- no number goes out exactly where the word is NaR
 no_number : (n w : ℕ) → IsWord n w → taken.TakesBinary64 n w Binary64.Nar → takum n w ≡ NaR
@@ -163,8 +162,8 @@ take_binary64_hands n w = hands Binary64.Refused (λ r. r.refusal) (λ r. (r.rea
 -- ---- the shortest width
 pub shortest_hands : (x : ℤ) (r : HandedWidth) → HandsOver width_handed (GivesShortest x) r → HandsShortest x r
 unfolding HandsShortest GivesShortest
-shortest_hands x = hands Made.Refused (λ r. r.refusal) (λ r. r.width ≡ 0) (λ r. (r.refusal ≡ 0) × IsShortest x r.width) (no_width x ∷ []) (λ q y. (refl, refl)) by (refusals_follow_the_table.shortest_width x)
+shortest_hands x = hands Err (λ r. r.refusal) (λ r. r.width ≡ 0) (λ r. (r.refusal ≡ 0) × IsShortest x r.width) (no_width x ∷ []) (λ q y. (refl, refl)) by (refusals_follow_the_table.shortest_width x)
   where
-    by : (a : Made) → GivesShortest x a → ((q : Refusal) → a ≡ Made.Refused q → ⊥) → ((width_handed a).refusal ≡ 0) × IsShortest x (width_handed a).width
-    by (Made.Width n) y none = (refl, y)
-    by (Made.Refused q) y none = absurd (none q refl)
+    by : (a : Answer Width) → GivesShortest x a → ((q : Refusal) → a ≡ Err q → ⊥) → ((width_handed a).refusal ≡ 0) × IsShortest x (width_handed a).width
+    by (Ok n) y none = (refl, y)
+    by (Err q) y none = absurd (none q refl)

@@ -1,4 +1,7 @@
 -- What the face hands over is one thing, for each of its functions: the public call's answer is one, and so is what is left in a lent slice. Assumes nothing.
+use Rattle.bounds.specs.Refusals.{ListAnswer}
+use Rattle.std.specs.Prelude.{⊤}
+use Rattle.bounds.specs.Sayings.{written}
 use mathlib.Core.Path.{◌≡◌, sym, ap, ◌∙◌, subst}
 use mathlib.Core.List.{List}
 use Prim.Native.Nat.{ℕ}
@@ -16,7 +19,6 @@ use Rattle.whole.specs.Sayings.{WritesWholeAndSays}
 use Rattle.whole.specs.Shortest.{GivesShortest}
 use Rattle.binary64.specs.Takes.{TakesBinary64}
 use Rattle.binary64.specs.Sayings.{WritesBinary64AndSays}
-use Rattle.sheet.specs.declared.writing.Writing.{Writing}
 use Rattle.sheet.specs.Reads.{ReadsBlock}
 use Rattle.sheet.specs.Writes.{WritesBlock, FillsBuffer}
 use Rattle.ledusprig.specs.declared.handed.columns.HandedColumn.{HandedColumn}
@@ -79,7 +81,7 @@ column_handed_one n n' rule words before after after' r s p q =
 -- a written block, with what its buffer holds afterwards
 pub block_written_handed_one : (n number : ℕ) (words before after after' : List ℕ) (r s : HandedWriting) → HandsOver writing_handed (WritesTheBlock n number words before after) r → HandsOver writing_handed (WritesTheBlock n number words before after') s → (r ≡ s) × (after ≡ after')
 unfolding WritesTheBlock
-block_written_handed_one n number words before after after' r s p q = (hands_over_one p q (λ a b x y. one a b x.0 y.0), fills_buffer_one n number words before q.answer after after' (subst (λ (a : Writing). FillsBuffer n number words before a after) (one p.answer q.answer p.given.0 q.given.0) p.given.1) q.given.1)
+block_written_handed_one n number words before after after' r s p q = (hands_over_one p q (λ a b x y. one a b x.0 y.0), fills_buffer_one n number words before q.answer after after' (subst (λ (a : ListAnswer ⊤). FillsBuffer n number words before a after) (one p.answer q.answer p.given.0 q.given.0) p.given.1) q.given.1)
   where
-    one : (a b : Writing) → WritesBlock n words before a → WritesBlock n words before b → a ≡ b
+    one : (a b : ListAnswer ⊤) → WritesBlock n words before a → WritesBlock n words before b → a ≡ b
     one = writes_block_one n words before

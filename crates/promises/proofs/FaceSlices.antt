@@ -1,17 +1,17 @@
 -- What the exported calls on lent slices hand over and leave there, from their contracts. Assumes nothing.
+use Rattle.std.specs.Prelude.{Ok, Err}
+use Rattle.bounds.specs.declared.refusal.ListRefusal.{ListRefusal}
+use Rattle.bounds.specs.Refusals.{passed, Answer, ListAnswer}
 use mathlib.Core.Path.{◌≡◌, refl, sym, ap, ap₂, subst}
 use mathlib.Core.Bool.{Bool}
 use mathlib.Core.List.{List, [], ◌∷◌, ◌++◌}
 use mathlib.Core.Logic.{◌⊎◌, inl, inr}
 use Prim.Native.Nat.{ℕ, ◌≤◌, ◌<◌}
 use lib.ListN.{length, get_or, drop}
-use Rattle.bounds.specs.declared.answer.Answer.{Answer}
 use Rattle.bounds.specs.declared.refusal.Refusal.{Refusal}
-use Rattle.bounds.specs.declared.refusal.Verdict.{Verdict}
 use Rattle.bounds.specs.Refusals.{number_of, width_test, room_test, ◌then◌}
 use Rattle.bounds.proofs.Verdicts.{width_through, then_through, answered}
 use Rattle.write.specs.Writes.{Moves}
-use Rattle.column.specs.declared.moving.Column.{Column}
 use Rattle.column.specs.declared.moving.MovedColumn.{MovedColumn}
 use Rattle.column.specs.Columns.{Movable, MovableUpTo, IsTried, MovesColumn, Holds}
 use Rattle.column.specs.Counts.{Counts, KeepsTheMeaning, CountsExact, HoldsAndCounts}
@@ -34,15 +34,15 @@ use Rattle.promises.proofs.WordRefusals.{word_none}
 -- ---- a column
 module _ (n n' : ℕ) (strict : Bool) (words before after : List ℕ) where
   -- at widths that are right, a word of the column has its own lines only
-  at_word : (a : Answer) (w : ℕ) → width_test n ≡ Verdict.Through → width_test n' ≡ Verdict.Through → Moves n n' (rule_of (numbered strict)) w a → Follows Answer.Refused a (word_lines n n' strict w)
-  at_word a w e e' m = past Answer.Refused a 1 _ _ (good_width n' (width_through n' e')) (past Answer.Refused a 1 _ _ (good_width n (width_through n e)) (moved_follows n n' strict w a m))
+  at_word : (a : Answer ℕ) (w : ℕ) → width_test n ≡ passed → width_test n' ≡ passed → Moves n n' (rule_of (numbered strict)) w a → Follows Err a (word_lines n n' strict w)
+  at_word a w e e' m = past Err a 1 _ _ (good_width n' (width_through n' e')) (past Err a 1 _ _ (good_width n (width_through n e)) (moved_follows n n' strict w a m))
 
-  none_at : (w w' : ℕ) → width_test n ≡ Verdict.Through → width_test n' ≡ Verdict.Through → Moves n n' (rule_of (numbered strict)) w (Answer.Word w') → NoneHolds (word_lines n n' strict w)
-  none_at w w' e e' m = none_holds Answer.Refused (Answer.Word w') (word_lines n n' strict w) (word_none w' _ refl) (at_word (Answer.Word w') w e e' m)
+  none_at : (w w' : ℕ) → width_test n ≡ passed → width_test n' ≡ passed → Moves n n' (rule_of (numbered strict)) w (Ok w') → NoneHolds (word_lines n n' strict w)
+  none_at w w' e e' m = none_holds Err (Ok w') (word_lines n n' strict w) (word_none w' _ refl) (at_word (Ok w') w e e' m)
 
-  tried : (a : Column) (k : ℕ) → width_test n ≡ Verdict.Through → width_test n' ≡ Verdict.Through → IsTried n n' (rule_of (numbered strict)) words a → Holds n n' (rule_of (numbered strict)) words before a after → CountsExact n n' words after a k → MovedAll n n' strict words before after (answer_handed a k) ⊎ RefusedAtPosition n n' strict words before after (answer_handed a k)
+  tried : (a : ListAnswer ℕ) (k : ℕ) → width_test n ≡ passed → width_test n' ≡ passed → IsTried n n' (rule_of (numbered strict)) words a → Holds n n' (rule_of (numbered strict)) words before a after → CountsExact n n' words after a k → MovedAll n n' strict words before after (answer_handed a k) ⊎ RefusedAtPosition n n' strict words before after (answer_handed a k)
   unfolding IsTried Holds CountsExact MovableUpTo Movable
-  tried (Column.Moved count) k e e' x y z =
+  tried (Ok count) k e e' x y z =
       inl (record {
         refusal = refl;
         position = refl;
@@ -56,32 +56,32 @@ module _ (n n' : ℕ) (strict : Bool) (words before after : List ℕ) where
     where
       inside : (i : ℕ) → i < length words → i < count
       inside i l = subst (λ (k : ℕ). i < k) (sym x.0) l
-  tried (Column.Refused q) k e e' x y z = absurd x
-  tried (Column.RefusedAt p q) k e e' x y z =
+  tried (Err (ListRefusal.Whole q)) k e e' x y z = absurd x
+  tried (Err (ListRefusal.At p q)) k e e' x y z =
       inr (record {
         inside = x.inside;
         lowest = λ i l. let (w', m) = x.lowest i l in none_at (get_or words i 0) w' e e' m;
-        is = handed_so Answer.Refused (Answer.Refused q) (number_of q) (word_lines n n' strict (get_or words p 0)) _ _ (λ q' h. (ap number_of (same q' h), (refl, z, y))) (λ none. none q refl) (at_word (Answer.Refused q) (get_or words p 0) e e' x.is);
+        is = handed_so Err (Err q) (number_of q) (word_lines n n' strict (get_or words p 0)) _ _ (λ q' h. (ap number_of (same q' h), (refl, z, y))) (λ none. none q refl) (at_word (Err q) (get_or words p 0) e e' x.is);
       })
     where
-      same : (q' : Refusal) → Answer.Refused q ≡ Answer.Refused q' → q ≡ q'
+      same : (q' : Refusal) → Err q ≡ Err q' → q ≡ q'
       same q' h = cc
 
   -- a column that was refused as a whole
   refused_column : Refusal → MovedColumn
-  refused_column q = record { answer = Column.Refused q; exact = 0 }
+  refused_column q = record { answer = Err (ListRefusal.Whole q;) exact = 0 }
 
   pub column_hands : (r : HandedColumn) → HandsOver column_handed (MovesTheColumn n n' (rule_of (numbered strict)) words before after) r → HandsColumn n n' strict words before after r
   unfolding HandsColumn MovesTheColumn MovesColumn HoldsAndCounts Holds CountsExact refused_column
   column_hands =
       hands refused_column (λ r. r.refusal) (λ r. (r.position ≡ 0) × (r.moved ≡ 0) × (r.exact ≡ 0) × (after ≡ before)) Tried (width n ∷ width n' ∷ room (length words) (length before) ∷ []) (λ q x. (refl, (refl, refl, refl, x.1.0))) by
-      (λ a x. refused_alike Column.Refused refused_column a.answer a (width n ∷ width n' ∷ room (length words) (length before) ∷ []) (whole a x.1) (λ q e. ap (λ (c : MovedColumn). c.answer) e) (refusals_follow_the_table.move_column n n' (rule_of (numbered strict)) words (length before) a.answer x.0))
+      (λ a x. refused_alike Err (ListRefusal.Whole refused_column) a.answer a (width n ∷ width n' ∷ room (length words) (length before) ∷ []) (whole a x.1) (λ q e. ap (λ (c : MovedColumn). c.answer) e) (refusals_follow_the_table.move_column n n' (rule_of (numbered strict)) words (length before) a.answer x.0))
     where
       Tried : HandedColumn → Type 0
       Tried r = MovedAll n n' strict words before after r ⊎ RefusedAtPosition n n' strict words before after r
 
-      whole : (a : MovedColumn) → Holds n n' (rule_of (numbered strict)) words before a.answer after × CountsExact n n' words after a.answer a.exact → (q : Refusal) → a.answer ≡ Column.Refused q → a ≡ refused_column q
-      whole a x q e = ap₂ (λ (c : Column) (k : ℕ). record { answer = c; exact = k }) e (subst (λ (c : Column). CountsExact n n' words after c a.exact) e x.1)
+      whole : (a : MovedColumn) → Holds n n' (rule_of (numbered strict)) words before a.answer after × CountsExact n n' words after a.answer a.exact → (q : Refusal) → a.answer ≡ Err (ListRefusal.Whole q) → a ≡ refused_column q
+      whole a x q e = ap₂ (λ (c : ListAnswer ℕ) (k : ℕ). record { answer = c; exact = k }) e (subst (λ (c : ListAnswer ℕ). CountsExact n n' words after c a.exact) e x.1)
 
       by : (a : MovedColumn) → MovesTheColumn n n' (rule_of (numbered strict)) words before after a → ((q : Refusal) → a ≡ refused_column q → ⊥) → Tried (column_handed a)
       by a x none =
@@ -95,12 +95,12 @@ module _ (b before after : List ℕ) where
   pub block_hands : (r : HandedBlock) → HandsOver block_handed (ReadsBlock b (length before)) r → FillsResults b before after → HandsBlock b before after r
   unfolding HandsBlock ReadsBlock FillsResults ARefusedBlockWritesNothing
   block_hands r h f =
-      hands Block.Refused (λ r. r.refusal) (λ r. (r.width ≡ 0) × (r.number ≡ 0) × (r.count ≡ 0) × (after ≡ before)) Read
+      hands Err (λ r. r.refusal) (λ r. (r.width ≡ 0) × (r.number ≡ 0) × (r.count ≡ 0) × (after ≡ before)) Read
       (size b ∷ mark b ∷ check b ∷ block_width b ∷ count b ∷ fill b ∷ room (block.count b) (length before) ∷ [])
       (λ q x. (refl, (refl, refl, refl, a_refused_block_writes_nothing b before after q x f))) by (refusals_follow_the_table.read_block b (length before)) r h
     where
       Read : HandedBlock → Type 0
       Read r = (r.refusal ≡ 0) × ((r.width ≡ block.width b) × (r.number ≡ block.block_number b) × (r.count ≡ block.count b) × (after ≡ block.words b ++ drop (block.count b) before))
 
-      by : (a : Block) → ReadsBlock b (length before) a → ((q : Refusal) → a ≡ Block.Refused q → ⊥) → Read (block_handed a)
+      by : (a : Block) → ReadsBlock b (length before) a → ((q : Refusal) → a ≡ Err q → ⊥) → Read (block_handed a)
       by a x none = let t = unrefused none x in subst (λ (c : Block). Read (block_handed c)) (sym t.1) (refl, (refl, refl, refl, answered t.0 f))

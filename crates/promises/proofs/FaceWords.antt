@@ -1,4 +1,7 @@
 -- What the exported calls on widths and words hand over, from their contracts. Assumes nothing.
+use Rattle.std.specs.Prelude.{Ok, Err}
+use Rattle.bounds.specs.Refusals.{Answer}
+use Rattle.std.specs.Ordering.{Ordering}
 use mathlib.Core.Path.{◌≡◌, refl, sym, ap, ◌∙◌, subst}
 use mathlib.Core.Bool.{false}
 use mathlib.Core.List.{[], ◌∷◌}
@@ -7,14 +10,11 @@ use Prim.Native.Nat.{ℕ, ◌*◌, ◌^◌, ◌≤◌, ◌<◌}
 use native.Mathlib.Decide.{dec_lt}
 use native.Mathlib.Omega.{arith}
 use lib.IntN.{pos, nat_abs}
-use Rattle.bounds.specs.declared.answer.Answer.{Answer}
 use Rattle.bounds.specs.declared.refusal.Refusal.{Refusal}
-use Rattle.bounds.specs.declared.width.Limit.{Limit}
 use Rattle.bounds.specs.Refusals.{IsWord}
 use Rattle.bounds.specs.Widths.{largest, smallest, nar_word, IsLimit, GivesWord, GivesLimit}
 use Rattle.bounds.proofs.Powers.{not_more}
 use Rattle.bounds.proofs.Verdicts.{width_through, word_through, words_through}
-use Rattle.order.specs.declared.order.Comparison.{Comparison}
 use Rattle.word.specs.declared.reading.Kind.{Kind}
 use Rattle.word.specs.Takum.{Takum, real, NaR, takum, fraction_bits, own_fraction_bits}
 use Rattle.word.specs.Reads.{IsKind, refused_reading, Reads}
@@ -44,7 +44,7 @@ of_width : (f : ℕ → ℕ) (n : ℕ) (Is : ℕ → Type 0) → (2 ≤ n → n 
 unfolding GivesWord
 of_width f n Is is = word_hands (width n ∷ []) Is by (refusals_follow_the_table.words f n)
   where
-    by : (w : ℕ) → GivesWord f n (Answer.Word w) → Is w
+    by : (w : ℕ) → GivesWord f n (Ok w) → Is w
     by w x = let t = unrefused (word_none w _ refl) x in let u = width_through n t.0 in let e : f n ≡ w = cc in subst Is e (is u.0 u.1)
 
 pub largest_hands : (n : ℕ) (r : HandedWord) → HandsOver word_handed (GivesWord largest n) r → HandsLargest n r
@@ -69,11 +69,11 @@ counts n l lo hi i = (λ x h. every_whole_number_up_to_the_limit_has_a_word n l 
 
 pub limit_hands : (n : ℕ) (r : HandedLimit) → HandsOver limit_handed (GivesLimit n) r → HandsLimit n r
 unfolding HandsLimit GivesLimit
-limit_hands n = hands Limit.Refused (λ r. r.refusal) (λ r. r.limit ≡ 0) (λ r. (r.refusal ≡ 0) × CountsUpTo n r.limit) (width n ∷ []) (λ q x. (refl, refl)) by (refusals_follow_the_table.limit n)
+limit_hands n = hands Err (λ r. r.refusal) (λ r. r.limit ≡ 0) (λ r. (r.refusal ≡ 0) × CountsUpTo n r.limit) (width n ∷ []) (λ q x. (refl, refl)) by (refusals_follow_the_table.limit n)
   where
-    by : (a : Limit) → GivesLimit n a → ((q : Refusal) → a ≡ Limit.Refused q → ⊥) → ((limit_handed a).refusal ≡ 0) × CountsUpTo n (limit_handed a).limit
-    by (Limit.Count l) x none = let (h, (k, e, i)) = unrefused none x in let u = width_through n h in let same : k ≡ l = cc in (refl, subst (CountsUpTo n) same (counts n k u.0 u.1 i))
-    by (Limit.Refused q) x none = absurd (none q refl)
+    by : (a : Answer ℕ) → GivesLimit n a → ((q : Refusal) → a ≡ Err q → ⊥) → ((limit_handed a).refusal ≡ 0) × CountsUpTo n (limit_handed a).limit
+    by (Ok l) x none = let (h, (k, e, i)) = unrefused none x in let u = width_through n h in let same : k ≡ l = cc in (refl, subst (CountsUpTo n) same (counts n k u.0 u.1 i))
+    by (Err q) x none = absurd (none q refl)
 
 -- ---- one word
 pub read_hands : (n w : ℕ) (r : HandedReading) → HandsOver reading_handed (Reads n w) r → HandsReading n w r
@@ -84,13 +84,13 @@ read_hands n w = hands refused_reading (λ r. r.refusal) (λ r. (r.kind ≡ 0) �
     by Kind.Zero o x = (refl, inl (refl, x, (refl, refl, refl, refl)))
     by Kind.Nar o x = (refl, inr (inl (refl, x, (refl, refl, refl, refl))))
     by (Kind.Number s h m p) o x = (refl, inr (inr (refl, x)))
-    by (Kind.Refused q) o x = absurd x
+    by (Err q) o x = absurd x
 
     own : (a : Kind) (o : ℕ) → (kind_handed a o).own ≡ o
     own Kind.Zero o = refl
     own Kind.Nar o = refl
     own (Kind.Number s h m p) o = refl
-    own (Kind.Refused q) o = refl
+    own (Err q) o = refl
 
 order_of_meanings_lem : (n x y : ℕ) → IsWord n x → IsWord n y → (t u : Takum) → takum n x ≡ t → takum n y ≡ u → order (signed n x) (signed n y) ≡ order_of_meanings t u
 unfolding order_of_meanings
@@ -101,17 +101,17 @@ order_of_meanings_lem n x y ix iy NaR NaR h k = ap (λ (v : ℕ). order (signed 
 
 pub compare_hands : (n x y : ℕ) (r : HandedComparison) → HandsOver comparison_handed (Compares n x y) r → HandsComparison n x y r
 unfolding HandsComparison Compares
-compare_hands n x y = hands Comparison.Refused (λ r. r.refusal) (λ r. r.order ≡ pos 0) (λ r. (r.refusal ≡ 0) × (r.order ≡ order_of_meanings (takum n x) (takum n y))) (width n ∷ stray n x ∷ stray n y ∷ []) (λ q x. (refl, refl)) by (refusals_follow_the_table.compare n x y)
+compare_hands n x y = hands Err (λ r. r.refusal) (λ r. r.order ≡ pos 0) (λ r. (r.refusal ≡ 0) × (r.order ≡ order_of_meanings (takum n x) (takum n y))) (width n ∷ stray n x ∷ stray n y ∷ []) (λ q x. (refl, refl)) by (refusals_follow_the_table.compare n x y)
   where
-    by : (a : Comparison) → Compares n x y a → ((q : Refusal) → a ≡ Comparison.Refused q → ⊥) → ((comparison_handed a).refusal ≡ 0) × ((comparison_handed a).order ≡ order_of_meanings (takum n x) (takum n y))
+    by : (a : Answer Ordering) → Compares n x y a → ((q : Refusal) → a ≡ Err q → ⊥) → ((comparison_handed a).refusal ≡ 0) × ((comparison_handed a).order ≡ order_of_meanings (takum n x) (takum n y))
     by (Comparison.Is o) z none = let t = unrefused none z in let u = words_through n x y t.0 in let e : o ≡ order (signed n x) (signed n y) = cc in (refl, e ∙ order_of_meanings_lem n x y u.0 u.1 _ _ refl refl)
-    by (Comparison.Refused q) z none = absurd (none q refl)
+    by (Err q) z none = absurd (none q refl)
 
 pub negate_hands : (n w : ℕ) (r : HandedWord) → HandsOver word_handed (Negates n w) r → HandsNegated n w r
 unfolding HandsNegated Negates
 negate_hands n w = word_hands (width n ∷ stray n w ∷ []) (λ v. IsWord n v × (takum n v ≡ opposite (takum n w))) by (refusals_follow_the_table.negate n w)
   where
-    by : (v : ℕ) → Negates n w (Answer.Word v) → IsWord n v × (takum n v ≡ opposite (takum n w))
+    by : (v : ℕ) → Negates n w (Ok v) → IsWord n v × (takum n v ≡ opposite (takum n w))
     by v x =
         let t = unrefused (word_none v _ refl) x in
         let i = word_through n w t.0 in

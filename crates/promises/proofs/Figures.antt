@@ -1,4 +1,9 @@
 -- The P figures hold, by one test that is computed over the whole table. Assumes nothing.
+use Rattle.std.specs.Prelude.{Ok, Err}
+use Rattle.bounds.specs.declared.refusal.ListRefusal.{ListRefusal}
+use Rattle.bounds.specs.Refusals.{Answer, ListAnswer}
+use Rattle.std.specs.Prelude.{⊤}
+use Rattle.bounds.specs.Sayings.{written}
 use mathlib.Core.Path.{◌≡◌, refl, sym, ap, ◌∙◌, subst}
 use mathlib.Core.Bool.{Bool, true, false, ◌&&◌, ◌||◌, cond}
 use mathlib.Core.List.{List, [], ◌∷◌}
@@ -10,11 +15,9 @@ use lib.Count.{count_leading_zeros, count_trailing_zeros}
 use lib.Dec.{T, eqb, leb, ltb, eqb→eq, leb→le, ltb→lt}
 use lib.Ieee.Bits.{is_true}
 use lib.IntN.{ℤ, pos, negsuc, nat_abs, ◌+ℤ◌}
-use Rattle.bounds.specs.declared.answer.Answer.{Answer}
 use Rattle.bounds.specs.declared.answer.Written.{Written}
 use Rattle.bounds.specs.declared.refusal.Refusal.{Refusal}
 use Rattle.bounds.specs.declared.saying.Saying.{Saying}
-use Rattle.bounds.specs.declared.width.Made.{Made}
 use Rattle.word.specs.Takum.{Takum, real, NaR, power, regime_of, characteristic_of, S, D, R, r, p, C, F, c, e, value, meaning, N, padded, takum, or_zero, own_fraction_bits}
 use Rattle.word.specs.Reads.{num, den, IsSize, signed_size}
 use Rattle.word.specs.Orders.{negated}
@@ -32,7 +35,6 @@ use Rattle.write.specs.Sayings.{WritesAndSays, MovesAndSays}
 use Rattle.round.proofs.Rounding.{none_between}
 use Rattle.write.proofs.OneOutcome.{writes_one, writes_and_says_one, moves_and_says_one}
 use Rattle.whole.specs.declared.taking.Taking.{Taking}
-use Rattle.whole.specs.declared.taking.Whole.{Whole}
 use Rattle.whole.specs.Parts.{NearestSize, by_rule}
 use Rattle.whole.specs.Wholes.{IsTakenWhole, WritesWhole, TakesWhole}
 use Rattle.whole.specs.Sayings.{WritesWholeAndSays}
@@ -41,7 +43,6 @@ use Rattle.whole.proofs.Answers.{inside, taken_inside}
 use Rattle.whole.proofs.NearestWholes.{nearest_whole}
 use Rattle.whole.proofs.Refused.{meaning_taken}
 use Rattle.whole.proofs.OneOutcome.{taken_one, writes_whole_and_says_one}
-use Rattle.sheet.specs.declared.writing.Writing.{Writing}
 use Rattle.promises.specs.Figures.{Said, plus, minus, nar, IsSaid, Figure, reads, has_own, writes, refuses, writes_whole, refuses_whole, takes, says, says_whole, needs, needs_more, refuses_blocks, moves, whole, positive, negative, below, figures, FigureHolds, AllHold}
 use Rattle.promises.specs.Demands.{RefusedAs, ReadingIsTheDefinition}
 use Rattle.promises.specs.Writing.{numerator, denominator}
@@ -137,17 +138,17 @@ all_pass : List Figure → Bool
 all_pass [] = true
 all_pass (f ∷ fs) = passes f && all_pass fs
 
-given_holds : (n : ℕ) (rule : Rule) (M w : ℕ) → T (given n rule M w) → (a : Answer) → Writes n rule (whole M) a → a ≡ Answer.Word w
+given_holds : (n : ℕ) (rule : Rule) (M w : ℕ) → T (given n rule M w) → (a : Answer ℕ) → Writes n rule (whole M) a → a ≡ Ok w
 unfolding given scaled whole Writes num den IsWritten
 given_holds n Rule.Rounded M w t = λ a x.
     let y = rounded_is n (scaled M) 1 w (zero-lt-suc 0) t in
     let i = y.1.is.word in
-    writes_one n Rule.Rounded (whole M) a (Answer.Word w) x (through (width_fits n i.least i.most) (other y.0 y.1))
+    writes_one n Rule.Rounded (whole M) a (Ok w) x (through (width_fits n i.least i.most) (other y.0 y.1))
 given_holds n Rule.Strict M w t = λ a x.
     let y = has_is n (scaled M) w t in
-    writes_one n Rule.Strict (whole M) a (Answer.Word w) x (through (width_fits n y.word.least y.word.most) (record { z = scaled M; is = y; same = mul-one (scaled M) }))
+    writes_one n Rule.Strict (whole M) a (Ok w) x (through (width_fits n y.word.least y.word.most) (record { z = scaled M; is = y; same = mul-one (scaled M) }))
 
-not_given_holds : (n : ℕ) (rule : Rule) (M number v : ℕ) → T (not_given n rule M number v) → (a : Answer) → Writes n rule (whole M) a → RefusedAs Answer Answer.Refused number a
+not_given_holds : (n : ℕ) (rule : Rule) (M number v : ℕ) → T (not_given n rule M number v) → (a : Answer ℕ) → Writes n rule (whole M) a → RefusedAs (Answer ℕ) Err number a
 unfolding not_given scaled whole Writes num den IsWritten
 not_given_holds n Rule.Rounded M number v t = absurd t
 not_given_holds n Rule.Strict M number v t = λ a x.
@@ -162,7 +163,7 @@ not_given_holds n Rule.Strict M number v t = λ a x.
     record {
       q = Refusal.Inexact;
       is =
-          writes_one n Rule.Strict (whole M) a (Answer.Refused Refusal.Inexact) x
+          writes_one n Rule.Strict (whole M) a (Err Refusal.Inexact) x
           (through (width_fits n i.lo i.hi)
           (refl, none_between n i.lo i.hi v z z' (scaled M) 1 (zero-lt-suc 0) i.first j.last (size_has n v i) (size_has n (suc v) j) (lt_of_le_of_lt (le_of_eq (mul-one z)) (ltb→lt z (scaled M) y.0)) (lt_of_lt_of_le (ltb→lt (scaled M) z' y.1) (le_of_eq (sym (mul-one z'))))));
       known = sym (eqb→eq number 4 w.1);
@@ -187,7 +188,7 @@ half_off_is a i t =
         (λ k. let v = both (ltb (2 * a) (2 * scaled i + 2 ^ 307)) (ltb (2 * scaled i) (2 * a + 2 ^ 307)) k in ⊎_elim (apart_from (2 * a) (2 * scaled i + 2 ^ 307) v.0) (apart_from (2 * scaled i) (2 * a + 2 ^ 307) v.1) e)
         (either (eqb (i % 2) 0) (ltb (2 * a) (2 * scaled i + 2 ^ 307) && ltb (2 * scaled i) (2 * a + 2 ^ 307)) t)
 
-taken_holds : (n : ℕ) (rule : Taking) (w : ℕ) (x : ℤ) → T (taken n rule w x) → (a : Whole) → TakesWhole n rule w a → a ≡ Whole.Is x
+taken_holds : (n : ℕ) (rule : Taking) (w : ℕ) (x : ℤ) → T (taken n rule w x) → (a : Answer ℤ) → TakesWhole n rule w a → a ≡ Ok x
 unfolding taken by_rule
 taken_holds n Taking.Strict w x t = absurd t
 taken_holds n Taking.Nearest w x t = λ a y.
@@ -196,10 +197,10 @@ taken_holds n Taking.Nearest w x t = λ a y.
     let word = both (is_word n w) (same (takum n w) (real (signed_size s v))) (both (is_word n w && same (takum n w) (real (signed_size s v))) (same_integer (signed_size s (nat_abs x)) x && (half_off v (nat_abs x) && ltb (nat_abs x) (2 ^ 63))) t).0 in
     let number = both (same_integer (signed_size s (nat_abs x)) x) (half_off v (nat_abs x) && ltb (nat_abs x) (2 ^ 63)) (both (is_word n w && same (takum n w) (real (signed_size s v))) (same_integer (signed_size s (nat_abs x)) x && (half_off v (nat_abs x) && ltb (nat_abs x) (2 ^ 63))) t).1 in
     let near = both (half_off v (nat_abs x)) (ltb (nat_abs x) (2 ^ 63)) number.1 in
-    taken_one Taking.Nearest (real (signed_size s v)) a (Whole.Is x) (meaning_taken n Taking.Nearest w a (word_is n w word.0) y (real (signed_size s v)) (same_is (takum n w) (real (signed_size s v)) word.1))
-    (subst (λ (z : ℤ). IsTakenWhole Taking.Nearest (real (signed_size s v)) (Whole.Is z)) (same_integer_is (signed_size s (nat_abs x)) x number.0) (taken_inside Taking.Nearest (signed_size s v) (signed_size s (nat_abs x)) _ (nearest_whole s v (nat_abs x) (half_off_is v (nat_abs x) near.0)) (inside s (nat_abs x) (ltb→lt (nat_abs x) (2 ^ 63) near.1)) refl))
+    taken_one Taking.Nearest (real (signed_size s v)) a (Ok x) (meaning_taken n Taking.Nearest w a (word_is n w word.0) y (real (signed_size s v)) (same_is (takum n w) (real (signed_size s v)) word.1))
+    (subst (λ (z : ℤ). IsTakenWhole Taking.Nearest (real (signed_size s v)) (Ok z)) (same_integer_is (signed_size s (nat_abs x)) x number.0) (taken_inside Taking.Nearest (signed_size s v) (signed_size s (nat_abs x)) _ (nearest_whole s v (nat_abs x) (half_off_is v (nat_abs x) near.0)) (inside s (nat_abs x) (ltb→lt (nat_abs x) (2 ^ 63) near.1)) refl))
 
-within_holds : (x : ℤ) (n : ℕ) → zero < nat_abs x → T (within (nat_abs x) n) → (a : Made) → GivesShortest x a → a ≡ bits n
+within_holds : (x : ℤ) (n : ℕ) → zero < nat_abs x → T (within (nat_abs x) n) → (a : Answer Width) → GivesShortest x a → a ≡ bits n
 unfolding within
 within_holds x n some t = λ a y.
     let m = nat_abs x in
@@ -207,32 +208,32 @@ within_holds x n some t = λ a y.
     let v = both (eqb n (length_of m)) (leb (length_of m) 64) u.1 in
     is_width (length_of m) a (by_counting x a some (ltb→lt m (2 ^ 64) u.0) y) (leb→le (length_of m) 64 v.1) ∙ ap bits (sym (eqb→eq n (length_of m) v.0))
 
-needed_holds : (x : ℤ) (n : ℕ) → T (needed x n) → (a : Made) → GivesShortest x a → a ≡ bits n
+needed_holds : (x : ℤ) (n : ℕ) → T (needed x n) → (a : Answer Width) → GivesShortest x a → a ≡ bits n
 unfolding needed ZeroNeeds2
 needed_holds (pos zero) n t = λ a y. zero_needs_2 a y ∙ ap bits (sym (eqb→eq n 2 t))
 needed_holds (pos (suc i)) n t = within_holds (pos (suc i)) n (zero-lt-suc i) t
 needed_holds (negsuc i) n t = within_holds (negsuc i) n (zero-lt-suc i) t
 
-needed_more_holds : (x : ℤ) (number : ℕ) → T (needed_more x number) → (a : Made) → GivesShortest x a → RefusedAs Made Made.Refused number a
+needed_more_holds : (x : ℤ) (number : ℕ) → T (needed_more x number) → (a : Answer Width) → GivesShortest x a → RefusedAs (Answer Width) Err number a
 unfolding needed_more
 needed_more_holds x number t = λ a y.
     let m = nat_abs x in
     let u = both (ltb 0 m && ltb m (2 ^ 64)) (ltb 64 (length_of m) && eqb number 4) t in
     let inside = both (ltb 0 m) (ltb m (2 ^ 64)) u.0 in
     let past = both (ltb 64 (length_of m)) (eqb number 4) u.1 in
-    subst (λ (k : ℕ). RefusedAs Made Made.Refused k a) (sym (eqb→eq number 4 past.1))
+    subst (λ (k : ℕ). RefusedAs (Answer Width) Err k a) (sym (eqb→eq number 4 past.1))
     (is_refused (length_of m) a (by_counting x a (ltb→lt 0 m inside.0) (ltb→lt m (2 ^ 64) inside.1) y) (ltb→lt 64 (length_of m) past.0))
 
-kept_holds : (n w n' w' : ℕ) (s : Saying) → T (kept n w n' w' s) → (a : Written) → MovesAndSays n n' Rule.Rounded w a → a ≡ Written.Word w' s
+kept_holds : (n w n' w' : ℕ) (s : Saying) → T (kept n w n' w' s) → (a : Answer Written) → MovesAndSays n n' Rule.Rounded w a → a ≡ written w' s
 unfolding kept
 kept_holds n w n' w' s t a x =
     let u = both (is_word n w && is_word n' w') (same (takum n' w') (takum n w) && says_exact s) t in
     let words = both (is_word n w) (is_word n' w') u.0 in
     let exact = both (same (takum n' w') (takum n w)) (says_exact s) u.1 in
-    meaning_kept n n' Rule.Rounded w w' a (word_is n w words.0) (word_is n' w' words.1) (same_is (takum n' w') (takum n w) exact.0) x ∙ ap (Written.Word w') (sym (is_exact s (is_true (says_exact s) exact.1)))
+    meaning_kept n n' Rule.Rounded w w' a (word_is n w words.0) (word_is n' w' words.1) (same_is (takum n' w') (takum n w) exact.0) x ∙ ap (written w') (sym (is_exact s (is_true (says_exact s) exact.1)))
 
 -- a whole number is offered as the value is
-as_value : (n : ℕ) (rule : Rule) (M : ℕ) (a : Answer) → WritesWhole n rule (pos M) a → Writes n rule (whole M) a
+as_value : (n : ℕ) (rule : Rule) (M : ℕ) (a : Answer ℕ) → WritesWhole n rule (pos M) a → Writes n rule (whole M) a
 unfolding WritesWhole Writes whole is_negative num den
 as_value n rule M a x = x
 
@@ -250,14 +251,14 @@ holds (refuses n rule M number) ok = not_given_holds n rule M number (low_word n
 holds (writes_whole n rule M w) ok = λ a x. given_holds n rule M w ok a (as_value n rule M a x)
 holds (takes n rule w x) ok = taken_holds n rule w x ok
 holds (refuses_whole n rule M number) ok = λ a x. not_given_holds n rule M number (low_word n M) ok a (as_value n rule M a x)
-holds (says n v w s) ok = λ a x. writes_and_says_one n Rule.Rounded v a (Written.Word w s) x (answered_so n v.negative (numerator v) (denominator v) w s (unit_some (v.k +ℤ pos 307)).1 ok)
-holds (says_whole n x w s) ok = λ a y. writes_whole_and_says_one n Rule.Rounded x a (Written.Word w s) y (answered_so n (is_negative x) (scaled (nat_abs x)) 1 w s (zero-lt-suc 0) ok)
+holds (says n v w s) ok = λ a x. writes_and_says_one n Rule.Rounded v a (written w s) x (answered_so n v.negative (numerator v) (denominator v) w s (unit_some (v.k +ℤ pos 307)).1 ok)
+holds (says_whole n x w s) ok = λ a y. writes_whole_and_says_one n Rule.Rounded x a (written w s) y (answered_so n (is_negative x) (scaled (nat_abs x)) 1 w s (zero-lt-suc 0) ok)
 holds (needs x n) ok = needed_holds x n ok
 holds (needs_more x number) ok = needed_more_holds x number ok
 holds (refuses_blocks n number) ok = λ words buffer a x.
     let y = both (eqb n 8) (eqb number 13) ok in
-    subst (λ (k : ℕ). RefusedAs Writing Writing.Refused k a) (sym (eqb→eq number 13 y.1)) (is_retired n words buffer a (eqb→eq n 8 y.0) x)
-holds (moves n w n' w' s) ok = λ a x. ⊎_elim (λ t. moves_and_says_one n n' Rule.Rounded w a (Written.Word w' s) x (moved_so n w n' w' s t)) (λ t. kept_holds n w n' w' s t a x) (either (move_settled n w n' w' s) (kept n w n' w' s) ok)
+    subst (λ (k : ℕ). RefusedAs (ListAnswer ⊤) Err (ListRefusal.Whole k) a) (sym (eqb→eq number 13 y.1)) (is_retired n words buffer a (eqb→eq n 8 y.0) x)
+holds (moves n w n' w' s) ok = λ a x. ⊎_elim (λ t. moves_and_says_one n n' Rule.Rounded w a (written w' s) x (moved_so n w n' w' s t)) (λ t. kept_holds n w n' w' s t a x) (either (move_settled n w n' w' s) (kept n w n' w' s) ok)
 
 all_hold : (fs : List Figure) → T (all_pass fs) → AllHold fs
 unfolding all_pass AllHold

@@ -1,4 +1,5 @@
 -- How fine a reading is: what the bits before the fraction leave of the word, before and after zeros are appended. Assumes nothing.
+use Rattle.std.specs.Prelude.{Ok}
 use mathlib.Core.Path.{◌≡◌, refl, sym, ap, ◌∙◌, subst}
 use mathlib.Core.Logic.{⊎_elim}
 use Prim.Native.Nat.{ℕ, ◌+◌, ◌-◌, ◌*◌, ◌^◌, ◌≤◌, ◌<◌}
@@ -6,7 +7,6 @@ use native.Mathlib.Nat.{zero-mul}
 use native.Mathlib.Omega.{arith}
 use lib.IntN.{pos}
 use lib.Pow.{pow_pos}
-use Rattle.bounds.specs.declared.answer.Answer.{Answer}
 use Rattle.bounds.specs.Refusals.{IsWord}
 use Rattle.bounds.proofs.Powers.{pow_sum, shl_below}
 use Rattle.word.specs.declared.reading.Reading.{Reading}
@@ -78,16 +78,16 @@ module _ (n k w w' : ℕ) (a a' : Reading) (x : Widened n k w w' a a') where
   unfolding WiderNeverChangesNorRefuses
   kept = ⊎_elim wider narrower x.moved
     where
-      word_inj : {v w : ℕ} → Answer.Word v ≡ Answer.Word w → v ≡ w
+      word_inj : {v w : ℕ} → Ok v ≡ Ok w → v ≡ w
       word_inj q = cc
 
-      wider : (IsWord n w × (rule : Rule) × Moves n (n + k) rule w (Answer.Word w')) → IsWord n w × IsWord (n + k) w' × (takum (n + k) w' ≡ takum n w)
+      wider : (IsWord n w × (rule : Rule) × Moves n (n + k) rule w (Ok w')) → IsWord n w × IsWord (n + k) w' × (takum (n + k) w' ≡ takum n w)
       wider (i, rule, y) =
-          let t = wider_never_changes_nor_refuses n k w rule (Answer.Word w') x.room i y in
+          let t = wider_never_changes_nor_refuses n k w rule (Ok w') x.room i y in
           let appended = word_inj t.0 in
           (i, record { least = omega (arith, i.least); most = x.room; fits = subst (λ (v : ℕ). v < 2 ^ (n + k)) (sym appended) (shl_below n k (n + k) i.fits refl) }, ap (takum (n + k)) appended ∙ t.1)
 
-      narrower : Moves (n + k) n Rule.Strict w' (Answer.Word w) → IsWord n w × IsWord (n + k) w' × (takum (n + k) w' ≡ takum n w)
+      narrower : Moves (n + k) n Rule.Strict w' (Ok w) → IsWord n w × IsWord (n + k) w' × (takum (n + k) w' ≡ takum n w)
       narrower y = let t = strict_keeps (n + k) n w' w y in (t.to, t.from, sym t.same)
 
   word : IsWord n w

@@ -1,11 +1,13 @@
 -- What specs/Hub.antt promises, from the hub's contracts and the laws of rounding. Assumes nothing.
+use Rattle.std.specs.Prelude.{Ok, Err}
+use Rattle.bounds.specs.Refusals.{Answer}
+use Rattle.bounds.specs.Sayings.{written}
 use mathlib.Core.Path.{◌≡◌, refl, sym, ◌∙◌, subst, subst₂}
 use mathlib.Core.Bool.{Bool}
 use Prim.Native.Nat.{ℕ, ◌+◌, ◌*◌, ◌%◌, ◌^◌, ◌≤◌, ◌<◌}
 use native.Mathlib.Nat.{mul_comm}
 use native.Mathlib.Omega.{arith}
 use lib.IntN.{ℤ, pos, ◌+ℤ◌, ◌-ℤ◌}
-use Rattle.bounds.specs.declared.answer.Answer.{Answer}
 use Rattle.bounds.specs.Refusals.{through, refused}
 use Rattle.bounds.proofs.Verdicts.{width_fits, width_through, answered, refused_as}
 use Rattle.word.specs.Reads.{num}
@@ -36,7 +38,7 @@ the_word_that_is_found_is_the_nearest n negative h m below r lo hi full top fits
     set = omega (arith, full, top)
 
 -- what the contract says at a width from 2 to 64
-written : (n : ℕ) (rule : Rule) (v : LongValue) (r : Answer) → 2 ≤ n → n ≤ 64 → WritesLong n rule v r → IsWritten n rule v.negative (long_numerator v) (long_denominator v) r
+written : (n : ℕ) (rule : Rule) (v : LongValue) (r : Answer ℕ) → 2 ≤ n → n ≤ 64 → WritesLong n rule v r → IsWritten n rule v.negative (long_numerator v) (long_denominator v) r
 unfolding WritesLong WritesShort significand long_numerator long_denominator
 written n rule v r lo hi x = answered (width_fits n lo hi) x
 
@@ -48,17 +50,17 @@ pub a_long_value_is_rounded_to_the_nearest : promise.ALongValueIsRoundedToTheNea
 unfolding promise.ALongValueIsRoundedToTheNearest IsWritten
 a_long_value_is_rounded_to_the_nearest n v r lo hi x = by r (written n Rule.Rounded v r lo hi x)
   where
-    by : (r : Answer) → IsWritten n Rule.Rounded v.negative (long_numerator v) (long_denominator v) r → (w : ℕ) × (r ≡ Answer.Word w) × IsRounded n v.negative (long_numerator v) (long_denominator v) w
-    by (Answer.Word w) y = (w, refl, y)
-    by (Answer.Refused q) y = absurd y
+    by : (r : Answer ℕ) → IsWritten n Rule.Rounded v.negative (long_numerator v) (long_denominator v) r → (w : ℕ) × (r ≡ Ok w) × IsRounded n v.negative (long_numerator v) (long_denominator v) w
+    by (Ok w) y = (w, refl, y)
+    by (Err q) y = absurd y
 
 pub a_long_value_is_refused_exactly_where_there_is_no_word : promise.ALongValueIsRefusedExactlyWhereThereIsNoWord
 unfolding promise.ALongValueIsRefusedExactlyWhereThereIsNoWord IsWritten
 a_long_value_is_refused_exactly_where_there_is_no_word n v r lo hi x =
-    given_or_inexact (IsExact n v.negative (long_numerator v) (long_denominator v)) r (λ w q. written n Rule.Strict v (Answer.Word w) lo hi (subst (WritesLong n Rule.Strict v) q x)) (past Answer.Refused r 1 _ _ (good_width n (lo, hi)) (write_long_follows n Rule.Strict v r x))
+    given_or_inexact (IsExact n v.negative (long_numerator v) (long_denominator v)) r (λ w q. written n Rule.Strict v (Ok w) lo hi (subst (WritesLong n Rule.Strict v) q x)) (past Err r 1 _ _ (good_width n (lo, hi)) (write_long_follows n Rule.Strict v r x))
 
 -- what is written for a fraction is written for every fraction that equals it
-pub equal_fraction : (n : ℕ) (rule : Rule) (s : Bool) (a b c d : ℕ) (r : Answer) → 0 < b → 0 < d → a * d ≡ c * b → IsWritten n rule s a b r → IsWritten n rule s c d r
+pub equal_fraction : (n : ℕ) (rule : Rule) (s : Bool) (a b c d : ℕ) (r : Answer ℕ) → 0 < b → 0 < d → a * d ≡ c * b → IsWritten n rule s a b r → IsWritten n rule s c d r
 equal_fraction n rule s a b c d r some_b some_d q x =
     written_reduced n s c d b some_b rule r (subst₂ (λ (x y : ℕ). IsWritten n rule s x y r) q (mul_comm b d) (written_times n s a b d some_d rule r x))
 
@@ -71,7 +73,7 @@ how_a_value_is_split_changes_no_answer n rule u v a b s q (through h x) y =
 how_a_value_is_split_changes_no_answer n rule u v a b s q (refused h x) y = x ∙ sym (refused_as _ h y)
 
 -- a long value whose upper number is 0 has the lower one for its significand
-lower_alone : (n : ℕ) (rule : Rule) (negative : Bool) (m : ℕ) (k : ℤ) (r : Answer) → WritesLong n rule (record { negative = negative; high = 0; low = m; k = k }) r → WritesShort n rule negative m k r
+lower_alone : (n : ℕ) (rule : Rule) (negative : Bool) (m : ℕ) (k : ℤ) (r : Answer ℕ) → WritesLong n rule (record { negative = negative; high = 0; low = m; k = k }) r → WritesShort n rule negative m k r
 unfolding WritesLong
 lower_alone n rule negative m k r x = subst (λ (y : ℕ). WritesShort n rule negative y k r) alone x
   where
@@ -97,7 +99,7 @@ unfolding promise.JammingChangesNoAnswer long_numerator long_denominator
 jamming_changes_no_answer n rule v x a b r lo hi full top some between q y =
     let exact = between_written n lo hi 63 x v.k full top rule v.negative in
     let cut = subst (λ (z : ℕ). IsWritten n rule v.negative (z * num (v.k +ℤ pos 307)) (long_denominator v) r) q (written n rule v r lo hi y) in
-    let same : (r' : Answer) → IsWritten n rule v.negative a b r' → r' ≡ r = λ r' z. jamming n lo hi rule v.negative x v.k a b r' r full top some between z cut in
+    let same : (r' : Answer ℕ) → IsWritten n rule v.negative a b r' → r' ≡ r = λ r' z. jamming n lo hi rule v.negative x v.k a b r' r full top some between z cut in
     (subst (IsWritten n rule v.negative a b) (same exact.0 (exact.1 a b some between)) (exact.1 a b some between), same)
 
 pub two_bits_under_sixty_four_are_enough : promise.TwoBitsUnderSixtyFourAreEnough

@@ -1,3 +1,6 @@
+use Rattle.bounds.specs.Refusals.{ListAnswer}
+use Rattle.std.specs.Prelude.{⊤}
+use Rattle.bounds.specs.Sayings.{written}
 -- The promises, proved from what the other crates make public, in reading order.
 
 -- ---- demand 1
@@ -22,7 +25,7 @@ pub mod Demands
 -- what paper 01 says of every word
 pub mod Words
 -- writing and moves
-pub mod Writing
+pub mod (ListAnswer ⊤)
 -- how fine a reading is
 pub mod Fineness
 -- whatever is written through the hub

@@ -1,13 +1,13 @@
 -- How an answer follows the lines of the table: the tests of a contract, taken apart in their order. Assumes nothing.
+use Rattle.std.specs.Prelude.{Ok, Err}
+use Rattle.bounds.specs.Refusals.{passed, Answer}
 use mathlib.Core.Path.{◌≡◌, refl, ap, ◌∙◌}
 use mathlib.Core.List.{List, [], ◌∷◌}
 use mathlib.Core.Logic.{◌⊎◌, inl, inr, ⊎_elim}
 use Prim.Native.Nat.{ℕ, ◌^◌, ◌≤◌, ◌<◌}
 use native.Mathlib.Decide.{dec_lt}
 use native.Mathlib.Omega.{arith}
-use Rattle.bounds.specs.declared.answer.Answer.{Answer}
 use Rattle.bounds.specs.declared.refusal.Refusal.{Refusal}
-use Rattle.bounds.specs.declared.refusal.Verdict.{Verdict}
 use Rattle.bounds.specs.Refusals.{number_of, width_test, stray_test, ◌then◌, Decided, through, refused}
 use Rattle.bounds.proofs.Powers.{not_more}
 use Rattle.bounds.proofs.Verdicts.{width_fits, width_short, width_long, stray_fits, stray_bit, answered, refused_as}
@@ -18,8 +18,8 @@ use Rattle.promises.specs.Refusals.{Line, line, FollowsUpTo, Follows, no_word}
 
 -- ---- the test of a line: it refuses so where the line holds, and lets through where it doesn't
 pub data Tells (v : Verdict) (q : Refusal) (When : Type 0) : Type 0 where
-  holds : v ≡ Verdict.Refused q → When → Tells v q When
-  fails : v ≡ Verdict.Through → (When → ⊥) → Tells v q When
+  holds : v ≡ Err q → When → Tells v q When
+  fails : v ≡ passed → (When → ⊥) → Tells v q When
 
 pub width_tells : (n : ℕ) → Tells (width_test n) Refusal.Width ((n < 2) ⊎ (64 < n))
 width_tells n = by (dec_lt n 2) (dec_lt 64 n)
@@ -38,19 +38,19 @@ stray_tells n w = by (dec_lt w (2 ^ n))
 
 -- ---- a contract with tests in a row, taken apart
 pub parts : {v u : Verdict} {P : Refusal → Type 0} {Q : Type 0} → Decided (v then u) P Q → Decided v P (Decided u P Q)
-parts {v = Verdict.Through} x = through refl x
-parts {v = Verdict.Refused q} (through h x) = let z : ◌≡◌ {A = ℕ} 0 1 = cc in absurd (omega arith)
-parts {v = Verdict.Refused q} (refused h x) = refused h x
+parts {v = passed} x = through refl x
+parts {v = Err q} (through h x) = let z : ◌≡◌ {A = ℕ} 0 1 = cc in absurd (omega arith)
+parts {v = Err q} (refused h x) = refused h x
 
 -- one line, and what comes after it
-pub follow : {A : Type 0} {R : Refusal → A} {a : A} {v : Verdict} {When Q Rest : Type 0} (q : Refusal) → Tells v q When → Decided v (λ p. a ≡ R p) Q → (v ≡ Verdict.Through → Q → Rest) → (When × RefusedAs A R (number_of q) a) ⊎ ((When → ⊥) × Rest)
+pub follow : {A : Type 0} {R : Refusal → A} {a : A} {v : Verdict} {When Q Rest : Type 0} (q : Refusal) → Tells v q When → Decided v (λ p. a ≡ R p) Q → (v ≡ passed → Q → Rest) → (When × RefusedAs A R (number_of q) a) ⊎ ((When → ⊥) × Rest)
 follow q (holds e w) x f = inl (w, record { q = q; is = refused_as q e x; known = refl })
 follow q (fails e n) x f = inr (n, f e (answered e x))
 
 -- a call that answers with the verdict itself
-pub verdict_decided : {v a : Verdict} → a ≡ v → Decided v (λ q. a ≡ Verdict.Refused q) (a ≡ Verdict.Through)
-verdict_decided {v = Verdict.Through} x = through refl x
-verdict_decided {v = Verdict.Refused q} x = refused refl x
+pub verdict_decided : {v a : Verdict} → a ≡ v → Decided v (λ q. a ≡ Err q) (a ≡ passed)
+verdict_decided {v = passed} x = through refl x
+verdict_decided {v = Err q} x = refused refl x
 
 -- a condition said otherwise
 pub retold : {v : Verdict} {q : Refusal} {C D : Type 0} → (C → D) → (D → C) → Tells v q C → Tells v q D
@@ -79,7 +79,7 @@ none_hold R R' a b (line number When ∷ lines) P p none (inl (h, x)) = absurd (
 none_hold R R' a b (line number When ∷ lines) P p none (inr (h, x)) = inr (h, none_hold R R' a b lines P p none x)
 
 -- a refusal that is handed on: the line that gave it holds
-pub handed_on : {A : Type 0} (R : Refusal → A) (q : Refusal) (lines : List Line) (P : Type 0) → Follows Answer.Refused (Answer.Refused q) lines → FollowsUpTo R (R q) lines P
+pub handed_on : {A : Type 0} (R : Refusal → A) (q : Refusal) (lines : List Line) (P : Type 0) → Follows Err (Err q) lines → FollowsUpTo R (R q) lines P
 unfolding Follows FollowsUpTo
 handed_on R q [] P x = absurd (x q refl)
 handed_on R q (line number When ∷ lines) P (inl (h, x)) = inl (h, record { q = q; is = refl; known = let e = x.is in let same : q ≡ x.q = cc in ap number_of same ∙ x.known })
@@ -96,8 +96,8 @@ good_width n t (inl h) = omega (arith, h, t.0)
 good_width n t (inr h) = omega (arith, h, t.1)
 
 -- where the last line is left, an answer is given or is INEXACT
-pub given_or_inexact : (HasIt : ℕ → Type 0) (r : Answer) → ((w : ℕ) → r ≡ Answer.Word w → HasIt w) → Follows Answer.Refused r (no_word Rule.Strict HasIt ∷ []) → GivenOrInexact HasIt r
+pub given_or_inexact : (HasIt : ℕ → Type 0) (r : Answer ℕ) → ((w : ℕ) → r ≡ Ok w → HasIt w) → Follows Err r (no_word Rule.Strict HasIt ∷ []) → GivenOrInexact HasIt r
 unfolding Follows FollowsUpTo GivenOrInexact
-given_or_inexact HasIt (Answer.Word w) f x = inl (w, refl, f w refl)
-given_or_inexact HasIt (Answer.Refused q) f (inl x) = inr (x.1, x.0.1)
-given_or_inexact HasIt (Answer.Refused q) f (inr x) = absurd (x.1 q refl)
+given_or_inexact HasIt (Ok w) f x = inl (w, refl, f w refl)
+given_or_inexact HasIt (Err q) f (inl x) = inr (x.1, x.0.1)
+given_or_inexact HasIt (Err q) f (inr x) = absurd (x.1 q refl)

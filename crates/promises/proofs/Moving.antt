@@ -1,5 +1,8 @@
 -- The laws of moving that specs/Moving.antt states: a move hangs on what the word means, keeps order and sign, and a wider one keeps the meaning.
 -- Assumes nothing.
+use Rattle.std.specs.Prelude.{Ok, Err}
+use Rattle.bounds.specs.Refusals.{Answer}
+use Rattle.std.specs.Ordering.{Ordering}
 use mathlib.Core.Path.{◌≡◌, refl, sym, ap, ap₂, ◌∙◌, subst, subst₂}
 use mathlib.Core.Logic.{◌⊎◌, inl, inr, ⊎_elim}
 use mathlib.Core.Bool.{Bool, true, false, cond}
@@ -8,7 +11,6 @@ use native.Mathlib.Nat.{mul-one, zero-lt-suc}
 use native.Mathlib.Omega.{arith}
 use lib.IntN.{ℤ, pos, negsuc, neg_ℤ, nat_abs, pos-ne-negsuc}
 use lib.Signed.{lt_z}
-use Rattle.bounds.specs.declared.answer.Answer.{Answer}
 use Rattle.bounds.specs.declared.answer.Written.{Written}
 use Rattle.bounds.specs.declared.saying.Saying.TheVariants.{Exact, Below, Above}
 use Rattle.bounds.specs.Refusals.{IsWord, through, refused}
@@ -22,7 +24,6 @@ use Rattle.word.specs.Reads.{signed_size}
 use Rattle.word.specs.Orders.{signed, order, negated}
 use Rattle.word.proofs.Words.{takum_NaR, takum_zero, zeros_appended}
 use Rattle.word.proofs.Values.{NaR_word, NaR_below, above_NaR, order_same, order_exchanged, order_of_values}
-use Rattle.order.specs.declared.order.Comparison.{Comparison}
 use Rattle.order.specs.Orders.{Compares, Negates}
 use Rattle.round.specs.declared.value.Rule.{Rule}
 use Rattle.round.specs.Writes.{zero, other, IsWritten}
@@ -57,28 +58,28 @@ widened n n' w wide top i = subst (λ (m : ℕ). m ≤ 64 → (w' : ℕ) × IsWo
 
 -- ---- out and back
 -- a word of b bits, on to c by either rule: it is a word of c bits with the same meaning, and no refusal
-on_to : (b c u : ℕ) (rule : Rule) (r : Answer) → b ≤ c → c ≤ 64 → IsWord b u → Moves b c rule u r → (v : ℕ) × (r ≡ Answer.Word v) × IsWord c v × (takum c v ≡ takum b u)
+on_to : (b c u : ℕ) (rule : Rule) (r : Answer ℕ) → b ≤ c → c ≤ 64 → IsWord b u → Moves b c rule u r → (v : ℕ) × (r ≡ Ok v) × IsWord c v × (takum c v ≡ takum b u)
 on_to b c u rule r wide top i m = let t = widened b c u wide top i in (t.0, moved_to_the_same b c u t.0 rule r i t.1 t.2 m, t.1, t.2)
 
 pub the_way_back_is_exact : promise.TheWayBackIsExact
 unfolding promise.TheWayBackIsExact word_of
 the_way_back_is_exact a b c w u v rule r wide top m m' back =
     let i = (moved_words a b Rule.Rounded w u m).1 in
-    let t = on_to b c u rule (Answer.Word v) wide top i m' in
+    let t = on_to b c u rule (Ok v) wide top i m' in
     meaning_kept c b Rule.Rounded t.0 u r t.2 i (sym t.3) (subst (λ (v : ℕ). MovesAndSays c b Rule.Rounded v r) (ap word_of t.1) back)
 
 pub out_and_back_is_the_first_move : promise.OutAndBackIsTheFirstMove
 unfolding promise.OutAndBackIsTheFirstMove GoesOutAndBack word_of
 out_and_back_is_the_first_move a b c w rule r wide top (stops q m e) = subst (Moves a b Rule.Rounded w) (sym e) m
 out_and_back_is_the_first_move a b c w rule r wide top (goes_on u m (stops q m' e)) =
-    let t = on_to b c u rule (Answer.Refused q) wide top (moved_words a b Rule.Rounded w u m).1 m' in
-    absurd (word_none t.0 (Answer.Refused q) t.1 q refl)
+    let t = on_to b c u rule (Err q) wide top (moved_words a b Rule.Rounded w u m).1 m' in
+    absurd (word_none t.0 (Err q) t.1 q refl)
 out_and_back_is_the_first_move a b c w rule r wide top (goes_on u m (goes_on v m' back)) =
     let i = (moved_words a b Rule.Rounded w u m).1 in
-    let t = on_to b c u rule (Answer.Word v) wide top i m' in
+    let t = on_to b c u rule (Ok v) wide top i m' in
     subst (Moves a b Rule.Rounded w) (sym (moved_to_the_same c b t.0 u Rule.Rounded r t.2 i (sym t.3) (subst (λ (v : ℕ). Moves c b Rule.Rounded v r) (ap word_of t.1) back))) m
 
-pub goes_out_and_back : (a b c w : ℕ) (r : Answer) → GoesOutAndBack a b c Rule.Rounded w r → OutAndBack a b c w r
+pub goes_out_and_back : (a b c w : ℕ) (r : Answer ℕ) → GoesOutAndBack a b c Rule.Rounded w r → OutAndBack a b c w r
 unfolding promise.OutAndBackIsTheFirstMove
 goes_out_and_back a b c w r x = record { goes = x; first = λ wide top. out_and_back_is_the_first_move a b c w Rule.Rounded r wide top x }
 
@@ -86,19 +87,19 @@ goes_out_and_back a b c w r x = record { goes = x; first = λ wide top. out_and_
 pub the_negation_moves_to_the_negation : promise.TheNegationMovesToTheNegation
 unfolding promise.TheNegationMovesToTheNegation GoesNegated Negates sayings.NegatingExchangesBelowAndAbove IsFit Gives opposite MovesAndSays word_of
 the_negation_moves_to_the_negation a b w u s r x (stops q n e) =
-    absurd (word_none (negated a w) (Answer.Refused q) (answered (word_passes a w (moved_words a b Rule.Rounded w u x.answers).0) n) q refl)
+    absurd (word_none (negated a w) (Err q) (answered (word_passes a w (moved_words a b Rule.Rounded w u x.answers).0) n) q refl)
 the_negation_moves_to_the_negation a b w u s r x (goes_on o n y) =
     let t = moved_words a b Rule.Rounded w u x.answers in
     let same = ap word_of (answered (word_passes a w t.0) n) in
     negating_exchanges_below_and_above b (word a w) u s r t.0 t.1.least t.1.most x (subst (λ (o : ℕ). MovesAndSays a b Rule.Rounded o r) same y)
 
-pub goes_negated : (a b w : ℕ) (r : Written) → GoesNegated a b w r → MovesNegated a b w r
+pub goes_negated : (a b w : ℕ) (r : Answer Written) → GoesNegated a b w r → MovesNegated a b w r
 unfolding promise.TheNegationMovesToTheNegation
 goes_negated a b w r x = record { goes = x; negates = λ u s y. the_negation_moves_to_the_negation a b w u s r y x }
 
 -- ---- order
 -- what a rounded move gives, of what the word means
-moved_meaning : (a b x u : ℕ) → Moves a b Rule.Rounded x (Answer.Word u) → IsMoved b Rule.Rounded (takum a x) (Answer.Word u)
+moved_meaning : (a b x u : ℕ) → Moves a b Rule.Rounded x (Ok u) → IsMoved b Rule.Rounded (takum a x) (Ok u)
 unfolding Moves
 moved_meaning a b x u m = let t = moved_words a b Rule.Rounded x u m in answered (move_passes a b x t.0 t.1.least t.1.most) m
 
@@ -112,7 +113,7 @@ NaR_least n x y i j q = by (takum n y) refl
     by NaR e h = omega (arith, ap nat_abs (sym h ∙ ap (λ (v : ℕ). order (signed n x) (signed n v)) (NaR_word n y j e ∙ sym (NaR_word n x i q)) ∙ order_same (signed n x)))
 
 -- a word that isn't greater is moved to a word that isn't greater
-still_not_greater : (a b x y u v : ℕ) → Moves a b Rule.Rounded x (Answer.Word u) → Moves a b Rule.Rounded y (Answer.Word v) → NotGreater (signed a x) (signed a y) → NotGreater (signed b u) (signed b v)
+still_not_greater : (a b x y u v : ℕ) → Moves a b Rule.Rounded x (Ok u) → Moves a b Rule.Rounded y (Ok v) → NotGreater (signed a x) (signed a y) → NotGreater (signed b u) (signed b v)
 unfolding IsMoved IsWritten nar_word word_of
 still_not_greater a b x y u v m m' h = by (takum a x) refl (takum a y) refl (moved_meaning a b x u m) (moved_meaning a b y v m')
   where
@@ -122,7 +123,7 @@ still_not_greater a b x y u v m m' h = by (takum a x) refl (takum a y) refl (mov
     from_y : IsWord a y × IsWord b v
     from_y = moved_words a b Rule.Rounded y v m'
 
-    by : (s : Takum) → takum a x ≡ s → (t : Takum) → takum a y ≡ t → IsMoved b Rule.Rounded s (Answer.Word u) → IsMoved b Rule.Rounded t (Answer.Word v) → NotGreater (signed b u) (signed b v)
+    by : (s : Takum) → takum a x ≡ s → (t : Takum) → takum a y ≡ t → IsMoved b Rule.Rounded s (Ok u) → IsMoved b Rule.Rounded t (Ok v) → NotGreater (signed b u) (signed b v)
     by (real z) p (real z') q k l =
         rounding_keeps_order b from_x.1.least from_x.1.most (is_negative z) (is_negative z') (nat_abs z) 1 (nat_abs z') 1 u v (zero-lt-suc 0) (zero-lt-suc 0) k l
         (λ e. h (order_of_values a x y from_x.0 from_y.0 z z' p q ∙ sym (ap₂ order (whole z) (whole z')) ∙ e))
@@ -168,7 +169,7 @@ moving_never_reverses_the_order a b x y before after p (goes_on u m (goes_on v m
     (not_reversed (signed a x) (signed a y) (signed b u) (signed b v) (still_not_greater a b x y u v m m') (still_not_greater a b y x v u m' m))
 
 -- what has a value is moved to a word that has one
-moved_real : (b : ℕ) (z : ℤ) (v : ℕ) → IsMoved b Rule.Rounded (real z) (Answer.Word v) → (z' : ℤ) × (takum b v ≡ real z')
+moved_real : (b : ℕ) (z : ℤ) (v : ℕ) → IsMoved b Rule.Rounded (real z) (Ok v) → (z' : ℤ) × (takum b v ≡ real z')
 unfolding IsMoved IsWritten
 moved_real b z v (zero e e') = (pos 0, ap (takum b) e' ∙ takum_zero b)
 moved_real b z v (other h x) = (_, x.is.means)
@@ -179,17 +180,17 @@ NaR_stays_below_every_other_word a b x y z after p p' (stops q m e) = let z : �
 NaR_stays_below_every_other_word a b x y z after p p' (goes_on u m (stops q m' e)) = let z : ◌≡◌ {A = ℕ} 0 1 = cc in absurd (omega arith)
 NaR_stays_below_every_other_word a b x y z after p p' (goes_on u m (goes_on v m' q)) =
     let t = answered_order b u v after q in
-    let nar = takum_NaR b u t.0.least t.0.most (ap word_of (subst (λ (s : Takum). IsMoved b Rule.Rounded s (Answer.Word u)) p (moved_meaning a b x u m))) in
-    let k = moved_real b z v (subst (λ (s : Takum). IsMoved b Rule.Rounded s (Answer.Word v)) p' (moved_meaning a b y v m')) in
+    let nar = takum_NaR b u t.0.least t.0.most (ap word_of (subst (λ (s : Takum). IsMoved b Rule.Rounded s (Ok u)) p (moved_meaning a b x u m))) in
+    let k = moved_real b z v (subst (λ (s : Takum). IsMoved b Rule.Rounded s (Ok v)) p' (moved_meaning a b y v m')) in
     sym t.2 ∙ NaR_below b u v t.0 t.1 k.0 nar k.1
 
-pub goes_compared : (a b x y : ℕ) (r : Comparison) → GoesCompared a b x y r → ComparesMoved a b x y r
+pub goes_compared : (a b x y : ℕ) (r : Answer Ordering) → GoesCompared a b x y r → ComparesMoved a b x y r
 unfolding promise.MovingNeverReversesTheOrder
 goes_compared a b x y r g = record { goes = g; not_reversed = λ before after p e. moving_never_reverses_the_order a b x y before after p (subst (GoesCompared a b x y) e g) }
 
 -- ---- a middle width
 -- words of one meaning are moved alike
-moved_alike : (a b c w u : ℕ) (r r' : Written) → IsWord a w → IsWord b u → takum b u ≡ takum a w → MovesAndSays b c Rule.Rounded u r → MovesAndSays a c Rule.Rounded w r' → r ≡ r'
+moved_alike : (a b c w u : ℕ) (r r' : Answer Written) → IsWord a w → IsWord b u → takum b u ≡ takum a w → MovesAndSays b c Rule.Rounded u r → MovesAndSays a c Rule.Rounded w r' → r ≡ r'
 unfolding MovesAndSays Moves
 moved_alike a b c w u r r' i j same x y = moves_and_says_one a c Rule.Rounded w r r' (record { answers = by x.answers; says = λ v s e. subst (λ (t : Takum). SaysMoved c t v s) same (x.says v s e) }) y
   where
@@ -198,11 +199,11 @@ moved_alike a b c w u r r' i j same x y = moves_and_says_one a c Rule.Rounded w 
     by (refused h e) = refused (target_tested a c w i ∙ sym (target_tested b c u j) ∙ h) e
 
 -- by way of b, where a word there means what the word means
-by_the_same : (a b c w u : ℕ) (r r' : Written) → IsWord a w → IsWord b u → takum b u ≡ takum a w → GoesBy a b c w r → MovesAndSays a c Rule.Rounded w r' → r ≡ r'
+by_the_same : (a b c w u : ℕ) (r r' : Answer Written) → IsWord a w → IsWord b u → takum b u ≡ takum a w → GoesBy a b c w r → MovesAndSays a c Rule.Rounded w r' → r ≡ r'
 unfolding GoesBy word_of
-by_the_same a b c w u r r' i j same (stops q m e) x = absurd (word_none u (Answer.Refused q) (moved_to_the_same a b w u Rule.Rounded (Answer.Refused q) i j same m) q refl)
+by_the_same a b c w u r r' i j same (stops q m e) x = absurd (word_none u (Err q) (moved_to_the_same a b w u Rule.Rounded (Err q) i j same m) q refl)
 by_the_same a b c w u r r' i j same (goes_on v m y) x =
-    moved_alike a b c w u r r' i j same (subst (λ (v : ℕ). MovesAndSays b c Rule.Rounded v r) (ap word_of (moved_to_the_same a b w u Rule.Rounded (Answer.Word v) i j same m)) y) x
+    moved_alike a b c w u r r' i j same (subst (λ (v : ℕ). MovesAndSays b c Rule.Rounded v r) (ap word_of (moved_to_the_same a b w u Rule.Rounded (Ok v) i j same m)) y) x
 
 pub an_exact_middle_changes_nothing : promise.AnExactMiddleChangesNothing
 unfolding promise.AnExactMiddleChangesNothing sayings.AMoveIsExactWhereTheMeaningStays MovesAndSays

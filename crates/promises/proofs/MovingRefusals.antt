@@ -1,11 +1,13 @@
 -- The refusals of the laws of moving, as functions, follow the table: what one call gives is a word for the next, which can refuse only what is new to it, a
 -- width or the second word. Assumes nothing.
+use Rattle.std.specs.Prelude.{Ok, Err}
+use Rattle.bounds.specs.Refusals.{Answer}
+use Rattle.std.specs.Ordering.{Ordering}
 use mathlib.Core.Path.{◌≡◌, sym, ap, subst}
 use mathlib.Core.List.{[], ◌∷◌}
 use mathlib.Core.Logic.{◌⊎◌}
 use Prim.Native.Nat.{ℕ, ◌^◌, ◌≤◌, ◌<◌}
 use native.Mathlib.Omega.{arith}
-use Rattle.bounds.specs.declared.answer.Answer.{Answer}
 use Rattle.bounds.specs.declared.answer.Written.{Written}
 use Rattle.bounds.specs.Refusals.{IsWord, through, refused}
 use Rattle.bounds.specs.Sayings.{plain}
@@ -13,7 +15,6 @@ use Rattle.bounds.proofs.Answers.{word_of, plain_refused}
 use Rattle.bounds.proofs.Verdicts.{word_through}
 use Rattle.word.specs.Orders.{negated}
 use Rattle.word.proofs.Values.{negated_word}
-use Rattle.order.specs.declared.order.Comparison.{Comparison}
 use Rattle.order.specs.Orders.{Negates}
 use Rattle.round.specs.declared.value.Rule.{Rule}
 use Rattle.write.specs.Writes.{Moves}
@@ -33,39 +34,39 @@ no_width : (n w : ℕ) → IsWord n w → (n < 2) ⊎ (64 < n) → ⊥
 no_width n w i = good_width n (i.least, i.most)
 
 -- a rounded move has no line of INEXACT
-rounded_follows : (a b w : ℕ) (r : Answer) → Moves a b Rule.Rounded w r → Follows Answer.Refused r (width a ∷ width b ∷ stray a w ∷ [])
+rounded_follows : (a b w : ℕ) (r : Answer ℕ) → Moves a b Rule.Rounded w r → Follows Err r (width a ∷ width b ∷ stray a w ∷ [])
 unfolding Follows FollowsUpTo move_lines
-rounded_follows a b w r x = so_too Answer.Refused r (width a ∷ width b ∷ stray a w ∷ []) _ _ (past Answer.Refused r 4 _ [] (λ h. rounded_strict h.0)) (move_follows a b Rule.Rounded w r x)
+rounded_follows a b w r x = so_too Err r (width a ∷ width b ∷ stray a w ∷ []) _ _ (past Err r 4 _ [] (λ h. rounded_strict h.0)) (move_follows a b Rule.Rounded w r x)
 
 -- and of a word it can refuse only the target's width
-only_width : (a b w : ℕ) (r : Answer) → IsWord a w → Moves a b Rule.Rounded w r → Follows Answer.Refused r (width b ∷ [])
+only_width : (a b w : ℕ) (r : Answer ℕ) → IsWord a w → Moves a b Rule.Rounded w r → Follows Err r (width b ∷ [])
 unfolding Follows FollowsUpTo
-only_width a b w r i x = so_too Answer.Refused r (width b ∷ []) _ _ (past Answer.Refused r 2 _ [] (no_stray a w i)) (past Answer.Refused r 1 _ (width b ∷ stray a w ∷ []) (no_width a w i) (rounded_follows a b w r x))
+only_width a b w r i x = so_too Err r (width b ∷ []) _ _ (past Err r 2 _ [] (no_stray a w i)) (past Err r 1 _ (width b ∷ stray a w ∷ []) (no_width a w i) (rounded_follows a b w r x))
 
 -- what negation gives is a word
-opposite_word : (n w o : ℕ) → Negates n w (Answer.Word o) → IsWord n o
+opposite_word : (n w o : ℕ) → Negates n w (Ok o) → IsWord n o
 unfolding Negates word_of
 opposite_word n w o (through h e) = subst (IsWord n) (sym (ap word_of e)) (negated_word n w (word_through n w h))
 opposite_word n w o (refused h e) = let z : ◌≡◌ {A = ℕ} 0 1 = cc in absurd (omega arith)
 
 -- ---- the three functions
-pub out_and_back_follows : (a b c w : ℕ) (r : Answer) → GoesOutAndBack a b c Rule.Rounded w r → Follows Answer.Refused r (width a ∷ width b ∷ stray a w ∷ width c ∷ [])
+pub out_and_back_follows : (a b c w : ℕ) (r : Answer ℕ) → GoesOutAndBack a b c Rule.Rounded w r → Follows Err r (width a ∷ width b ∷ stray a w ∷ width c ∷ [])
 unfolding GoesOutAndBack Follows FollowsUpTo
-out_and_back_follows a b c w r = after_the_first Answer.Refused _ _ (width a ∷ width b ∷ stray a w ∷ []) _ r (rounded_follows a b w) (λ u m.
+out_and_back_follows a b c w r = after_the_first Err _ _ (width a ∷ width b ∷ stray a w ∷ []) _ r (rounded_follows a b w) (λ u m.
     let i = (moved_words a b Rule.Rounded w u m).1 in
-    after_the_first Answer.Refused _ _ (width c ∷ []) _ r (λ x. only_width b c u x i) (λ v m' back. past Answer.Refused r 1 _ [] (no_width b u i) (only_width c b v r (moved_words b c Rule.Rounded u v m').1 back)))
+    after_the_first Err _ _ (width c ∷ []) _ r (λ x. only_width b c u x i) (λ v m' back. past Err r 1 _ [] (no_width b u i) (only_width c b v r (moved_words b c Rule.Rounded u v m').1 back)))
 
-pub move_negated_follows : (a b w : ℕ) (r : Written) → GoesNegated a b w r → Follows Written.Refused r (width a ∷ stray a w ∷ width b ∷ [])
+pub move_negated_follows : (a b w : ℕ) (r : Answer Written) → GoesNegated a b w r → Follows Err r (width a ∷ stray a w ∷ width b ∷ [])
 unfolding GoesNegated Negates MovesAndSays Follows FollowsUpTo
-move_negated_follows a b w r = after_the_first Written.Refused _ _ (width a ∷ stray a w ∷ []) _ r (λ x. of_word a w (word_none (negated a w) x)) (λ o n y.
-    carry Answer.Refused Written.Refused (plain r) r (width b ∷ []) (plain_refused r) (λ q. ap plain) (only_width a b o (plain r) (opposite_word a w o n) y.answers))
+move_negated_follows a b w r = after_the_first Err _ _ (width a ∷ stray a w ∷ []) _ r (λ x. of_word a w (word_none (negated a w) x)) (λ o n y.
+    carry Err Err (plain r) r (width b ∷ []) (plain_refused r) (λ q. ap plain) (only_width a b o (plain r) (opposite_word a w o n) y.answers))
 
-pub compare_moved_follows : (a b x y : ℕ) (r : Comparison) → GoesCompared a b x y r → Follows Comparison.Refused r (width a ∷ width b ∷ stray a x ∷ stray a y ∷ [])
+pub compare_moved_follows : (a b x y : ℕ) (r : Answer Ordering) → GoesCompared a b x y r → Follows Err r (width a ∷ width b ∷ stray a x ∷ stray a y ∷ [])
 unfolding GoesCompared Follows FollowsUpTo
-compare_moved_follows a b x y r = after_the_first Comparison.Refused _ _ (width a ∷ width b ∷ stray a x ∷ []) _ r (rounded_follows a b x) (λ u m.
+compare_moved_follows a b x y r = after_the_first Err _ _ (width a ∷ width b ∷ stray a x ∷ []) _ r (rounded_follows a b x) (λ u m.
     let i = moved_words a b Rule.Rounded x u m in
-    after_the_first Comparison.Refused _ _ (stray a y ∷ []) _ r
-    (λ z n. past Answer.Refused z 1 _ (stray a y ∷ []) (no_width b u i.1) (past Answer.Refused z 1 _ (width b ∷ stray a y ∷ []) (no_width a x i.0) (rounded_follows a b y z n)))
+    after_the_first Err _ _ (stray a y ∷ []) _ r
+    (λ z n. past Err z 1 _ (stray a y ∷ []) (no_width b u i.1) (past Err z 1 _ (width b ∷ stray a y ∷ []) (no_width a x i.0) (rounded_follows a b y z n)))
     (λ v m' c.
     let j = (moved_words a b Rule.Rounded y v m').1 in
-    past Comparison.Refused r 2 _ [] (no_stray b v j) (past Comparison.Refused r 2 _ (stray b v ∷ []) (no_stray b u i.1) (past Comparison.Refused r 1 _ (stray b u ∷ stray b v ∷ []) (no_width b u i.1) (compare_follows b u v r c)))))
+    past Err r 2 _ [] (no_stray b v j) (past Err r 2 _ (stray b v ∷ []) (no_stray b u i.1) (past Err r 1 _ (stray b u ∷ stray b v ∷ []) (no_width b u i.1) (compare_follows b u v r c)))))

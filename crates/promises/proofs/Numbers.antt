@@ -1,4 +1,7 @@
 -- The promises that specs/Numbers.antt states, from the laws of whole numbers and of binary64. Assumes nothing.
+use Rattle.std.specs.Prelude.{Ok, Err}
+use Rattle.bounds.specs.Refusals.{passed, Answer}
+use Rattle.bounds.specs.Sayings.{written}
 use mathlib.Core.Path.{◌≡◌, refl, sym, ap, subst}
 use mathlib.Core.Bool.{false}
 use mathlib.Core.Logic.{⊎_elim}
@@ -7,12 +10,9 @@ use native.Mathlib.Nat.{zero-lt-suc, le_of_lt}
 use native.Mathlib.Omega.{arith}
 use lib.IntN.{ℤ, pos, nat_abs}
 use lib.Ieee.{Float, neg, round, binary64}
-use Rattle.bounds.specs.declared.answer.Answer.{Answer}
 use Rattle.word.specs.Takum.{Takum, real, NaR, takum}
 use Rattle.word.proofs.Values.{NaR_word}
 use Rattle.word.specs.Orders.{negated}
-use Rattle.bounds.specs.declared.width.Limit.{Limit}
-use Rattle.bounds.specs.declared.refusal.Verdict.{Verdict}
 use Rattle.bounds.specs.Refusals.{width_test, through, refused}
 use Rattle.bounds.specs.Widths.{nar_word, IsLimit, GivesLimit}
 use Rattle.bounds.proofs.Consecutive.{rule_gives_inequality, inequality_gives_rule, greatest_of_inequality}
@@ -22,7 +22,6 @@ use Rattle.nearest.specs.Nearest.{HasValue}
 use Rattle.round.specs.Writes.{IsRounded, IsWritten}
 use Rattle.write.specs.Writes.{is_negative}
 use Rattle.whole.specs.declared.taking.Taking.{Taking}
-use Rattle.whole.specs.declared.taking.Whole.{Whole}
 use Rattle.whole.specs.Wholes.{over_test, WritesWhole, TakesWhole}
 use Rattle.whole.specs.Limits.{TheLimitPlusOneHasNoWord}
 use Rattle.whole.proofs.LimitWords.{the_limit_plus_one_has_no_word, no_odd_number_past_the_limit_has_a_word}
@@ -52,13 +51,13 @@ use Rattle.promises.specs.Numbers as promise
 use Rattle.promises.specs.Numbers.{IsWhole}
 
 -- ---- the limit
-count_of : Limit → ℕ
-count_of (Limit.Count l) = l
-count_of (Limit.Refused q) = 0
+count_of : Answer ℕ → ℕ
+count_of (Ok l) = l
+count_of (Err q) = 0
 
-IsCount : Limit → Type 0
-IsCount (Limit.Count l) = Unit {0}
-IsCount (Limit.Refused q) = ⊥
+IsCount : Answer ℕ → Type 0
+IsCount (Ok l) = Unit {0}
+IsCount (Err q) = ⊥
 
 -- what is known of a limit that was answered
 pub record Known (n l : ℕ) : Type 0 where
@@ -66,7 +65,7 @@ pub record Known (n l : ℕ) : Type 0 where
   pub hi : n ≤ 64
   pub limit : IsLimit n l
 
-pub known : (n l : ℕ) → GivesLimit n (Limit.Count l) → Known n l
+pub known : (n l : ℕ) → GivesLimit n (Ok l) → Known n l
 unfolding GivesLimit count_of IsCount
 known n l (through h x) = let t = width_through n h in
     record { lo = t.0; hi = t.1; limit = subst (IsLimit n) (sym (ap count_of x.1)) x.2 }
@@ -79,7 +78,7 @@ a_whole_number_is_kept n x w y = let k = strictly_written n x w y in record { wo
 pub a_whole_number_is_refused_exactly_where_it_has_no_word : promise.AWholeNumberIsRefusedExactlyWhereItHasNoWord
 unfolding promise.AWholeNumberIsRefusedExactlyWhereItHasNoWord promise.AWholeNumberIsKept
 a_whole_number_is_refused_exactly_where_it_has_no_word n x r lo hi y =
-    given_or_inexact (IsWhole n x) r (λ w q. a_whole_number_is_kept n x w (subst (WritesWhole n Rule.Strict x) q y)) (past Answer.Refused r 1 _ _ (good_width n (lo, hi)) (write_whole_follows n Rule.Strict x r y))
+    given_or_inexact (IsWhole n x) r (λ w q. a_whole_number_is_kept n x w (subst (WritesWhole n Rule.Strict x) q y)) (past Err r 1 _ _ (good_width n (lo, hi)) (write_whole_follows n Rule.Strict x r y))
 
 pub every_whole_number_up_to_the_limit_is_written : promise.EveryWholeNumberUpToTheLimitIsWritten
 unfolding promise.EveryWholeNumberUpToTheLimitIsWritten IsWhole WritesWhole
@@ -88,7 +87,7 @@ every_whole_number_up_to_the_limit_is_written n l x r g h y =
     strict_writing_up_to_the_limit_is_never_refused n l k.lo k.hi k.limit (nat_abs x) h (is_negative x) r (answered (width_fits n k.lo k.hi) y)
 
 -- a whole number that has no word
-no_word : (n : ℕ) (x : ℤ) (r : Answer) → 2 ≤ n → n ≤ 64 → ((w : ℕ) → IsWhole n x w → ⊥) → WritesWhole n Rule.Strict x r → RefusedAs Answer Answer.Refused 4 r × ((w : ℕ) → IsWhole n x w → ⊥)
+no_word : (n : ℕ) (x : ℤ) (r : Answer ℕ) → 2 ≤ n → n ≤ 64 → ((w : ℕ) → IsWhole n x w → ⊥) → WritesWhole n Rule.Strict x r → RefusedAs (Answer ℕ) Err 4 r × ((w : ℕ) → IsWhole n x w → ⊥)
 unfolding promise.AWholeNumberIsRefusedExactlyWhereItHasNoWord GivenOrInexact
 no_word n x r lo hi none y = ⊎_elim (λ z. absurd (none z.0 z.2)) (λ z. z) (a_whole_number_is_refused_exactly_where_it_has_no_word n x r lo hi y)
 
@@ -128,7 +127,7 @@ no_odd_number_past_the_limit_comes_back n l w x g past y =
     even f = omega (arith, f)
 
 -- what the contract says of a whole number that was written rounded
-rounded_whole : (n w : ℕ) (x : ℤ) → 2 ≤ n → n ≤ 64 → WritesWhole n Rule.Rounded x (Answer.Word w) → IsRounded n (is_negative x) (nat_abs x * 2 ^ 307) 1 w
+rounded_whole : (n w : ℕ) (x : ℤ) → 2 ≤ n → n ≤ 64 → WritesWhole n Rule.Rounded x (Ok w) → IsRounded n (is_negative x) (nat_abs x * 2 ^ 307) 1 w
 unfolding WritesWhole IsWritten
 rounded_whole n w x lo hi y = answered (width_fits n lo hi) y
 
@@ -151,18 +150,18 @@ no_odd_number_past_the_limit_comes_back_odd n l w x y taking five g odd past r o
 
 pub up_to_4_three_comes_back_as_one : promise.UpTo4ThreeComesBackAsOne
 unfolding promise.UpTo4ThreeComesBackAsOne GivesLimit IsWritten WritesWhole value_of is_negative over_test
-up_to_4_three_comes_back_as_one n lo short = (λ a x. gives_limit_one n a (Limit.Count 1) x (through fits (1, refl, limit_up_to_4 n short)), λ r x. by r (answered fits x))
+up_to_4_three_comes_back_as_one n lo short = (λ a x. gives_limit_one n a (Ok 1) x (through fits (1, refl, limit_up_to_4 n short)), λ r x. by r (answered fits x))
   where
-    fits : width_test n ≡ Verdict.Through
+    fits : width_test n ≡ passed
     fits = width_fits n lo (omega (arith, short))
 
-    by : (r : Answer) → IsWritten n Rule.Rounded false (3 * 2 ^ 307) 1 r → (w : ℕ) × (r ≡ Answer.Word w) × ((taking : Taking) (a : Whole) → TakesWhole n taking w a → a ≡ Whole.Is (pos 1))
-    by (Answer.Refused q) x = absurd x
-    by (Answer.Word w) x = let t = three_is_rounded_to_one n lo short w x in (w, refl, λ taking a o. written_comes_back n (pos 1) w taking a refl (record { word = t.word; means = t.means }) o)
+    by : (r : Answer ℕ) → IsWritten n Rule.Rounded false (3 * 2 ^ 307) 1 r → (w : ℕ) × (r ≡ Ok w) × ((taking : Taking) (a : Answer ℤ) → TakesWhole n taking w a → a ≡ Ok (pos 1))
+    by (Err q) x = absurd x
+    by (Ok w) x = let t = three_is_rounded_to_one n lo short w x in (w, refl, λ taking a o. written_comes_back n (pos 1) w taking a refl (record { word = t.word; means = t.means }) o)
 
 pub at_16_the_limit_is_512 : promise.At16TheLimitIs512
 unfolding promise.At16TheLimitIs512 GivesLimit
-at_16_the_limit_is_512 a x = gives_limit_one 16 a (Limit.Count 512) x (through (width_fits 16 (omega arith) (omega arith)) (512, refl, limit_of_16))
+at_16_the_limit_is_512 a x = gives_limit_one 16 a (Ok 512) x (through (width_fits 16 (omega arith) (omega arith)) (512, refl, limit_of_16))
 
 pub at_16_every_even_number_up_to_1024_is_written : promise.At16EveryEvenNumberUpTo1024IsWritten
 unfolding promise.At16EveryEvenNumberUpTo1024IsWritten promise.AWholeNumberIsRefusedExactlyWhereItHasNoWord IsWhole GivenOrInexact

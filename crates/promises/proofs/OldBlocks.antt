@@ -1,4 +1,9 @@
 -- The promises that specs/OldBlocks.antt states, from the tests of a block that is to be written and of one that is read. Assumes nothing.
+use Rattle.std.specs.Prelude.{Err}
+use Rattle.bounds.specs.declared.refusal.ListRefusal.{ListRefusal}
+use Rattle.bounds.specs.Refusals.{passed, ListAnswer}
+use Rattle.std.specs.Prelude.{⊤}
+use Rattle.bounds.specs.Sayings.{written}
 use mathlib.Core.Path.{◌≡◌, refl, sym, ap, ap₂, ◌∙◌, subst}
 use mathlib.Core.Bool.{true, ◌&&◌}
 use mathlib.Core.List.{List, [], ◌∷◌, ◌++◌}
@@ -11,12 +16,10 @@ use lib.Dec.{lit≤}
 use lib.ListN.{length, replicate}
 use lib.Seq.{slice}
 use Rattle.bounds.specs.declared.refusal.Refusal.{Refusal}
-use Rattle.bounds.specs.declared.refusal.Verdict.{Verdict}
 use Rattle.bounds.specs.Refusals.{number_of}
 use Rattle.bounds.proofs.Rooms.{room_fits}
 use Rattle.bounds.proofs.Verdicts.{answered, refused_as}
 use Rattle.sheet.specs.declared.block.Block.{Block}
-use Rattle.sheet.specs.declared.writing.Writing.{Writing}
 use Rattle.sheet.specs.Layout.{number, number_at, packed, mark, width, count, block_number, word_bytes, end, words, unused, numbers, A, B}
 use Rattle.sheet.specs.Sums.{total, sum_a, running, sum_b}
 use Rattle.sheet.specs.Reads.{all_zero, check_test, block_width_test, count_test, fill_test, block_test, ReadsBlock}
@@ -35,20 +38,20 @@ use Rattle.promises.specs.Refusals.{Follows, FollowsUpTo, size, written_width, r
 use Rattle.promises.proofs.WrittenRefusals.{written_follows}
 
 -- ---- written no more
-pub is_retired : (n : ℕ) (words before : List ℕ) (a : Writing) → n ≡ 8 → WritesBlock n words before a → RefusedAs Writing Writing.Refused 13 a
+pub is_retired : (n : ℕ) (words before : List ℕ) (a : ListAnswer ⊤) → n ≡ 8 → WritesBlock n words before a → RefusedAs (ListAnswer ⊤) Err (ListRefusal.Whole 13) a
 unfolding WritesBlock
 is_retired n words before a e x = record { q = Refusal.Retired; is = refused_as Refusal.Retired (old_width n (length words) before (width_is n (inl e)) e) x; known = refl }
 
 pub no_block_of_width_8_is_written : promise.NoBlockOfWidth8IsWritten
 unfolding promise.NoBlockOfWidth8IsWritten FillsBuffer
 no_block_of_width_8_is_written number words before after a x y = let r = is_retired 8 words before a refl x in
-    (r, subst (λ (b : Writing). FillsBuffer 8 number words before b after) r.is y)
+    (r, subst (λ (b : ListAnswer ⊤). FillsBuffer 8 number words before b after) r.is y)
 
 -- an answer is refused with one number
-one_number : (i j : ℕ) (a : Writing) → RefusedAs Writing Writing.Refused i a → RefusedAs Writing Writing.Refused j a → i ≡ j
+one_number : (i j : ℕ) (a : ListAnswer ⊤) → RefusedAs (ListAnswer ⊤) Err (ListRefusal.Whole i) a → RefusedAs (ListAnswer ⊤) Err (ListRefusal.Whole j) a → i ≡ j
 one_number i j a x y = sym x.known ∙ ap number_of same ∙ y.known
   where
-    both : Writing.Refused x.q ≡ Writing.Refused y.q
+    both : Err (ListRefusal.Whole x.q) ≡ Err (ListRefusal.Whole y.q)
     both = sym x.is ∙ y.is
 
     same : x.q ≡ y.q
@@ -58,10 +61,10 @@ pub only_width_8_is_retired : promise.OnlyWidth8IsRetired
 unfolding promise.OnlyWidth8IsRetired Follows FollowsUpTo
 only_width_8_is_retired n words before a x r = by (written_follows n words before a x)
   where
-    not_13 : (i : ℕ) → i ≤ 12 → RefusedAs Writing Writing.Refused i a → ⊥
+    not_13 : (i : ℕ) → i ≤ 12 → RefusedAs (ListAnswer ⊤) Err (ListRefusal.Whole i) a → ⊥
     not_13 i h y = omega (arith, h, one_number i 13 a y r)
 
-    by : Follows Writing.Refused a (written_width n ∷ retired n ∷ written_count n (length words) ∷ size before ∷ []) → n ≡ 8
+    by : Follows Err (ListRefusal.Whole a) (written_width n ∷ retired n ∷ written_count n (length words) ∷ size before ∷ []) → n ≡ 8
     by (inl y) = absurd (not_13 1 (omega arith) y.1)
     by (inr (f, inl y)) = y.0
     by (inr (f, inr (g, inl y))) = absurd (not_13 10 (omega arith) y.1)
@@ -78,23 +81,23 @@ module _ (block : List ℕ) (old : IsOldBlock block) where
   unfolding end
   ends = ap (λ (k : ℕ). 8 + k * count block) one_byte ∙ omega arith
 
-  checked : check_test block ≡ Verdict.Through
+  checked : check_test block ≡ passed
   unfolding check_test
   checked = sym (holds Refusal.Check (ap₂ ◌&&◌ (eq-eqb (sum_a (numbers block)) (A block) old.sum_a_is) (eq-eqb (sum_b (numbers block)) (B block) old.sum_b_is)))
 
-  wide : block_width_test block ≡ Verdict.Through
+  wide : block_width_test block ≡ passed
   unfolding block_width_test
   wide = sym (holds Refusal.Width (width_is (width block) (inl old.wide)))
 
-  counted : count_test block ≡ Verdict.Through
+  counted : count_test block ≡ passed
   unfolding count_test
   counted = sym (holds Refusal.Count (le-leb (end block) 504 (omega (arith, ends, old.inside))))
 
-  filled : fill_test block ≡ Verdict.Through
+  filled : fill_test block ≡ passed
   unfolding fill_test unused
   filled = sym (holds Refusal.Fill (zero_part (end block) 504 block (λ i low high. old.rest i (omega (arith, ends, low)) high)))
 
-  accepted : (places : ℕ) → count block ≤ places → block_test block places ≡ Verdict.Through
+  accepted : (places : ℕ) → count block ≤ places → block_test block places ≡ passed
   accepted places room = room_decides block places old.sized old.marked checked wide counted filled ∙ room_fits (count block) places room
 
   is_read : (places : ℕ) (a : Block) → count block ≤ places → ReadsBlock block places a → a ≡ Block.Read 8 (block_number block) (count block)

@@ -1,4 +1,6 @@
 -- The promises that specs/OldLines.antt states: no byte of a field ends a line, and a line that isn't old ends in a decimal digit. Assumes nothing.
+use Rattle.std.specs.Prelude.{Ok, Err}
+use Rattle.bounds.specs.Refusals.{Answer}
 use mathlib.Core.Path.{◌≡◌, refl, sym, ap, ap₂, ◌∙◌, subst}
 use mathlib.Core.Bool.{Bool, true, false, cond, not, ◌&&◌, and_assoc, false≢true}
 use mathlib.Core.List.{List, [], ◌∷◌, ◌++◌, append-nil, reverse, reverse_aux-append, head-eq_of_cons-eq}
@@ -13,7 +15,6 @@ use Rattle.io.specs.Digits.{hex_digit_ascii, last_digits}
 use Rattle.bounds.specs.declared.refusal.Refusal.{Refusal}
 use Rattle.bounds.specs.Refusals.{number_of, through, refused}
 use Rattle.bounds.proofs.Verdicts.{both}
-use Rattle.whole.specs.declared.taking.Whole.{Whole}
 use Rattle.sheet.specs.Layout.{width, count, block_number, words}
 use Rattle.sheet.specs.Writes.{is_retired}
 use Rattle.sheet.proofs.Results.{words_length}
@@ -66,11 +67,11 @@ field_passes : (n : ℕ) (t : List ℕ) → IsField n t → passes t ≡ true
 unfolding IsField space newline
 field_passes n t (d, x, e) = ap passes e ∙ simp (joined, decimal_passes n d x)
 
-shown_passes : (a : Whole) (t : List ℕ) → IsShown a t → passes t ≡ true
+shown_passes : (a : Answer ℤ) (t : List ℕ) → IsShown a t → passes t ≡ true
 unfolding IsShown IsSigned refusal_text minus newline nar over
-shown_passes (Whole.Is (pos n)) t x = decimal_passes n t x
-shown_passes (Whole.Is (negsuc n)) t (d, x, e) = ap passes e ∙ decimal_passes (suc n) d x
-shown_passes (Whole.Refused q) t e = ap passes e ∙ either (eqb (number_of q) 5) over nar refl refl
+shown_passes (Ok (pos n)) t x = decimal_passes n t x
+shown_passes (Ok (negsuc n)) t (d, x, e) = ap passes e ∙ decimal_passes (suc n) d x
+shown_passes (Err q) t e = ap passes e ∙ either (eqb (number_of q) 5) over nar refl refl
 
 whole_passes : (n w : ℕ) (t : List ℕ) → IsWholeText n w t → passes t ≡ true
 unfolding IsWholeText space newline
@@ -120,7 +121,7 @@ refused_line i q t (d, r, x, y, e) =
 -- ---- what the call has put is a text of the block
 abbrev is_length : Listed → Bool
 is_length (Listed.Length n q) = true
-is_length (Listed.Refused q) = false
+is_length (Err q) = false
 
 is_text : (block : List ℕ) (i : ℕ) (before after : List ℕ) (n q : ℕ) → ListsInto block i before after (Listed.Length n q) → ListsBlock block i (take n after)
 unfolding ListsInto IsListed PutsSome

@@ -1,21 +1,19 @@
 -- Two outcomes that a public contract allows are equal, for each public call. Assumes nothing.
+use Rattle.std.specs.Prelude.{Ok, Err}
+use Rattle.bounds.specs.Refusals.{Answer}
+use Rattle.std.specs.Ordering.{Ordering, int_cmp}
 use mathlib.Core.Bool.{Bool}
 use mathlib.Core.Path.{◌≡◌, refl, sym, ap, ap₂, ◌∙◌, subst}
 use mathlib.Core.List.{List, [], ◌∷◌}
 use Prim.Native.Nat.{ℕ, ◌^◌}
 use native.Mathlib.Nat.{le_antisymm}
 use lib.IntN.{ℤ}
-use Rattle.bounds.specs.declared.answer.Answer.{Answer}
 use Rattle.bounds.specs.declared.answer.Written.{Written}
 use Rattle.bounds.specs.declared.refusal.Refusal.{Refusal}
-use Rattle.bounds.specs.declared.refusal.Verdict.{Verdict}
 use Rattle.word.specs.declared.fields.Fields.{Fields}
 use Rattle.sizes.specs.declared.size.Size.{Size}
-use Rattle.order.specs.declared.order.Comparison.{Comparison}
 use Rattle.word.specs.declared.reading.Reading.{Reading}
 use Rattle.bounds.specs.declared.saying.Saying.{Saying}
-use Rattle.bounds.specs.declared.width.Limit.{Limit}
-use Rattle.bounds.specs.declared.width.Made.{Made}
 use Rattle.word.specs.Cuts.{Cuts}
 use Rattle.sizes.specs.Sizes.{Sizes}
 use Rattle.bounds.specs.Refusals.{number_of, width_test, word_test, room_test, ◌then◌}
@@ -72,18 +70,18 @@ is_exact_one s = given (says_exact s)
 pub opposite_one : (s a b : Saying) → a ≡ opposite_saying s → b ≡ opposite_saying s → a ≡ b
 opposite_one s = given (opposite_saying s)
 
-pub exactly_one : (answer : Answer) (a b : Written) → a ≡ exactly answer → b ≡ exactly answer → a ≡ b
+pub exactly_one : (answer : Answer ℕ) (a b : Answer Written) → a ≡ exactly answer → b ≡ exactly answer → a ≡ b
 exactly_one answer = given (exactly answer)
 
 -- ---- widths
-pub makes_one : (n : ℕ) (a b : Made) → Makes n a → Makes n b → a ≡ b
+pub makes_one : (n : ℕ) (a b : Answer Width) → Makes n a → Makes n b → a ≡ b
 unfolding Makes
-makes_one n a b = decided_one Made.Refused (λ x. x ≡ Made.Width (record { bits = n })) (given (Made.Width (record { bits = n }))) a b
+makes_one n a b = decided_one Err (λ x. x ≡ Ok (record { bits = n })) (given (Ok (record { bits = n }))) a b
 
 -- largest, smallest and NaR word
-pub gives_word_one : (f : ℕ → ℕ) (n : ℕ) (a b : Answer) → GivesWord f n a → GivesWord f n b → a ≡ b
+pub gives_word_one : (f : ℕ → ℕ) (n : ℕ) (a b : Answer ℕ) → GivesWord f n a → GivesWord f n b → a ≡ b
 unfolding GivesWord
-gives_word_one f n a b = decided_one Answer.Refused (λ x. x ≡ Answer.Word (f n)) (given (Answer.Word (f n))) a b
+gives_word_one f n a b = decided_one Err (λ x. x ≡ Ok (f n)) (given (Ok (f n))) a b
 
 exponent_one : (n : ℕ) {u v : ℕ} → Greatest n u → Greatest n v → u ≡ v
 exponent_one n {u} {v} (greatest x f) (greatest y g) = le_antisymm (g u x) (f v y)
@@ -91,29 +89,29 @@ exponent_one n {u} (greatest x f) (none g) = absurd (g u x)
 exponent_one n {v = v} (none f) (greatest y g) = absurd (f v y)
 exponent_one n (none f) (none g) = refl
 
-pub gives_limit_one : (n : ℕ) (a b : Limit) → GivesLimit n a → GivesLimit n b → a ≡ b
+pub gives_limit_one : (n : ℕ) (a b : Answer ℕ) → GivesLimit n a → GivesLimit n b → a ≡ b
 unfolding GivesLimit
-gives_limit_one n a b = decided_one Limit.Refused (λ x. (l : ℕ) × (x ≡ Limit.Count l) × IsLimit n l) limits_one a b
+gives_limit_one n a b = decided_one Err (λ x. (l : ℕ) × (x ≡ Ok l) × IsLimit n l) limits_one a b
   where
-    limits_one : (a b : Limit) → ((l : ℕ) × (a ≡ Limit.Count l) × IsLimit n l) → ((l : ℕ) × (b ≡ Limit.Count l) × IsLimit n l) → a ≡ b
+    limits_one : (a b : Answer ℕ) → ((l : ℕ) × (a ≡ Ok l) × IsLimit n l) → ((l : ℕ) × (b ≡ Ok l) × IsLimit n l) → a ≡ b
     limits_one a b x y =
-        x.1 ∙ ap Limit.Count (x.2.limit ∙ ap (λ (v : ℕ). 2 ^ v) (exponent_one n x.2.is y.2.is) ∙ sym y.2.limit) ∙ sym y.1
+        x.1 ∙ ap Ok (x.2.limit ∙ ap (λ (v : ℕ). 2 ^ v) (exponent_one n x.2.is y.2.is) ∙ sym y.2.limit) ∙ sym y.1
 
 -- ---- words
 pub reads_one : (n w : ℕ) (a b : Reading) → Reads n w a → Reads n w b → a ≡ b
 reads_one = readings.reads_one
 
-pub compares_one : (n x y : ℕ) (a b : Comparison) → Compares n x y a → Compares n x y b → a ≡ b
+pub compares_one : (n x y : ℕ) (a b : Answer Ordering) → Compares n x y a → Compares n x y b → a ≡ b
 unfolding Compares
-compares_one n x y a b = decided_one Comparison.Refused (λ z. z ≡ Comparison.Is (order (signed n x) (signed n y))) (given (Comparison.Is (order (signed n x) (signed n y)))) a b
+compares_one n x y a b = decided_one Err (λ z. z ≡ Ok (int_cmp (signed n x) (signed n y))) (given (Ok (int_cmp (signed n x) (signed n y)))) a b
 
-pub negates_one : (n w : ℕ) (a b : Answer) → Negates n w a → Negates n w b → a ≡ b
+pub negates_one : (n w : ℕ) (a b : Answer ℕ) → Negates n w a → Negates n w b → a ≡ b
 unfolding Negates
-negates_one n w a b = decided_one Answer.Refused (λ z. z ≡ Answer.Word (negated n w)) (given (Answer.Word (negated n w))) a b
+negates_one n w a b = decided_one Err (λ z. z ≡ Ok (negated n w)) (given (Ok (negated n w))) a b
 
-pub comes_back_one : (n w : ℕ) (a b : Answer) → ComesBack n w a → ComesBack n w b → a ≡ b
+pub comes_back_one : (n w : ℕ) (a b : Answer ℕ) → ComesBack n w a → ComesBack n w b → a ≡ b
 unfolding ComesBack
-comes_back_one n w a b = decided_one Answer.Refused (λ z. z ≡ Answer.Word w) (given (Answer.Word w)) a b
+comes_back_one n w a b = decided_one Err (λ z. z ≡ Ok w) (given (Ok w)) a b
 
 -- the fields of a string
 pub cuts_one : (t : ℕ) (a b : Fields) → Cuts t a → Cuts t b → a ≡ b
@@ -126,33 +124,33 @@ sizes_one t a b x y =
     ∙ ap (λ (m : ℕ). record { negative = b.negative; h = b.h; m = m }) (x.significand ∙ sym y.significand)
 
 -- ---- one call after another, each of which allows one outcome
-and_then_one : {A : Type 0} (R : Refusal → A) (First : Answer → Type 0) (Next : ℕ → A → Type 0) → ((x y : Answer) → First x → First y → x ≡ y) → ((w : ℕ) (a b : A) → Next w a → Next w b → a ≡ b) → (a b : A) → AndThen R First Next a → AndThen R First Next b → a ≡ b
+and_then_one : {A : Type 0} (R : Refusal → A) (First : Answer ℕ → Type 0) (Next : ℕ → A → Type 0) → ((x y : Answer ℕ) → First x → First y → x ≡ y) → ((w : ℕ) (a b : A) → Next w a → Next w b → a ≡ b) → (a b : A) → AndThen R First Next a → AndThen R First Next b → a ≡ b
 unfolding word_of GivesAWord
-and_then_one R First Next first next a b (goes_on w x y) (goes_on w' x' y') = next w' a b (subst (λ (v : ℕ). Next v a) (ap word_of (first (Answer.Word w) (Answer.Word w') x x')) y) y'
-and_then_one R First Next first next a b (goes_on w x y) (stops q x' e) = absurd (subst GivesAWord (first (Answer.Word w) (Answer.Refused q) x x') tt)
-and_then_one R First Next first next a b (stops q x e) (goes_on w x' y) = absurd (subst GivesAWord (first (Answer.Word w) (Answer.Refused q) x' x) tt)
-and_then_one R First Next first next a b (stops q x e) (stops q' x' e') = let same : q ≡ q' = let z = first (Answer.Refused q) (Answer.Refused q') x x' in cc in e ∙ ap R same ∙ sym e'
+and_then_one R First Next first next a b (goes_on w x y) (goes_on w' x' y') = next w' a b (subst (λ (v : ℕ). Next v a) (ap word_of (first (Ok w) (Ok w') x x')) y) y'
+and_then_one R First Next first next a b (goes_on w x y) (stops q x' e) = absurd (subst GivesAWord (first (Ok w) (Err q) x x') tt)
+and_then_one R First Next first next a b (stops q x e) (goes_on w x' y) = absurd (subst GivesAWord (first (Ok w) (Err q) x' x) tt)
+and_then_one R First Next first next a b (stops q x e) (stops q' x' e') = let same : q ≡ q' = let z = first (Err q) (Err q') x x' in cc in e ∙ ap R same ∙ sym e'
 
 -- a chain of strict moves
-goes_one : (home : ℕ) (ns : List ℕ) (n w : ℕ) (a b : Answer) → Goes home n w ns a → Goes home n w ns b → a ≡ b
+goes_one : (home : ℕ) (ns : List ℕ) (n w : ℕ) (a b : Answer ℕ) → Goes home n w ns a → Goes home n w ns b → a ≡ b
 unfolding Goes
 goes_one home [] n w a b x y = moves_one n home Rule.Strict w a b x y
-goes_one home (n' ∷ ns) n w a b x y = and_then_one Answer.Refused _ _ (moves_one n n' Rule.Strict w) (λ v. goes_one home ns n' v) a b (chain_step home n' ns n w a x) (chain_step home n' ns n w b y)
+goes_one home (n' ∷ ns) n w a b x y = and_then_one Err _ _ (moves_one n n' Rule.Strict w) (λ v. goes_one home ns n' v) a b (chain_step home n' ns n w a x) (chain_step home n' ns n w b y)
 
-pub comes_home_one : (n w : ℕ) (ns : List ℕ) (a b : Answer) → ComesHome n w ns a → ComesHome n w ns b → a ≡ b
+pub comes_home_one : (n w : ℕ) (ns : List ℕ) (a b : Answer ℕ) → ComesHome n w ns a → ComesHome n w ns b → a ≡ b
 comes_home_one n w ns a b x y = goes_one n ns n w a b x.goes y.goes
 
 -- the laws of moving
-pub out_and_back_one : (a b c w : ℕ) (r s : Answer) → OutAndBack a b c w r → OutAndBack a b c w s → r ≡ s
+pub out_and_back_one : (a b c w : ℕ) (r s : Answer ℕ) → OutAndBack a b c w r → OutAndBack a b c w s → r ≡ s
 unfolding GoesOutAndBack
 out_and_back_one a b c w r s x y =
-    and_then_one Answer.Refused _ _ (moves_one a b Rule.Rounded w) (λ u. and_then_one Answer.Refused _ _ (moves_one b c Rule.Rounded u) (moves_one c b Rule.Rounded)) r s x.goes y.goes
+    and_then_one Err _ _ (moves_one a b Rule.Rounded w) (λ u. and_then_one Err _ _ (moves_one b c Rule.Rounded u) (moves_one c b Rule.Rounded)) r s x.goes y.goes
 
-pub moves_negated_one : (a b w : ℕ) (r s : Written) → MovesNegated a b w r → MovesNegated a b w s → r ≡ s
+pub moves_negated_one : (a b w : ℕ) (r s : Answer Written) → MovesNegated a b w r → MovesNegated a b w s → r ≡ s
 unfolding GoesNegated
-moves_negated_one a b w r s x y = and_then_one Written.Refused _ _ (negates_one a w) (moves_and_says_one a b Rule.Rounded) r s x.goes y.goes
+moves_negated_one a b w r s x y = and_then_one Err _ _ (negates_one a w) (moves_and_says_one a b Rule.Rounded) r s x.goes y.goes
 
-pub compares_moved_one : (a b u v : ℕ) (r s : Comparison) → ComparesMoved a b u v r → ComparesMoved a b u v s → r ≡ s
+pub compares_moved_one : (a b u v : ℕ) (r s : Answer Ordering) → ComparesMoved a b u v r → ComparesMoved a b u v s → r ≡ s
 unfolding GoesCompared
 compares_moved_one a b u v r s x y =
-    and_then_one Comparison.Refused _ _ (moves_one a b Rule.Rounded u) (λ p. and_then_one Comparison.Refused _ _ (moves_one a b Rule.Rounded v) (compares_one b p)) r s x.goes y.goes
+    and_then_one Err _ _ (moves_one a b Rule.Rounded u) (λ p. and_then_one Err _ _ (moves_one a b Rule.Rounded v) (compares_one b p)) r s x.goes y.goes

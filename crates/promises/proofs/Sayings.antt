@@ -1,4 +1,8 @@
 -- The promises that specs/Sayings.antt states: each law once, of whatever is meant, since each call writes what is meant. Assumes nothing.
+use Rattle.std.specs.Prelude.{Ok, Err}
+use Rattle.bounds.specs.declared.refusal.ListRefusal.{ListRefusal}
+use Rattle.bounds.specs.Refusals.{Answer, ListAnswer}
+use Rattle.bounds.specs.Sayings.{written}
 use mathlib.Core.Path.{◌≡◌, refl, sym, ap, ap₂, ◌∙◌, subst, subst₂}
 use mathlib.Core.Bool.{Bool, true, false, true≢false, not}
 use mathlib.Core.List.{List}
@@ -14,7 +18,6 @@ use lib.IntN.{ℤ, pos, negsuc, neg_ℤ, nat_abs, ◌*ℤ◌, ◌+ℤ◌, ◌-�
 use lib.ListN.{length, get_or}
 use lib.Pow.{pow_pos}
 use lib.Signed.{lt_z}
-use Rattle.bounds.specs.declared.answer.Answer.{Answer}
 use Rattle.bounds.specs.declared.answer.Written.{Written}
 use Rattle.bounds.specs.declared.saying.Saying.{Saying}
 use Rattle.bounds.specs.declared.saying.Saying.TheVariants.{Exact, Below, Above, PastTheEnd}
@@ -59,7 +62,6 @@ use Rattle.whole.specs.Wholes.{WritesWhole}
 use Rattle.whole.specs.Sayings.{WritesWholeAndSays}
 use Rattle.binary64.specs.Writes.{IsWrittenBinary64, WritesBinary64}
 use Rattle.binary64.specs.Sayings.{SaysBinary64, WritesBinary64AndSays}
-use Rattle.column.specs.declared.moving.Column.{Column}
 use Rattle.column.specs.declared.moving.MovedColumn.{MovedColumn}
 use Rattle.column.specs.Columns.{Movable, MovableUpTo, IsTried, MovesColumn, Holds}
 use Rattle.column.specs.Counts.{Counts, KeepsTheMeaning, CountsExact, HoldsAndCounts}
@@ -167,9 +169,9 @@ the_answer_is_as_before =
 
 -- ---- each call writes what is meant
 -- what is written and said for what is meant, at a width from 2 to 64
-unfoldable Answered : ℕ → Rule → Meant → Written → Type 0
+unfoldable Answered : ℕ → Rule → Meant → Answer Written → Type 0
 Answered n rule (number s a b) r = AndSays (IsWritten n rule s a b) (nearest.Says n s a b) r
-Answered n rule nar r = r ≡ Written.Word (nar_word n) Exact
+Answered n rule nar r = r ≡ written (nar_word n) Exact
 
 -- the size is a fraction
 unfoldable IsFraction : Meant → Type 0
@@ -177,24 +179,24 @@ IsFraction (number s a b) = 0 < b
 IsFraction nar = Unit {0}
 
 -- NaR is given, and said to be exact
-nar_said : (n : ℕ) (r : Written) → plain r ≡ Answer.Word (nar_word n) → ((w : ℕ) (s : Saying) → r ≡ Written.Word w s → s ≡ Exact) → r ≡ Written.Word (nar_word n) Exact
+nar_said : (n : ℕ) (r : Answer Written) → plain r ≡ Ok (nar_word n) → ((w : ℕ) (s : Saying) → r ≡ written w s → s ≡ Exact) → r ≡ written (nar_word n) Exact
 nar_said n r q x = let t = plain_word r (nar_word n) q in
-    t.1 ∙ ap (Written.Word (nar_word n)) (x (nar_word n) t.0 t.1)
+    t.1 ∙ ap (written (nar_word n)) (x (nar_word n) t.0 t.1)
 
 module _ (n : ℕ) (lo : 2 ≤ n) (hi : n ≤ 64) where
-  writes_meant : (rule : Rule) (o : Offered) (r : Written) → IsFit o → Gives n rule o r → Answered n rule (meant o) r
+  writes_meant : (rule : Rule) (o : Offered) (r : Answer Written) → IsFit o → Gives n rule o r → Answered n rule (meant o) r
   unfolding Answered IsFit Gives meant of_takum of_float of_short IsWrittenBinary64 SaysBinary64 IsMoved SaysMoved numerator denominator long_numerator long_denominator significand WritesAndSays Writes WritesWholeAndSays WritesWhole WritesBinary64AndSays WritesBinary64 MovesAndSays Moves WritesShortAndSays WritesShort WritesSizeAndSays WritesSize WritesLongAndSays WritesLong
   writes_meant rule (value v) r i x = record { answers = answered (width_fits n lo hi) x.answers; says = x.says }
   writes_meant rule (whole z) r i x = record { answers = answered (width_fits n lo hi) x.answers; says = x.says }
   writes_meant rule (binary64 f) r i x = float f (answered (width_fits n lo hi) x.answers) x.says
     where
-      float : (f : Float) → IsWrittenBinary64 n rule f (plain r) → ((w : ℕ) (s : Saying) → r ≡ Written.Word w s → SaysBinary64 n f w s) → Answered n rule (of_float f) r
+      float : (f : Float) → IsWrittenBinary64 n rule f (plain r) → ((w : ℕ) (s : Saying) → r ≡ written w s → SaysBinary64 n f w s) → Answered n rule (of_float f) r
       float nan x y = nar_said n r x y
       float (inf s) x y = nar_said n r x y
       float (fin s m e) x y = record { answers = x; says = y }
   writes_meant rule (word n' w) r i x = moved (takum n' w) (answered (move_passes n' n w i lo hi) x.answers) x.says
     where
-      moved : (t : Takum) → IsMoved n rule t (plain r) → ((w : ℕ) (s : Saying) → r ≡ Written.Word w s → SaysMoved n t w s) → Answered n rule (of_takum t) r
+      moved : (t : Takum) → IsMoved n rule t (plain r) → ((w : ℕ) (s : Saying) → r ≡ written w s → SaysMoved n t w s) → Answered n rule (of_takum t) r
       moved (real z) x y = record { answers = x; says = y }
       moved NaR x y = nar_said n r x y
   writes_meant rule (short s m k) r i x = record { answers = answered (width_fits n lo hi) x.answers; says = x.says }
@@ -229,14 +231,14 @@ is_exact_or_not PastTheEnd = inr (λ q. true≢false (sym (ap says_exact q)))
 -- ---- the laws, of what is meant
 module _ (n : ℕ) (lo : 2 ≤ n) (hi : n ≤ 64) where
   -- a word that is written has the sign's value of some size
-  has_some : (rule : Rule) (s : Bool) (a b w : ℕ) → IsWritten n rule s a b (Answer.Word w) → (z : ℕ) × HasValue n s z w
+  has_some : (rule : Rule) (s : Bool) (a b w : ℕ) → IsWritten n rule s a b (Ok w) → (z : ℕ) × HasValue n s z w
   unfolding IsWritten
   has_some Rule.Rounded s a b w (zero q e) = (0, subst (HasValue n s 0) (sym e) (zero_value n lo hi s))
   has_some Rule.Rounded s a b w (other h x) = (x.z, x.is)
   has_some Rule.Strict s a b w x = (x.z, x.is)
 
   -- what is said to be exact means the same
-  said_means : (rule : Rule) (m : Meant) (w : ℕ) → Answered n rule m (Written.Word w Exact) → HasTheMeaning n m w
+  said_means : (rule : Rule) (m : Meant) (w : ℕ) → Answered n rule m (written w Exact) → HasTheMeaning n m w
   unfolding Answered HasTheMeaning TheNaRWord
   said_means rule (number s a b) w x = let t = has_some rule s a b w x.answers in
       record { z = t.0; is = t.1; same = exact_size n lo hi s t.0 a b w t.1 (x.says w Exact refl) }
@@ -244,52 +246,52 @@ module _ (n : ℕ) (lo : 2 ≤ n) (hi : n ≤ 64) where
       subst (λ (v : ℕ). IsWord n v × (takum n v ≡ NaR)) (sym (same_word x).0) (t.0, t.1)
 
   -- a word that means the same is given, and said to be exact
-  meaning_said : (rule : Rule) (m : Meant) (w : ℕ) (r : Written) → IsFraction m → HasTheMeaning n m w → Answered n rule m r → r ≡ Written.Word w Exact
+  meaning_said : (rule : Rule) (m : Meant) (w : ℕ) (r : Answer Written) → IsFraction m → HasTheMeaning n m w → Answered n rule m r → r ≡ written w Exact
   unfolding Answered HasTheMeaning IsFraction nar_word
   meaning_said rule (number s a b) w r some x y =
       let t = plain_word r w (exact_written n lo hi rule s a b w (plain r) some x y.answers) in
-      t.1 ∙ ap (Written.Word w) (says_one n lo hi s a b w t.0 Exact x.is.word (y.says w t.0 t.1) (size_exact n lo hi s x.z a b w x.is x.same))
-  meaning_said rule nar w r some x y = y ∙ ap (λ (v : ℕ). Written.Word v Exact) (sym (NaR_word n w x.0 x.1))
+      t.1 ∙ ap (written w) (says_one n lo hi s a b w t.0 Exact x.is.word (y.says w t.0 t.1) (size_exact n lo hi s x.z a b w x.is x.same))
+  meaning_said rule nar w r some x y = y ∙ ap (λ (v : ℕ). written v Exact) (sym (NaR_word n w x.0 x.1))
 
-  strictly : (m : Meant) (w : ℕ) (s : Saying) → IsFraction m → Answered n Rule.Strict m (Written.Word w s) → s ≡ Exact
+  strictly : (m : Meant) (w : ℕ) (s : Saying) → IsFraction m → Answered n Rule.Strict m (written w s) → s ≡ Exact
   unfolding Answered IsWritten HasTheMeaning
-  strictly (number t a b) w s some x = (same_word (meaning_said Rule.Strict (number t a b) w (Written.Word w s) some x.answers x)).1
+  strictly (number t a b) w s some x = (same_word (meaning_said Rule.Strict (number t a b) w (written w s) some x.answers x)).1
   strictly nar w s some x = (same_word x).1
 
-  same_story : (m : Meant) (a b : Written) → IsFraction m → Answered n Rule.Rounded m a → Answered n Rule.Strict m b → TellTheSame a b
+  same_story : (m : Meant) (a b : Answer Written) → IsFraction m → Answered n Rule.Rounded m a → Answered n Rule.Strict m b → TellTheSame a b
   unfolding Answered IsWritten HasTheMeaning TellTheSame
   same_story nar a b some x y = (nar_word n, Exact, x, inl (refl, y ∙ sym x))
-  same_story (number t i j) (Written.Refused q) b some x y = absurd x.answers
-  same_story (number t i j) (Written.Word w s) b some x y = (w, s, refl, by s b x y)
+  same_story (number t i j) (Err q) b some x y = absurd x.answers
+  same_story (number t i j) (Ok (w,s)) b some x y = (w, s, refl, by s b x y)
     where
-      exact : (s : Saying) (b : Written) → s ≡ Exact → Answered n Rule.Rounded (number t i j) (Written.Word w s) → Answered n Rule.Strict (number t i j) b → b ≡ Written.Word w s
-      exact s b e x y = meaning_said Rule.Strict (number t i j) w b some (said_means Rule.Rounded (number t i j) w (subst (λ (u : Saying). Answered n Rule.Rounded (number t i j) (Written.Word w u)) e x)) y ∙ ap (Written.Word w) (sym e)
+      exact : (s : Saying) (b : Answer Written) → s ≡ Exact → Answered n Rule.Rounded (number t i j) (written w s) → Answered n Rule.Strict (number t i j) b → b ≡ written w s
+      exact s b e x y = meaning_said Rule.Strict (number t i j) w b some (said_means Rule.Rounded (number t i j) w (subst (λ (u : Saying). Answered n Rule.Rounded (number t i j) (written w u)) e x)) y ∙ ap (written w) (sym e)
 
-      inexact : (s : Saying) (b : Written) → (s ≡ Exact → ⊥) → Answered n Rule.Rounded (number t i j) (Written.Word w s) → Answered n Rule.Strict (number t i j) b → RefusedAs Written Written.Refused 4 b
-      inexact s (Written.Word v u) f x y = absurd (f (same_word (meaning_said Rule.Rounded (number t i j) v (Written.Word w s) some y.answers x)).1)
-      inexact s (Written.Refused q) f x y = record { q = q; is = refl; known = ap number_of y.answers.0 }
+      inexact : (s : Saying) (b : Answer Written) → (s ≡ Exact → ⊥) → Answered n Rule.Rounded (number t i j) (written w s) → Answered n Rule.Strict (number t i j) b → RefusedAs Written Err 4 b
+      inexact s (Ok (v,u)) f x y = absurd (f (same_word (meaning_said Rule.Rounded (number t i j) v (written w s) some y.answers x)).1)
+      inexact s (Err q) f x y = record { q = q; is = refl; known = ap number_of y.answers.0 }
 
-      by : (s : Saying) (b : Written) → Answered n Rule.Rounded (number t i j) (Written.Word w s) → Answered n Rule.Strict (number t i j) b → ((s ≡ Exact) × (b ≡ Written.Word w s)) ⊎ ((s ≡ Exact → ⊥) × RefusedAs Written Written.Refused 4 b)
+      by : (s : Saying) (b : Answer Written) → Answered n Rule.Rounded (number t i j) (written w s) → Answered n Rule.Strict (number t i j) b → ((s ≡ Exact) × (b ≡ written w s)) ⊎ ((s ≡ Exact → ⊥) × RefusedAs Written Err 4 b)
       by s b x y = ⊎_elim (λ e. inl (e, exact s b e x y)) (λ f. inr (f, inexact s b f x y)) (is_exact_or_not s)
 
   -- the other sign gives the negated word, and exchanges below and above
-  other_sign : (s : Bool) (a b w : ℕ) (q : Saying) (r : Written) → 0 < b → Answered n Rule.Rounded (number s a b) (Written.Word w q) → Answered n Rule.Rounded (number (not s) a b) r → r ≡ Written.Word (negated n w) (opposite_saying q)
+  other_sign : (s : Bool) (a b w : ℕ) (q : Saying) (r : Answer Written) → 0 < b → Answered n Rule.Rounded (number s a b) (written w q) → Answered n Rule.Rounded (number (not s) a b) r → r ≡ written (negated n w) (opposite_saying q)
   unfolding Answered IsWritten
   other_sign s a b w q r some x y =
       let i = written_word n lo hi Rule.Rounded s a b w x.answers in
-      said_one (λ c d. written_one n lo hi Rule.Rounded (not s) a b c d some) (λ v t u z. says_one n lo hi (not s) a b v t u (written_word n lo hi Rule.Rounded (not s) a b v z)) r (Written.Word (negated n w) (opposite_saying q)) y
+      said_one (λ c d. written_one n lo hi Rule.Rounded (not s) a b c d some) (λ v t u z. says_one n lo hi (not s) a b v t u (written_word n lo hi Rule.Rounded (not s) a b v z)) r (written (negated n w) (opposite_saying q)) y
       (word_said (negated n w) (opposite_saying q) (rounded_negated n lo hi s a b w x.answers) (says_negated n s a b w q i (x.says w q refl)))
 
 -- ---- so of every call
 pub exact_where_a_word_has_the_value : promise.ExactWhereAWordHasTheValue
 unfolding promise.ExactWhereAWordHasTheValue
 exact_where_a_word_has_the_value n rule o w s i lo hi x =
-    let y = writes_meant n lo hi rule o (Written.Word w s) i x in
-    (λ q. said_means n lo hi rule (meant o) w (subst (λ (t : Saying). Answered n rule (meant o) (Written.Word w t)) q y), λ w' z. let t = same_word (meaning_said n lo hi rule (meant o) w' (Written.Word w s) (is_fraction o) z y) in (t.1, t.0))
+    let y = writes_meant n lo hi rule o (written w s) i x in
+    (λ q. said_means n lo hi rule (meant o) w (subst (λ (t : Saying). Answered n rule (meant o) (written w t)) q y), λ w' z. let t = same_word (meaning_said n lo hi rule (meant o) w' (written w s) (is_fraction o) z y) in (t.1, t.0))
 
 pub by_the_strict_rule_it_is_exact : promise.ByTheStrictRuleItIsExact
 unfolding promise.ByTheStrictRuleItIsExact
-by_the_strict_rule_it_is_exact n o w s i lo hi x = strictly n lo hi (meant o) w s (is_fraction o) (writes_meant n lo hi Rule.Strict o (Written.Word w s) i x)
+by_the_strict_rule_it_is_exact n o w s i lo hi x = strictly n lo hi (meant o) w s (is_fraction o) (writes_meant n lo hi Rule.Strict o (written w s) i x)
 
 pub the_two_rules_tell_the_same_story : promise.TheTwoRulesTellTheSameStory
 unfolding promise.TheTwoRulesTellTheSameStory
@@ -306,7 +308,7 @@ zero_and_NaR_are_exact n rule o r i lo hi x =
 equal_said : (n : ℕ) (s : Bool) (a b c d w : ℕ) (q : Saying) → 0 < b → 0 < d → a * d ≡ c * b → nearest.Says n s a b w q → nearest.Says n s c d w q
 equal_said n s a b c d w q some_b some_d same x = says_reduced n s c d b some_b w q (subst₂ (λ (i j : ℕ). nearest.Says n s i j w q) same (mul_comm b d) (says_times n s a b d some_d w q x))
 
-meaning_answered : (n : ℕ) → 2 ≤ n → n ≤ 64 → (rule : Rule) (m m' : Meant) (r r' : Written) → IsFraction m → IsFraction m' → MeanTheSame m m' → Answered n rule m r → Answered n rule m' r' → r ≡ r'
+meaning_answered : (n : ℕ) → 2 ≤ n → n ≤ 64 → (rule : Rule) (m m' : Meant) (r r' : Answer Written) → IsFraction m → IsFraction m' → MeanTheSame m m' → Answered n rule m r → Answered n rule m' r' → r ≡ r'
 unfolding MeanTheSame IsFraction Answered
 meaning_answered n lo hi rule (number s a b) (number s' a' b') r r' some some' (same, q) x y =
     said_one (λ i j. written_one n lo hi rule s' a' b' i j some') (λ w t u z. says_one n lo hi s' a' b' w t u (written_word n lo hi rule s' a' b' w z)) r r'
@@ -350,7 +352,7 @@ same_meaning n n' w w' i q = by (takum n w) q
     by (real z) q = meaning_exact n' w' z i q
     by NaR q = (i, q)
 
-pub meaning_kept : (n n' : ℕ) (rule : Rule) (w w' : ℕ) (r : Written) → IsWord n w → IsWord n' w' → takum n' w' ≡ takum n w → MovesAndSays n n' rule w r → r ≡ Written.Word w' Exact
+pub meaning_kept : (n n' : ℕ) (rule : Rule) (w w' : ℕ) (r : Answer Written) → IsWord n w → IsWord n' w' → takum n' w' ≡ takum n w → MovesAndSays n n' rule w r → r ≡ written w' Exact
 unfolding IsFit Gives
 meaning_kept n n' rule w w' r i i' q x = meaning_said n' i'.least i'.most rule (meant (word n w)) w' r (is_fraction (word n w)) (same_meaning n n' w w' i' q) (writes_meant n' i'.least i'.most rule (word n w) r i x)
 
@@ -359,7 +361,7 @@ unfolding promise.AWiderMoveIsExact
 a_wider_move_is_exact n more rule w r room i x = meaning_kept n (n + more) rule w (w * 2 ^ more) r i (record { least = omega (arith, i.least); most = room; fits = shl_below n more (n + more) i.fits refl }) (zeros_appended n more w i.least room i.fits) x
 
 -- a word that is given by a move is one, and so is the word that is moved
-pub moved_words : (n n' : ℕ) (rule : Rule) (w w' : ℕ) → Moves n n' rule w (Answer.Word w') → IsWord n w × IsWord n' w'
+pub moved_words : (n n' : ℕ) (rule : Rule) (w w' : ℕ) → Moves n n' rule w (Ok w') → IsWord n w × IsWord n' w'
 unfolding Moves IsMoved GivesAWord word_of TheNaRWord
 moved_words n n' rule w w' (refused h q) = absurd (subst GivesAWord q tt)
 moved_words n n' rule w w' (through h x) =
@@ -367,7 +369,7 @@ moved_words n n' rule w w' (through h x) =
     let u = width_through n' t.1 in
     (t.0, by (takum n w) u.0 u.1 x)
   where
-    by : (t : Takum) → 2 ≤ n' → n' ≤ 64 → IsMoved n' rule t (Answer.Word w') → IsWord n' w'
+    by : (t : Takum) → 2 ≤ n' → n' ≤ 64 → IsMoved n' rule t (Ok w') → IsWord n' w'
     by (real z) lo hi y = written_word n' lo hi rule (is_negative z) (nat_abs z) 1 w' y
     by NaR lo hi y = subst (IsWord n') (sym (ap word_of y)) (the_NaR_word n' lo hi).0
 
@@ -381,7 +383,7 @@ pub a_move_says_what_writing_says : promise.AMoveSaysWhatWritingSays
 unfolding promise.AMoveSaysWhatWritingSays AMoveIsAReadingAndAWriting MovesAndSays WritesAndSays Says KindSays Reads IsKind numerator denominator
 a_move_says_what_writing_says n n' w rule a v r i x says y = record { answers = a_move_is_a_reading_and_a_writing n n' w rule a v (plain r) i x says y.answers; says = λ w' s e. by a.kind w' s (answered (word_passes n w i) x).what says e }
   where
-    by : (k : Kind) (w' : ℕ) (s : Saying) → IsKind (takum n w) (fraction_bits n w) k → KindSays k v → r ≡ Written.Word w' s → nearest.Says n' v.negative (numerator v) (denominator v) w' s
+    by : (k : Kind) (w' : ℕ) (s : Saying) → IsKind (takum n w) (fraction_bits n w) k → KindSays k v → r ≡ written w' s → nearest.Says n' v.negative (numerator v) (denominator v) w' s
     by Kind.Zero w' s zero_read says e =
         let i' = (moved_words n n' rule w w' (subst (Moves n n' rule w) (ap plain e) y.answers)).1 in
         let nothing = zero_value n' i'.least i'.most v.negative in
@@ -389,10 +391,10 @@ a_move_says_what_writing_says n n' w rule a v r i x says y = record { answers = 
         subst₂ (nearest.Says n' v.negative (numerator v) (denominator v)) (sym given.0) (sym given.1) (size_exact n' i'.least i'.most v.negative 0 (numerator v) (denominator v) 0 nothing (zero-mul (denominator v) ∙ sym (no_numerator v says)))
     by (Kind.Number t h m p) w' s read says e = subst (λ (v : Value). nearest.Says n' v.negative (numerator v) (denominator v) w' s) (sym says) (said_number n' w' s (takum n w) _ t h m p read (y.says w' s e))
     by Kind.Nar w' s x says e = absurd says
-    by (Kind.Refused q) w' s x says e = absurd says
+    by (Err q) w' s x says e = absurd says
 
 -- ---- past the end
-end_word : (n : ℕ) → 2 ≤ n → n ≤ 64 → (m : Meant) (w : ℕ) → IsFraction m → Answered n Rule.Rounded m (Written.Word w PastTheEnd)
+end_word : (n : ℕ) → 2 ≤ n → n ≤ 64 → (m : Meant) (w : ℕ) → IsFraction m → Answered n Rule.Rounded m (written w PastTheEnd)
     → (negative : Bool) × (a b z : ℕ) × (m ≡ number negative a b) × ((HasValue n false z (largest n) × (z * b < a) × (w ≡ of_sign n negative (largest n))) ⊎ (HasValue n false z (smallest n) × (a < z * b) × (w ≡ of_sign n negative (smallest n))))
 unfolding IsFraction Answered IsWritten nearest.Says largest smallest of_sign places.word_of
 end_word n lo hi nar w some x = absurd (omega (arith, ap saying_number (same_word x).1))
@@ -407,7 +409,7 @@ end_word n lo hi (number s a b) w some x = by (x.says w PastTheEnd refl) x.answe
 
 pub past_the_end_is_said_of_the_end_word : promise.PastTheEndIsSaidOfTheEndWord
 unfolding promise.PastTheEndIsSaidOfTheEndWord
-past_the_end_is_said_of_the_end_word n o w i lo hi x = end_word n lo hi (meant o) w (is_fraction o) (writes_meant n lo hi Rule.Rounded o (Written.Word w PastTheEnd) i x)
+past_the_end_is_said_of_the_end_word n o w i lo hi x = end_word n lo hi (meant o) w (is_fraction o) (writes_meant n lo hi Rule.Rounded o (written w PastTheEnd) i x)
 
 -- ---- negation
 -- what is meant by the opposite: the other sign, unless it is zero, which may keep its own
@@ -451,41 +453,41 @@ opposite_fit (short s m k) i = tt
 opposite_fit (size s) i = tt
 opposite_fit (long v) i = tt
 
-opposite_said : (n : ℕ) → 2 ≤ n → n ≤ 64 → (m m' : Meant) (w : ℕ) (s : Saying) (r : Written) → IsFraction m → AreOpposite m m' → Answered n Rule.Rounded m (Written.Word w s) → Answered n Rule.Rounded m' r → r ≡ Written.Word (negated n w) (opposite_saying s)
+opposite_said : (n : ℕ) → 2 ≤ n → n ≤ 64 → (m m' : Meant) (w : ℕ) (s : Saying) (r : Answer Written) → IsFraction m → AreOpposite m m' → Answered n Rule.Rounded m (written w s) → Answered n Rule.Rounded m' r → r ≡ written (negated n w) (opposite_saying s)
 unfolding AreOpposite IsFraction Answered HasTheMeaning nar_word
 opposite_said n lo hi (number t a b) m' w s r some (inl e) x y = other_sign n lo hi t a b w s r some x (subst (λ (m : Meant). Answered n Rule.Rounded m r) e y)
 opposite_said n lo hi (number t a b) m' w s r some (inr (q, e)) x y =
     let nothing : HasTheMeaning n (number t a b) 0 = record { z = 0; is = zero_value n lo hi t; same = zero-mul b ∙ sym q } in
-    let first = same_word (meaning_said n lo hi Rule.Rounded (number t a b) 0 (Written.Word w s) some nothing x) in
-    meaning_said n lo hi Rule.Rounded (number t a b) 0 r some nothing (subst (λ (m : Meant). Answered n Rule.Rounded m r) e y) ∙ sym (ap₂ Written.Word (ap (negated n) first.0 ∙ negated_zero n) (ap opposite_saying first.1))
+    let first = same_word (meaning_said n lo hi Rule.Rounded (number t a b) 0 (written w s) some nothing x) in
+    meaning_said n lo hi Rule.Rounded (number t a b) 0 r some nothing (subst (λ (m : Meant). Answered n Rule.Rounded m r) e y) ∙ sym (ap₂ written (ap (negated n) first.0 ∙ negated_zero n) (ap opposite_saying first.1))
 opposite_said n lo hi nar m' w s r some e x y =
     let first = same_word x in
     let itself : negated n (nar_word n) ≡ nar_word n = negated_other n (nar_word n) (pow_pos (n - 1)) (omega (arith, twice n lo, pow_pos (n - 1))) ∙ omega (arith, twice n lo) in
-    subst (λ (m : Meant). Answered n Rule.Rounded m r) e y ∙ sym (ap₂ Written.Word (ap (negated n) first.0 ∙ itself) (ap opposite_saying first.1))
+    subst (λ (m : Meant). Answered n Rule.Rounded m r) e y ∙ sym (ap₂ written (ap (negated n) first.0 ∙ itself) (ap opposite_saying first.1))
 
 pub negating_exchanges_below_and_above : promise.NegatingExchangesBelowAndAbove
 unfolding promise.NegatingExchangesBelowAndAbove
 negating_exchanges_below_and_above n o w s r i lo hi x y =
-    opposite_said n lo hi (meant o) (meant (opposite o)) w s r (is_fraction o) (opposite_meant o i) (writes_meant n lo hi Rule.Rounded o (Written.Word w s) i x) (writes_meant n lo hi Rule.Rounded (opposite o) r (opposite_fit o i) y)
+    opposite_said n lo hi (meant o) (meant (opposite o)) w s r (is_fraction o) (opposite_meant o i) (writes_meant n lo hi Rule.Rounded o (written w s) i x) (writes_meant n lo hi Rule.Rounded (opposite o) r (opposite_fit o i) y)
 
 -- ---- columns
 -- a column that was moved: its answer, what its results hold, and what it counts
 module _ (n n' : ℕ) (rule : Rule) (words before after : List ℕ) (a : MovedColumn) (count : ℕ) (x : Moved n n' rule words before after a count) where
-  answers_moved : MovesColumn n n' rule words (length before) (Column.Moved count)
+  answers_moved : MovesColumn n n' rule words (length before) (Ok count)
   answers_moved = subst (MovesColumn n n' rule words (length before)) x.moved x.answers
 
-  holds_moved : Holds n n' rule words before (Column.Moved count) after
+  holds_moved : Holds n n' rule words before (Ok count) after
   unfolding HoldsAndCounts
-  holds_moved = subst (λ (c : Column). Holds n n' rule words before c after) x.moved x.holds.0
+  holds_moved = subst (λ (c : ListAnswer ℕ). Holds n n' rule words before c after) x.moved x.holds.0
 
   counts_kept : Counts (KeepsTheMeaning n n' words after) count a.exact
   unfolding HoldsAndCounts CountsExact
-  counts_kept = subst (λ (c : Column). CountsExact n n' words after c a.exact) x.moved x.holds.1
+  counts_kept = subst (λ (c : ListAnswer ℕ). CountsExact n n' words after c a.exact) x.moved x.holds.1
 
   all_words : count ≡ length words
   all_words = every_word_counted n n' rule words before count after answers_moved holds_moved
 
-  each_moved : (i : ℕ) → i < count → Moves n n' rule (get_or words i 0) (Answer.Word (get_or after i 0))
+  each_moved : (i : ℕ) → i < count → Moves n n' rule (get_or words i 0) (Ok (get_or after i 0))
   each_moved i l = word_at n n' rule words before count after answers_moved holds_moved i (omega (arith, l, all_words))
 
   -- all are counted exactly where each keeps the meaning
@@ -495,7 +497,7 @@ module _ (n n' : ℕ) (rule : Rule) (words before after : List ℕ) (a : MovedCo
 pub a_column_counts_what_its_moves_say : promise.AColumnCountsWhatItsMovesSay
 unfolding promise.AColumnCountsWhatItsMovesSay MovesAndSays KeepsTheMeaning
 a_column_counts_what_its_moves_say n n' rule words before after a count x =
-    subst (λ (k : ℕ). Counts (λ i. MovesAndSays n n' rule (get_or words i 0) (Written.Word (get_or after i 0) Exact)) k a.exact) (all_words n n' rule words before after a count x)
+    subst (λ (k : ℕ). Counts (λ i. MovesAndSays n n' rule (get_or words i 0) (written (get_or after i 0) Exact)) k a.exact) (all_words n n' rule words before after a count x)
     (counts_alike (λ i l q. word_said (get_or after i 0) Exact (each_moved n n' rule words before after a count x i l) (means_exact n n' (get_or words i 0) (get_or after i 0) q)) (λ i l y. exact_means n n' rule (get_or words i 0) (get_or after i 0) y.answers (y.says (get_or after i 0) Exact refl)) (counts_kept n n' rule words before after a count x))
 
 pub a_strict_column_is_exact_throughout : promise.AStrictColumnIsExactThroughout
@@ -506,14 +508,14 @@ pub a_wider_column_is_exact_throughout : promise.AWiderColumnIsExactThroughout
 unfolding promise.AWiderColumnIsExactThroughout KeepsTheMeaning WiderNeverChangesNorRefuses word_of
 a_wider_column_is_exact_throughout n more rule words before after a count room x = all_kept n (n + more) rule words before after a count x (λ i l.
     let y = each_moved n (n + more) rule words before after a count x i l in
-    let t = wider_never_changes_nor_refuses n more (get_or words i 0) rule (Answer.Word (get_or after i 0)) room (moved_words n (n + more) rule (get_or words i 0) (get_or after i 0) y).0 y in
+    let t = wider_never_changes_nor_refuses n more (get_or words i 0) rule (Ok (get_or after i 0)) room (moved_words n (n + more) rule (get_or words i 0) (get_or after i 0) y).0 y in
     ap (takum (n + more)) (ap word_of t.0) ∙ t.1)
 
 pub all_are_exact_where_strict_moves_them : promise.AllAreExactWhereStrictMovesThem
 unfolding promise.AllAreExactWhereStrictMovesThem MovesColumn IsTried Movable MovableUpTo KeepsTheMeaning GivesAWord word_of
-all_are_exact_where_strict_moves_them n n' words before after a count strict x y = (λ q. none_refused q strict (tried strict y), λ k q. each_kept k (tried (Column.Moved k) (subst (MovesColumn n n' Rule.Strict words (length before)) q y)))
+all_are_exact_where_strict_moves_them n n' words before after a count strict x y = (λ q. none_refused q strict (tried strict y), λ k q. each_kept k (tried (Ok k) (subst (MovesColumn n n' Rule.Strict words (length before)) q y)))
   where
-    tried : (c : Column) → MovesColumn n n' Rule.Strict words (length before) c → IsTried n n' Rule.Strict words c
+    tried : (c : ListAnswer ℕ) → MovesColumn n n' Rule.Strict words (length before) c → IsTried n n' Rule.Strict words c
     tried c y = let t = moved_passed n n' Rule.Rounded words before count after (answers_moved n n' Rule.Rounded words before after a count x) (holds_moved n n' Rule.Rounded words before after a count x) in
         answered (passes n n' (length words) (length before) t.source t.target t.fits) y
 
@@ -521,29 +523,29 @@ all_are_exact_where_strict_moves_them n n' words before after a count strict x y
     kept : (i : ℕ) → i < count → Movable n n' Rule.Strict (get_or words i 0) → KeepsTheMeaning n n' words after i
     kept i l (w', z) =
         let k = strict_keeps n n' (get_or words i 0) w' z in
-        let same = ap word_of (moved_to_the_same n n' (get_or words i 0) w' Rule.Rounded (Answer.Word (get_or after i 0)) k.from k.to k.same (each_moved n n' Rule.Rounded words before after a count x i l)) in
+        let same = ap word_of (moved_to_the_same n n' (get_or words i 0) w' Rule.Rounded (Ok (get_or after i 0)) k.from k.to k.same (each_moved n n' Rule.Rounded words before after a count x i l)) in
         ap (takum n') same ∙ k.same
 
     -- a word that means the same is what the strict move gives
-    given : (i : ℕ) (r : Answer) → i < count → KeepsTheMeaning n n' words after i → Moves n n' Rule.Strict (get_or words i 0) r → r ≡ Answer.Word (get_or after i 0)
+    given : (i : ℕ) (r : Answer ℕ) → i < count → KeepsTheMeaning n n' words after i → Moves n n' Rule.Strict (get_or words i 0) r → r ≡ Ok (get_or after i 0)
     given i r l q z = let t = moved_words n n' Rule.Rounded (get_or words i 0) (get_or after i 0) (each_moved n n' Rule.Rounded words before after a count x i l) in
         moved_to_the_same n n' (get_or words i 0) (get_or after i 0) Rule.Strict r t.0 t.1 q z
 
-    none_refused : a.exact ≡ count → (c : Column) → IsTried n n' Rule.Strict words c → c ≡ Column.Moved count
-    none_refused q (Column.Moved k) z = ap Column.Moved (z.0 ∙ sym (all_words n n' Rule.Rounded words before after a count x))
-    none_refused q (Column.Refused u) z = absurd z
-    none_refused q (Column.RefusedAt position u) z =
+    none_refused : a.exact ≡ count → (c : ListAnswer ℕ) → IsTried n n' Rule.Strict words c → c ≡ Ok count
+    none_refused q (Ok k) z = ap Ok (z.0 ∙ sym (all_words n n' Rule.Rounded words before after a count x))
+    none_refused q (Err (ListRefusal.Whole u)) z = absurd z
+    none_refused q (Err (ListRefusal.At position u)) z =
         let l : position < count = omega (arith, z.inside, all_words n n' Rule.Rounded words before after a count x) in
-        absurd (subst GivesAWord (sym (given position (Answer.Refused u) l (counted_all (counts_kept n n' Rule.Rounded words before after a count x) q position l) z.is)) tt)
+        absurd (subst GivesAWord (sym (given position (Err u) l (counted_all (counts_kept n n' Rule.Rounded words before after a count x) q position l) z.is)) tt)
 
-    each_kept : (k : ℕ) → IsTried n n' Rule.Strict words (Column.Moved k) → a.exact ≡ count
+    each_kept : (k : ℕ) → IsTried n n' Rule.Strict words (Ok k) → a.exact ≡ count
     each_kept k z = all_kept n n' Rule.Rounded words before after a count x (λ i l. kept i l (z.1 i (omega (arith, l, z.0, all_words n n' Rule.Rounded words before after a count x))))
 
 pub a_refused_column_counts_none : promise.ARefusedColumnCountsNone
 unfolding promise.ARefusedColumnCountsNone HoldsAndCounts CountsExact
 a_refused_column_counts_none n n' rule words before after a x f = by a.answer f x.1
   where
-    by : (c : Column) → ((count : ℕ) → c ≡ Column.Moved count → ⊥) → CountsExact n n' words after c a.exact → a.exact ≡ 0
-    by (Column.Moved count) f z = absurd (f count refl)
-    by (Column.Refused q) f z = z
-    by (Column.RefusedAt position q) f z = z
+    by : (c : ListAnswer ℕ) → ((count : ℕ) → c ≡ Ok count → ⊥) → CountsExact n n' words after c a.exact → a.exact ≡ 0
+    by (Ok count) f z = absurd (f count refl)
+    by (Err (ListRefusal.Whole q)) f z = z
+    by (Err (ListRefusal.At position q)) f z = z

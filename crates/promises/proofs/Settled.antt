@@ -1,5 +1,8 @@
 -- A positive word is the nearest to a / b where neither of the words beside it is nearer, and its size tells which way it went: tests that are computed,
 -- and what follows from them. Assumes nothing.
+use Rattle.std.specs.Prelude.{Ok, Err}
+use Rattle.bounds.specs.Refusals.{passed, Answer}
+use Rattle.bounds.specs.Sayings.{written}
 use mathlib.Core.Path.{◌≡◌, refl, sym, ap, ◌∙◌, subst, subst₂}
 use mathlib.Core.Bool.{Bool, true, false, ◌&&◌, ◌||◌}
 use mathlib.Core.Logic.{◌⊎◌, inl, inr, ⊎_elim}
@@ -8,7 +11,6 @@ use native.Mathlib.Nat.{zero-lt-suc, le_of_eq, lt_of_le_of_lt, lt_of_lt_of_le, m
 use native.Mathlib.Omega.{arith}
 use lib.Dec.{T, eqb, leb, ltb, eqb→eq, leb→le, ltb→lt}
 use lib.IntN.{nat_abs}
-use Rattle.bounds.specs.declared.answer.Answer.{Answer}
 use Rattle.bounds.specs.declared.answer.Written.{Written}
 use Rattle.bounds.specs.declared.saying.Saying.{Saying}
 use Rattle.bounds.specs.declared.saying.Saying.TheVariants.{Exact, Below, Above, PastTheEnd}
@@ -200,7 +202,7 @@ settled_is n true a b w q some t =
     )
 
 -- so this is answered, and this is said
-pub answered_so : (n : ℕ) (s : Bool) (a b w : ℕ) (q : Saying) → 0 < b → T (settled n s a b w q) → AndSays (λ (r : Answer). Decided (width_test n) (λ p. r ≡ Answer.Refused p) (IsWritten n Rule.Rounded s a b r)) (Says n s a b) (Written.Word w q)
+pub answered_so : (n : ℕ) (s : Bool) (a b w : ℕ) (q : Saying) → 0 < b → T (settled n s a b w q) → AndSays (λ (r : Answer ℕ). Decided (width_test n) (λ p. r ≡ Err p) (IsWritten n Rule.Rounded s a b r)) (Says n s a b) (written w q)
 unfolding IsWritten
 answered_so n s a b w q some t =
     let x = settled_is n s a b w q some t in
@@ -215,13 +217,13 @@ meaning_settled n NaR w q = false
 unfoldable pub move_settled : ℕ → ℕ → ℕ → ℕ → Saying → Bool
 move_settled n w n' w' q = is_word n w && meaning_settled n' (takum n w) w' q
 
-pub moved_so : (n w n' w' : ℕ) (q : Saying) → T (move_settled n w n' w' q) → MovesAndSays n n' Rule.Rounded w (Written.Word w' q)
+pub moved_so : (n w n' w' : ℕ) (q : Saying) → T (move_settled n w n' w' q) → MovesAndSays n n' Rule.Rounded w (written w' q)
 unfolding move_settled meaning_settled MovesAndSays Moves IsMoved SaysMoved IsWritten
 moved_so n w n' w' q t =
     let u = both (is_word n w) (meaning_settled n' (takum n w) w' q) t in
     let x = by (takum n w) u.1 in
     word_said w' q (through (move_passes n n' w (word_is n w u.0) x.0.least x.0.most) x.1) x.2
   where
-    by : (t : Takum) → T (meaning_settled n' t w' q) → IsWord n' w' × IsMoved n' Rule.Rounded t (Answer.Word w') × SaysMoved n' t w' q
+    by : (t : Takum) → T (meaning_settled n' t w' q) → IsWord n' w' × IsMoved n' Rule.Rounded t (Ok w') × SaysMoved n' t w' q
     by (real z) t = let x = settled_is n' (is_negative z) (nat_abs z) 1 w' q (zero-lt-suc 0) t in (x.1.is.word, other x.0 x.1, x.2)
     by NaR t = absurd t

@@ -1,4 +1,9 @@
 -- The promises that specs/Sheets.antt states, from the laws of blocks and of columns. Assumes nothing.
+use Rattle.std.specs.Prelude.{Ok, Err}
+use Rattle.bounds.specs.declared.refusal.ListRefusal.{ListRefusal}
+use Rattle.bounds.specs.Refusals.{passed, ListAnswer}
+use Rattle.std.specs.Prelude.{⊤}
+use Rattle.bounds.specs.Sayings.{written}
 use mathlib.Core.Path.{◌≡◌, refl, sym, ap, ap₂, ◌∙◌, subst, subst₂}
 use mathlib.Core.List.{List, ◌++◌}
 use mathlib.Core.Logic.{◌⊎◌, inl, inr}
@@ -7,17 +12,14 @@ use native.Mathlib.Omega.{arith}
 use lib.ListN.{length, get_or, take, drop}
 use lib.Seq.{take-append_seam, get_or-take}
 use Rattle.bounds.specs.declared.refusal.Refusal.{Refusal}
-use Rattle.bounds.specs.declared.refusal.Verdict.{Verdict}
 use Rattle.bounds.specs.Refusals.{stray_test, through, refused}
 use Rattle.bounds.proofs.Verdicts.{stray_fits}
 use Rattle.round.specs.declared.value.Rule.{Rule}
 use Rattle.write.proofs.Moves.{strict_keeps}
-use Rattle.column.specs.declared.moving.Column.{Column}
 use Rattle.column.specs.Columns.{MovesColumn, Holds}
 use Rattle.column.proofs.Positions.{every_word_counted, word_at}
 use Rattle.column.proofs.Strict.{column_comes_home, results_counted}
 use Rattle.sheet.specs.declared.block.Block.{Block}
-use Rattle.sheet.specs.declared.writing.Writing.{Writing}
 use Rattle.sheet.specs.Layout.{AreBytes, width, block_number, words}
 use Rattle.sheet.specs.Reads.{block_test}
 use Rattle.sheet.specs.Writes.{IsBlockOf, IsTried, WritesBlock, FillsBuffer}
@@ -32,13 +34,13 @@ use Rattle.promises.specs.Sheets.{BlockIsWritten, BlockIsRead}
 
 pub a_refused_write_leaves_the_buffer : promise.ARefusedWriteLeavesTheBuffer
 unfolding promise.ARefusedWriteLeavesTheBuffer FillsBuffer
-a_refused_write_leaves_the_buffer n number words before after Writing.Written x f = absurd (f refl)
-a_refused_write_leaves_the_buffer n number words before after (Writing.Refused q) x f = x
-a_refused_write_leaves_the_buffer n number words before after (Writing.RefusedAt position q) x f = x
+a_refused_write_leaves_the_buffer n number words before after Ok tt x f = absurd (f refl)
+a_refused_write_leaves_the_buffer n number words before after (Err (ListRefusal.Whole q)) x f = x
+a_refused_write_leaves_the_buffer n number words before after (Err (ListRefusal.At position q)) x f = x
 
 -- ---- written, then read
 -- what the answer tells of the content
-let_through : (n : ℕ) (words buffer : List ℕ) → WritesBlock n words buffer Writing.Written → Fitting n (length words) buffer
+let_through : (n : ℕ) (words buffer : List ℕ) → WritesBlock n words buffer Ok tt → Fitting n (length words) buffer
 unfolding WritesBlock
 let_through n words buffer (through h x) = fitting n (length words) buffer h
 let_through n words buffer (refused h e) = let z : ◌≡◌ {A = ℕ} 0 1 = cc in absurd (omega arith)
@@ -51,7 +53,7 @@ a_written_block_reads_back n number words before block w results filled a room r
 
 -- ---- read, then written
 -- a block that is read has the content
-read_content : (block : List ℕ) (n number : ℕ) (content : List ℕ) → BlockIsRead block n number content → (places : ℕ) × (block_test block places ≡ Verdict.Through) × (n ≡ width block) × (number ≡ block_number block) × (content ≡ words block)
+read_content : (block : List ℕ) (n number : ℕ) (content : List ℕ) → BlockIsRead block n number content → (places : ℕ) × (block_test block places ≡ passed) × (n ≡ width block) × (number ≡ block_number block) × (content ≡ words block)
 read_content block n number content r =
     let t = was_read block (length r.before) n number (length content) r.answer in
     (length r.before, t.0, t.1, t.3, sym r.first ∙ ap (take (length content)) (holds block r.before r.after n number (length content) r.answer r.results) ∙ ap (λ (k : ℕ). take k (words block ++ drop (length content) r.before)) (t.2 ∙ sym (words_length block)) ∙ take-append_seam (words block) (drop (length content) r.before))
@@ -65,8 +67,8 @@ pub an_accepted_block_is_what_the_writer_makes : promise.AnAcceptedBlockIsWhatTh
 unfolding promise.AnAcceptedBlockIsWhatTheWriterMakes FillsBuffer
 an_accepted_block_is_what_the_writer_makes block n number content bytes r wide before after a size x y =
     let t = read_content block n number content r in
-    let written : a ≡ Writing.Written = is_written block t.0 bytes t.1 (λ e. not_8 wide (t.2 ∙ e)) before a size (subst₂ (λ (w : ℕ) (l : List ℕ). WritesBlock w l before a) t.2 t.4 x) in
-    (written, same_bytes n number content after block (subst (λ (b : Writing). FillsBuffer n number content before b after) written y) (is_block_of_read block n number content bytes r))
+    let written : a ≡ Ok tt = is_written block t.0 bytes t.1 (λ e. not_8 wide (t.2 ∙ e)) before a size (subst₂ (λ (w : ℕ) (l : List ℕ). WritesBlock w l before a) t.2 t.4 x) in
+    (written, same_bytes n number content after block (subst (λ (b : ListAnswer ⊤). FillsBuffer n number content before b after) written y) (is_block_of_read block n number content bytes r))
   where
     not_8 : (n ≡ 16) ⊎ ((n ≡ 32) ⊎ (n ≡ 64)) → n ≡ 8 → ⊥
     not_8 (inl e) h = omega (arith, e, h)
@@ -78,28 +80,28 @@ unfolding promise.TheSameContentIsTheSameBytes
 the_same_content_is_the_same_bytes one other n number content bytes bytes' r r' = same_bytes n number content one other (is_block_of_read one n number content bytes r) (is_block_of_read other n number content bytes' r')
 
 -- ---- there and back through a sheet
-module _ (n n' : ℕ) (column before : List ℕ) (n_moved : ℕ) (moved : List ℕ) (x : MovesColumn n n' Rule.Strict column (length before) (Column.Moved n_moved)) (y : Holds n n' Rule.Strict column before (Column.Moved n_moved) moved) where
+module _ (n n' : ℕ) (column before : List ℕ) (n_moved : ℕ) (moved : List ℕ) (x : MovesColumn n n' Rule.Strict column (length before) (Ok n_moved)) (y : Holds n n' Rule.Strict column before (Ok n_moved) moved) where
   -- a moved word is a word of its new width
-  none_stray : (i : ℕ) → i < n_moved → stray_test n' (get_or (take n_moved moved) i 0) ≡ Verdict.Through
+  none_stray : (i : ℕ) → i < n_moved → stray_test n' (get_or (take n_moved moved) i 0) ≡ passed
   none_stray i h =
       let counted = every_word_counted n n' Rule.Strict column before n_moved moved x y in
       let kept = strict_keeps n n' (get_or column i 0) (get_or moved i 0) (word_at n n' Rule.Strict column before n_moved moved x y i (subst (λ (k : ℕ). i < k) counted h)) in
       stray_fits n' _ (subst (λ (w : ℕ). w < 2 ^ n') (sym (get_or-take n_moved moved i 0 h)) kept.to.fits)
 
   -- so a write of them that isn't refused as a whole is made
-  is_made : (buffer : List ℕ) (w : Writing) → length (take n_moved moved) ≡ n_moved → WritesBlock n' (take n_moved moved) buffer w → ((q : Refusal) → w ≡ Writing.Refused q → ⊥) → w ≡ Writing.Written
+  is_made : (buffer : List ℕ) (w : ListAnswer ⊤) → length (take n_moved moved) ≡ n_moved → WritesBlock n' (take n_moved moved) buffer w → ((q : Refusal) → w ≡ Err (ListRefusal.Whole q) → ⊥) → w ≡ Ok tt
   unfolding WritesBlock IsTried
-  is_made buffer Writing.Written counted z none = refl
-  is_made buffer (Writing.Refused q) counted z none = absurd (none q refl)
-  is_made buffer (Writing.RefusedAt p q) counted (through h t) none = absurd (not_both (none_stray p (subst (λ (k : ℕ). p < k) counted t.0)) t.2)
-  is_made buffer (Writing.RefusedAt p q) counted (refused {q = q'} h e) none = absurd (none q' e)
+  is_made buffer Ok tt counted z none = refl
+  is_made buffer (Err (ListRefusal.Whole q)) counted z none = absurd (none q refl)
+  is_made buffer (Err (ListRefusal.At p q)) counted (through h t) none = absurd (not_both (none_stray p (subst (λ (k : ℕ). p < k) counted t.0)) t.2)
+  is_made buffer (Err (ListRefusal.At p q)) counted (refused {q = q'} h e) none = absurd (none q' e)
 
 pub strict_columns_come_home_through_a_sheet : promise.StrictColumnsComeHomeThroughASheet
 unfolding promise.StrictColumnsComeHomeThroughASheet promise.AWrittenBlockReadsBack
 strict_columns_come_home_through_a_sheet n n' column before moved n_moved x y number buffer block w wb fb none results read b room r f before' home a room' m h =
     let counted = results_counted n n' column before n_moved moved x y Rule.Strict before' room' in
-    let made : w ≡ Writing.Written = is_made n n' column before n_moved moved x y buffer w counted wb none in
-    let written : BlockIsWritten n' number (take n_moved moved) buffer block = record { answer = subst (WritesBlock n' (take n_moved moved) buffer) made wb; buffer = subst (λ (v : Writing). FillsBuffer n' number (take n_moved moved) buffer v block) made fb } in
+    let made : w ≡ Ok tt = is_made n n' column before n_moved moved x y buffer w counted wb none in
+    let written : BlockIsWritten n' number (take n_moved moved) buffer block = record { answer = subst (WritesBlock n' (take n_moved moved) buffer) made wb; buffer = subst (λ (v : ListAnswer ⊤). FillsBuffer n' number (take n_moved moved) buffer v block) made fb } in
     let back = a_written_block_reads_back n' number (take n_moved moved) buffer block written results read b (subst (λ (k : ℕ). k ≤ length results) (sym counted) room) r f in
     let same : take n_moved read ≡ take n_moved moved = ap₂ take (sym counted) back.1 ∙ take-append_seam (take n_moved moved) (drop (length (take n_moved moved)) results) in
     let home_again = column_comes_home n n' column before n_moved moved x y Rule.Strict before' room' a home (subst (λ (l : List ℕ). MovesColumn n' n Rule.Strict l (length before') a) same m) (subst (λ (l : List ℕ). Holds n' n Rule.Strict l before' a home) same h) in

@@ -1,4 +1,6 @@
 -- The promises that specs/Shortest.antt states, from the laws of the shortest width. Assumes nothing.
+use Rattle.std.specs.Prelude.{Ok, Err}
+use Rattle.bounds.specs.Refusals.{passed, Answer}
 use mathlib.Core.Path.{◌≡◌, refl, sym, ap, ◌∙◌, subst}
 use mathlib.Core.Bool.{◌&&◌}
 use mathlib.Core.Logic.{◌⊎◌, inl, inr}
@@ -11,10 +13,7 @@ use borrow.Author.Tests.{ltb-true, leb-true}
 use lib.Dec.{eqb, leb, ltb, lit<, lit≤}
 use lib.IntN.{ℤ, pos, negsuc, nat_abs}
 use lib.Pow.{pow_pos}
-use Rattle.bounds.specs.declared.answer.Answer.{Answer}
 use Rattle.bounds.specs.declared.refusal.Refusal.{Refusal}
-use Rattle.bounds.specs.declared.refusal.Verdict.{Verdict}
-use Rattle.bounds.specs.declared.width.Made.{Made}
 use Rattle.bounds.proofs.Limits.{exponent_lt}
 use Rattle.bounds.proofs.Powers.{not_more}
 use Rattle.bounds.proofs.Verdicts.{open_when}
@@ -59,20 +58,20 @@ unfolding promise.EveryGreaterWidthHasAWord GivesShortest HasWord IsWhole
 every_greater_width_has_a_word x n y k le hi = wider_has x n k le hi y.has
 
 -- an answer is a width, or INEXACT
-refused_so : (x : ℤ) (q : Refusal) → GivesShortest x (Made.Refused q) → RefusedAs Made Made.Refused 4 (Made.Refused q)
+refused_so : (x : ℤ) (q : Refusal) → GivesShortest x (Err q) → RefusedAs (Answer Width) Err 4 (Err q)
 unfolding GivesShortest
-refused_so x q y = record { q = Refusal.Inexact; is = ap Made.Refused y.0; known = refl }
+refused_so x q y = record { q = Refusal.Inexact; is = ap Err y.0; known = refl }
 
 pub a_number_is_refused_exactly_where_no_width_has_a_word : promise.ANumberIsRefusedExactlyWhereNoWidthHasAWord
 unfolding promise.ANumberIsRefusedExactlyWhereNoWidthHasAWord GivesShortest HasWord IsWhole
-a_number_is_refused_exactly_where_no_width_has_a_word x (Made.Width n) y = inl (n.bits, y.has.0, refl, y.least, y.most, y.has.1)
-a_number_is_refused_exactly_where_no_width_has_a_word x (Made.Refused q) y = inr (refused_so x q y, λ n w lo hi v. y.1 n lo hi (w, v))
+a_number_is_refused_exactly_where_no_width_has_a_word x (Ok n) y = inl (n.bits, y.has.0, refl, y.least, y.most, y.has.1)
+a_number_is_refused_exactly_where_no_width_has_a_word x (Err q) y = inr (refused_so x q y, λ n w lo hi v. y.1 n lo hi (w, v))
 
 pub strict_writing_begins_at_the_answered_width : promise.StrictWritingBeginsAtTheAnsweredWidth
 unfolding promise.StrictWritingBeginsAtTheAnsweredWidth promise.NoSmallerWidthHasAWord promise.EveryGreaterWidthHasAWord GivenOrInexact numbers.AWholeNumberIsRefusedExactlyWhereItHasNoWord
 strict_writing_begins_at_the_answered_width x n k r y lo hi t = by (a_whole_number_is_refused_exactly_where_it_has_no_word k x r lo hi t)
   where
-    by : GivenOrInexact (IsWhole k x) r → (n ≤ k → (w : ℕ) × (r ≡ Answer.Word w)) × (k < n → RefusedAs Answer Answer.Refused 4 r)
+    by : GivenOrInexact (IsWhole k x) r → (n ≤ k → (w : ℕ) × (r ≡ Ok w)) × (k < n → RefusedAs (Answer ℕ) Err 4 r)
     by (inl (w, is, v)) = ((λ le. (w, is)), (λ less. absurd (no_smaller_width_has_a_word x n y k w lo less v)))
     by (inr (is, none)) = ((λ le. let v = every_greater_width_has_a_word x n y k le hi in absurd (none v.0 v.1)), (λ less. is))
 
@@ -95,7 +94,7 @@ length_of_lem m some fits = let k = counted m some fits in
     length_counted m _ _ _ _ _ k (_, first_zeros _ _ k.log_is (omega (arith, k.most)), refl) (_, last_zeros _ k.short, refl)
 
 -- inside signed 64 bits a size is below 2^64
-fits : (x : ℤ) → over_test x ≡ Verdict.Through → nat_abs x < 2 ^ 64
+fits : (x : ℤ) → over_test x ≡ passed → nat_abs x < 2 ^ 64
 unfolding over_test
 fits (pos i) h = omega (arith, ltb-true i (2 ^ 63) (open_when (ltb i (2 ^ 63)) Refusal.Over h))
 fits (negsuc i) h = omega (arith, leb-true (suc i) (2 ^ 63) (open_when (leb (suc i) (2 ^ 63)) Refusal.Over h))
@@ -105,26 +104,26 @@ unfolding promise.EveryNumberHasItsLetters IsLength
 every_number_has_its_letters x inside not_zero = (length_of_lem (nat_abs x) (has_size x not_zero) (fits x inside)).0
 
 -- ---- what is answered for a number whose words begin at l
-abbrev pub ByLength : ℕ → Made → Type 0
-ByLength l a = ((l ≤ 64) × (a ≡ bits l)) ⊎ ((64 < l) × RefusedAs Made Made.Refused 4 a)
+abbrev pub ByLength : ℕ → Answer Width → Type 0
+ByLength l a = ((l ≤ 64) × (a ≡ bits l)) ⊎ ((64 < l) × RefusedAs (Answer Width) Err 4 a)
 
-by_length : (x : ℤ) (l : ℕ) (a : Made) → BeginsAt (nat_abs x) l → GivesShortest x a → ByLength l a
+by_length : (x : ℤ) (l : ℕ) (a : Answer Width) → BeginsAt (nat_abs x) l → GivesShortest x a → ByLength l a
 by_length x l a begins y = by (dec_lt 64 l)
   where
     by : Dec (64 < l) → ByLength l a
-    by (yes past) = inr (past, record { q = Refusal.Inexact; is = gives_shortest_one x a (Made.Refused Refusal.Inexact) y (refused_past x l begins past); known = refl })
+    by (yes past) = inr (past, record { q = Refusal.Inexact; is = gives_shortest_one x a (Err Refusal.Inexact) y (refused_past x l begins past); known = refl })
     by (no f) = inl (not_more f, gives_shortest_one x a (bits l) y (given_at x l begins (not_more f)))
 
-pub is_width : (l : ℕ) (a : Made) → ByLength l a → l ≤ 64 → a ≡ bits l
+pub is_width : (l : ℕ) (a : Answer Width) → ByLength l a → l ≤ 64 → a ≡ bits l
 is_width l a (inl (le, is)) h = is
 is_width l a (inr (past, r)) h = absurd (omega (arith, past, h))
 
-pub is_refused : (l : ℕ) (a : Made) → ByLength l a → 64 < l → RefusedAs Made Made.Refused 4 a
+pub is_refused : (l : ℕ) (a : Answer Width) → ByLength l a → 64 < l → RefusedAs (Answer Width) Err 4 a
 is_refused l a (inl (le, is)) h = absurd (omega (arith, le, h))
 is_refused l a (inr (past, r)) h = r
 
 -- which is the length as it is counted
-pub by_counting : (x : ℤ) (a : Made) → zero < nat_abs x → nat_abs x < 2 ^ 64 → GivesShortest x a → ByLength (length_of (nat_abs x)) a
+pub by_counting : (x : ℤ) (a : Answer Width) → zero < nat_abs x → nat_abs x < 2 ^ 64 → GivesShortest x a → ByLength (length_of (nat_abs x)) a
 unfolding IsLength
 by_counting x a some fits y = let t = length_of_lem (nat_abs x) some fits in by_length x (length_of (nat_abs x)) a (begins_at (nat_abs x) (length_of (nat_abs x)) t.0 fits t.1) y
 
@@ -144,15 +143,15 @@ either_sign x y n q some lo hi w =
     (word_of n s t.v, subst (λ (z : ℕ). HasValue n s z (word_of n s t.v)) (sym t.size_is ∙ ap (λ (i : ℕ). i * 2 ^ 307) q) (has_value n lo hi s t.v t.first t.last))
 
 -- so numbers of one size have one answer
-by_size : (x y : ℤ) (a : Made) → nat_abs x ≡ nat_abs y → zero < nat_abs x → GivesShortest x a → GivesShortest y a
+by_size : (x y : ℤ) (a : Answer Width) → nat_abs x ≡ nat_abs y → zero < nat_abs x → GivesShortest x a → GivesShortest y a
 unfolding GivesShortest
-by_size x y (Made.Width n) q some g = record {
+by_size x y (Ok n) q some g = record {
   least = g.least;
   most = g.most;
   has = either_sign x y n.bits q some g.least g.most g.has;
   none_shorter = λ k lo less w. g.none_shorter k lo less (either_sign y x k (sym q) (subst (λ (i : ℕ). zero < i) q some) lo (omega (arith, less, g.most)) w);
 }
-by_size x y (Made.Refused r) q some g = (g.0, λ n lo hi w. g.1 n lo hi (either_sign y x n (sym q) (subst (λ (i : ℕ). zero < i) q some) lo hi w))
+by_size x y (Err r) q some g = (g.0, λ n lo hi w. g.1 n lo hi (either_sign y x n (sym q) (subst (λ (i : ℕ). zero < i) q some) lo hi w))
 
 pub the_negated_number_needs_as_much : promise.TheNegatedNumberNeedsAsMuch
 unfolding promise.TheNegatedNumberNeedsAsMuch
@@ -188,9 +187,9 @@ up_to_the_limit_a_number_needs_no_more n l x a g le y =
     let k = known n l g in
     by a y k.lo k.hi (every_whole_number_up_to_the_limit_has_a_word n l k.lo k.hi k.limit (nat_abs x) le (is_negative x))
   where
-    by : (a : Made) → GivesShortest x a → 2 ≤ n → n ≤ 64 → HasWord n x → (k : ℕ) × (a ≡ bits k) × (k ≤ n)
-    by (Made.Width k) y lo hi w = (k.bits, refl, not_more (λ (l : n < k.bits). y.none_shorter n lo l w))
-    by (Made.Refused q) y lo hi w = absurd (y.1 n lo hi w)
+    by : (a : Answer Width) → GivesShortest x a → 2 ≤ n → n ≤ 64 → HasWord n x → (k : ℕ) × (a ≡ bits k) × (k ≤ n)
+    by (Ok k) y lo hi w = (k.bits, refl, not_more (λ (l : n < k.bits). y.none_shorter n lo l w))
+    by (Err q) y lo hi w = absurd (y.1 n lo hi w)
 
 pub the_limit_plus_one_needs_more : promise.TheLimitPlusOneNeedsMore
 unfolding promise.TheLimitPlusOneNeedsMore TheLimitPlusOneHasNoWord GivesShortest HasWord
@@ -198,6 +197,6 @@ the_limit_plus_one_needs_more n l x a g is y =
     let k = known n l g in
     by a y k.hi (λ w. the_limit_plus_one_has_no_word n l k.lo k.hi k.limit (is_negative x) w.0 (subst (λ (i : ℕ). HasValue n (is_negative x) (i * 2 ^ 307) w.0) is w.1))
   where
-    by : (a : Made) → GivesShortest x a → n ≤ 64 → (HasWord n x → ⊥) → ((k : ℕ) × (a ≡ bits k) × (n < k)) ⊎ RefusedAs Made Made.Refused 4 a
-    by (Made.Width k) y hi none = inl (k.bits, refl, lt_of_not-le (λ (le : k.bits ≤ n). none (wider_has x k.bits n le hi y.has)))
-    by (Made.Refused q) y hi none = inr (refused_so x q y)
+    by : (a : Answer Width) → GivesShortest x a → n ≤ 64 → (HasWord n x → ⊥) → ((k : ℕ) × (a ≡ bits k) × (n < k)) ⊎ RefusedAs (Answer Width) Err 4 a
+    by (Ok k) y hi none = inl (k.bits, refl, lt_of_not-le (λ (le : k.bits ≤ n). none (wider_has x k.bits n le hi y.has)))
+    by (Err q) y hi none = inr (refused_so x q y)

@@ -1,4 +1,7 @@
 -- The refusals of a column and of a block follow the table. Assumes nothing.
+use Rattle.std.specs.Prelude.{Ok, Err}
+use Rattle.bounds.specs.declared.refusal.ListRefusal.{ListRefusal}
+use Rattle.bounds.specs.Refusals.{passed, Answer, ListAnswer}
 use mathlib.Core.Path.{◌≡◌, refl, sym, ap, ◌∙◌, subst}
 use mathlib.Core.Bool.{Bool, true, false, ◌&&◌, false≢true}
 use mathlib.Core.List.{List, [], ◌∷◌}
@@ -10,15 +13,12 @@ use borrow.Author.Tests.{eqb-true, eqb-false}
 use lib.Dec.{eqb}
 use lib.ListN.{length, get_or, take, length-take, get_or-eq_default}
 use lib.Seq.{slice, get_or-take, get_or-drop}
-use Rattle.bounds.specs.declared.answer.Answer.{Answer}
 use Rattle.bounds.specs.declared.refusal.Refusal.{Refusal}
-use Rattle.bounds.specs.declared.refusal.Verdict.{Verdict}
 use Rattle.bounds.specs.Refusals.{width_test, room_test, unless, ◌then◌, through, refused}
 use Rattle.bounds.proofs.Powers.{not_more}
 use Rattle.bounds.proofs.Verdicts.{both, open_when, width_through, then_through}
 use Rattle.round.specs.declared.value.Rule.{Rule}
 use Rattle.write.specs.Writes.{Moves}
-use Rattle.column.specs.declared.moving.Column.{Column}
 use Rattle.column.specs.Columns.{Movable, MovableUpTo, IsTried, MovesColumn}
 use Rattle.bounds.proofs.Rooms.{room_fits, room_short}
 use Rattle.sheet.specs.declared.block.Block.{Block}
@@ -42,40 +42,40 @@ room_tells count places = by (dec_lt places count)
     by (yes l) = holds (room_short count places l) l
     by (no f) = fails (room_fits count places (not_more f)) f
 
-pub test_room_follows : (count places : ℕ) (a : Verdict) → a ≡ room_test count places → Follows Verdict.Refused a (room count places ∷ [])
+pub test_room_follows : (count places : ℕ) (a : Verdict) → a ≡ room_test count places → Follows Err a (room count places ∷ [])
 unfolding Follows FollowsUpTo
 test_room_follows count places a x = follow Refusal.Room (room_tells count places) (verdict_decided x) (λ e. verdict_none a)
 
 -- ---- a column
-pub column_follows : (n n' : ℕ) (rule : Rule) (words : List ℕ) (places : ℕ) (a : Column) → MovesColumn n n' rule words places a → Follows Column.Refused a (width n ∷ width n' ∷ room (length words) places ∷ [])
+pub column_follows : (n n' : ℕ) (rule : Rule) (words : List ℕ) (places : ℕ) (a : ListAnswer ℕ) → MovesColumn n n' rule words places a → Follows Err (ListRefusal.Whole a) (width n ∷ width n' ∷ room (length words) places ∷ [])
 unfolding Follows FollowsUpTo MovesColumn IsTried
 column_follows n n' rule words places a x =
     follow Refusal.Width (width_tells n) (parts (parts x)) (λ e y. follow Refusal.Width (width_tells n') y (λ e' z. follow Refusal.Room (room_tells (length words) places) z (λ s t q h. subst (IsTried n n' rule words) h t)))
 
 module _ (n n' : ℕ) (rule : Rule) (words : List ℕ) (places : ℕ) (i : ℕ) (inside : i < length words) where
   -- a position has the lines of its move, where the widths are right
-  at_position : (r : Answer) (a : Column) → width_test n ≡ Verdict.Through → width_test n' ≡ Verdict.Through → ((q : Refusal) → r ≡ Answer.Refused q → a ≡ Column.RefusedAt i q) → ((q : Refusal) → a ≡ Column.RefusedAt i q → r ≡ Answer.Refused q)
-      → Moves n n' rule (get_or words i 0) r → Follows (Column.RefusedAt i) a (move_lines n n' rule (get_or words i 0))
+  at_position : (r : Answer ℕ) (a : ListAnswer ℕ) → width_test n ≡ passed → width_test n' ≡ passed → ((q : Refusal) → r ≡ Err q → a ≡ Err (ListRefusal.At i q)) → ((q : Refusal) → a ≡ Err (ListRefusal.At i q) → r ≡ Err q)
+      → Moves n n' rule (get_or words i 0) r → Follows (λ q. Err (ListRefusal.At i q)) a (move_lines n n' rule (get_or words i 0))
   at_position r a e e' to from m =
-      carry Answer.Refused (Column.RefusedAt i) r a _ to from
-      (past Answer.Refused r 1 _ _ (good_width n' (width_through n' e')) (past Answer.Refused r 1 _ _ (good_width n (width_through n e)) (move_follows n n' rule (get_or words i 0) r m)))
+      carry Err (λ q. Err (ListRefusal.At i q)) r a _ to from
+      (past Err r 1 _ _ (good_width n' (width_through n' e')) (past Err r 1 _ _ (good_width n (width_through n e)) (move_follows n n' rule (get_or words i 0) r m)))
 
-  tried : (a : Column) → width_test n ≡ Verdict.Through → width_test n' ≡ Verdict.Through → ((j : ℕ) (q : Refusal) → j < i → a ≡ Column.RefusedAt j q → ⊥) → IsTried n n' rule words a → Follows (Column.RefusedAt i) a (move_lines n n' rule (get_or words i 0))
+  tried : (a : ListAnswer ℕ) → width_test n ≡ passed → width_test n' ≡ passed → ((j : ℕ) (q : Refusal) → j < i → a ≡ Err (ListRefusal.At j q) → ⊥) → IsTried n n' rule words a → Follows (λ q. Err (ListRefusal.At i q)) a (move_lines n n' rule (get_or words i 0))
   unfolding IsTried MovableUpTo Movable
-  tried (Column.Moved count) e e' before x =
+  tried (Ok count) e e' before x =
       let (w', m) = x.1 i (omega (arith, x.0, inside)) in
-      at_position (Answer.Word w') (Column.Moved count) e e' (λ q h. cc) (λ q h. cc) m
-  tried (Column.Refused q) e e' before x = absurd x
-  tried (Column.RefusedAt p q) e e' before x = by (dec_lt p i) (dec_lt i p)
+      at_position (Ok w') (Ok count) e e' (λ q h. cc) (λ q h. cc) m
+  tried (Err (ListRefusal.Whole q)) e e' before x = absurd x
+  tried (Err (ListRefusal.At p q)) e e' before x = by (dec_lt p i) (dec_lt i p)
     where
-      by : Dec (p < i) → Dec (i < p) → Follows (Column.RefusedAt i) (Column.RefusedAt p q) (move_lines n n' rule (get_or words i 0))
+      by : Dec (p < i) → Dec (i < p) → Follows (λ q. Err (ListRefusal.At i q)) (Err (ListRefusal.At p q)) (move_lines n n' rule (get_or words i 0))
       by (yes l) d = absurd (before p q l refl)
-      by (no f) (yes l) = let (w', m) = x.lowest i l in at_position (Answer.Word w') (Column.RefusedAt p q) e e' (λ q' h. cc) (λ q' h. let same : p ≡ i = cc in absurd (omega (arith, same, l))) m
+      by (no f) (yes l) = let (w', m) = x.lowest i l in at_position (Ok w') (Err (ListRefusal.At p q)) e e' (λ q' h. cc) (λ q' h. let same : p ≡ i = cc in absurd (omega (arith, same, l))) m
       by (no f) (no g) =
           let same : p ≡ i = omega (arith, not_more f, not_more g) in
-          at_position (Answer.Refused q) (Column.RefusedAt p q) e e' (λ q' h. cc) (λ q' h. cc) (subst (λ (k : ℕ). Moves n n' rule (get_or words k 0) (Answer.Refused q)) same x.is)
+          at_position (Err q) (Err (ListRefusal.At p q)) e e' (λ q' h. cc) (λ q' h. cc) (subst (λ (k : ℕ). Moves n n' rule (get_or words k 0) (Err q)) same x.is)
 
-  pub position_follows : (a : Column) → MovesColumn n n' rule words places a → ((q : Refusal) → a ≡ Column.Refused q → ⊥) → ((j : ℕ) (q : Refusal) → j < i → a ≡ Column.RefusedAt j q → ⊥) → Follows (Column.RefusedAt i) a (move_lines n n' rule (get_or words i 0))
+  pub position_follows : (a : ListAnswer ℕ) → MovesColumn n n' rule words places a → ((q : Refusal) → a ≡ Err (ListRefusal.Whole q) → ⊥) → ((j : ℕ) (q : Refusal) → j < i → a ≡ Err (ListRefusal.At j q) → ⊥) → Follows (λ q. Err (ListRefusal.At i q)) a (move_lines n n' rule (get_or words i 0))
   unfolding MovesColumn
   position_follows a (through h x) f before =
       let t = then_through (width_test n then width_test n') (room_test (length words) places) h in
@@ -111,7 +111,7 @@ four_tells n = unless_tells Refusal.Width (is_block_width n) (λ e f. none f (is
     no : is_block_width n ≡ false → OneOfFour n → ⊥
     no e h = false≢true (sym e ∙ width_is n h)
 
-pub many_tells : (n count : ℕ) → unless Refusal.Width (is_block_width n) ≡ Verdict.Through → Tells (unless Refusal.Count (has_room_for n count)) Refusal.Count (496 / (n / 8) < count)
+pub many_tells : (n count : ℕ) → unless Refusal.Width (is_block_width n) ≡ passed → Tells (unless Refusal.Count (has_room_for n count)) Refusal.Count (496 / (n / 8) < count)
 many_tells n count e = by (dec_lt (496 / (n / 8)) count)
   where
     four : OneOfFour n
@@ -145,7 +145,7 @@ module _ (b : List ℕ) where
   unfolding sheet.block_width_test
   width_of_block_tells = four_tells (block.width b)
 
-  count_tells : sheet.block_width_test b ≡ Verdict.Through → Tells (count_test b) Refusal.Count (496 / (block.width b / 8) < block.count b)
+  count_tells : sheet.block_width_test b ≡ passed → Tells (count_test b) Refusal.Count (496 / (block.width b / 8) < block.count b)
   unfolding sheet.block_width_test count_test block.end block.word_bytes has_room_for
   count_tells e = many_tells (block.width b) (block.count b) e
 
@@ -166,7 +166,7 @@ module _ (b : List ℕ) where
           by j (yes l) f = (end + j, omega arith, l, λ h. f (sym (inside (end + j) l) ∙ h))
           by j (no g) f = absurd (f (get_or-eq_default (take 504 b) 0 (omega (arith, not_more g, length-take 504 b))))
 
-  pub block_follows : (places : ℕ) (a : Block) → ReadsBlock b places a → Follows Block.Refused a (size b ∷ mark b ∷ check b ∷ block_width b ∷ count b ∷ fill b ∷ room (block.count b) places ∷ [])
+  pub block_follows : (places : ℕ) (a : Block) → ReadsBlock b places a → Follows Err a (size b ∷ mark b ∷ check b ∷ block_width b ∷ count b ∷ fill b ∷ room (block.count b) places ∷ [])
   unfolding Follows FollowsUpTo ReadsBlock block_test
   block_follows places a x =
       follow Refusal.Size size_tells (parts (parts (parts (parts (parts (parts x))))))

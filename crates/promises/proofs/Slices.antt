@@ -1,4 +1,6 @@
 -- The promises that specs/Slices.antt states, from the laws of columns and of blocks. Assumes nothing.
+use Rattle.std.specs.Prelude.{Ok, Err}
+use Rattle.bounds.specs.declared.refusal.ListRefusal.{ListRefusal}
 use mathlib.Core.Path.{◌≡◌, refl, sym, ap, ◌∙◌, subst}
 use mathlib.Core.List.{List}
 use mathlib.Core.Logic.{◌⊎◌, inl, inr}
@@ -9,7 +11,6 @@ use lib.ListN.{length, length-append, length-drop}
 use Rattle.bounds.specs.declared.refusal.Refusal.{Refusal}
 use Rattle.bounds.specs.Refusals.{through, refused}
 use Rattle.bounds.proofs.Verdicts.{refused_as}
-use Rattle.column.specs.declared.moving.Column.{Column}
 use Rattle.column.specs.Columns.{Holds}
 use Rattle.column.proofs.Positions.{every_word_counted, word_at, others_unchanged, first, none_refused_before}
 use Rattle.column.proofs.Strict.{strict_column_keeps}
@@ -26,9 +27,9 @@ use Rattle.promises.proofs.Demands.{reading_is_the_definition}
 
 pub a_refused_column_writes_nothing : promise.ARefusedColumnWritesNothing
 unfolding promise.ARefusedColumnWritesNothing Holds
-a_refused_column_writes_nothing n n' rule words before after (Column.Moved count) x f = absurd (f count refl)
-a_refused_column_writes_nothing n n' rule words before after (Column.Refused q) x f = x
-a_refused_column_writes_nothing n n' rule words before after (Column.RefusedAt position q) x f = x
+a_refused_column_writes_nothing n n' rule words before after (Ok count) x f = absurd (f count refl)
+a_refused_column_writes_nothing n n' rule words before after (Err (ListRefusal.Whole q)) x f = x
+a_refused_column_writes_nothing n n' rule words before after (Err (ListRefusal.At position q)) x f = x
 
 pub each_word_of_a_column_is_moved : promise.EachWordOfAColumnIsMoved
 unfolding promise.EachWordOfAColumnIsMoved Holds
@@ -69,14 +70,14 @@ pub a_change_in_one_number_is_noticed : promise.AChangeInOneNumberIsNoticed
 unfolding promise.AChangeInOneNumberIsNoticed ReadsBlock
 a_change_in_one_number_is_noticed i old new places a bo bn bytes marked sum c x = by (ℕ_discrete (mark new) 0x54)
   where
-    by : Dec (mark new ≡ 0x54) → ((mark new ≡ 0x54) × RefusedAs Block Block.Refused 9 a) ⊎ ((mark new ≡ 0x54 → ⊥) × RefusedAs Block Block.Refused 8 a)
+    by : Dec (mark new ≡ 0x54) → ((mark new ≡ 0x54) × RefusedAs Block Err 9 a) ⊎ ((mark new ≡ 0x54 → ⊥) × RefusedAs Block Err 8 a)
     by (yes m) = inl (m, record { q = Refusal.Check; is = refused_as Refusal.Check (other_A new places (c.size ∙ bytes) m (sum_differs i old new c bo bn sum)) x; known = refl })
     by (no f) = inr (f, record { q = Refusal.Mark; is = refused_as Refusal.Mark (other_mark new places (c.size ∙ bytes) f) x; known = refl })
 
 -- ---- a block that was refused
 IsRead : Block → Type 0
 IsRead (Block.Read w i n) = Unit {0}
-IsRead (Block.Refused q) = ⊥
+IsRead (Err q) = ⊥
 
 pub a_refused_block_writes_nothing : promise.ARefusedBlockWritesNothing
 unfolding promise.ARefusedBlockWritesNothing ReadsBlock FillsResults IsRead

@@ -1,4 +1,5 @@
 -- The promises that specs/Wholes.antt states, from the laws of whole numbers. Assumes nothing.
+use Rattle.std.specs.Prelude.{Ok, Err}
 use mathlib.Core.Path.{◌≡◌, refl, sym, ap, ◌∙◌, subst}
 use mathlib.Core.Bool.{Bool}
 use mathlib.Core.Logic.{◌⊎◌, inl, inr}
@@ -11,7 +12,6 @@ use lib.IntN.{ℤ, pos, negsuc, neg_ℤ, nat_abs, pos-ne-negsuc}
 use lib.ListN.{length}
 use lib.Pow.{pow_pos}
 use Rattle.bounds.specs.declared.refusal.Refusal.{Refusal}
-use Rattle.bounds.specs.declared.width.Limit.{Limit}
 use Rattle.bounds.specs.Refusals.{IsWord, through}
 use Rattle.bounds.specs.Widths.{GivesLimit}
 use Rattle.bounds.proofs.Verdicts.{width_fits}
@@ -22,7 +22,6 @@ use Rattle.word.proofs.Values.{real_inj}
 use Rattle.nearest.specs.Nearest.{HasValue, distance}
 use Rattle.write.specs.Writes.{is_negative}
 use Rattle.write.proofs.Moves.{rejoined}
-use Rattle.whole.specs.declared.taking.Whole.{Whole}
 use Rattle.whole.specs.Wholes.{off_by, IsNearestWhole}
 use Rattle.whole.proofs.InAndOut.{strictly_taken, written_comes_back}
 use Rattle.whole.proofs.LimitEvens.{even_from_the_limit}
@@ -82,11 +81,11 @@ a_rack_is_off_by_at_most_a_half_for_each_joint rule words values numbers (joint 
 -- ---- negation
 pub the_negated_word_goes_out_as_the_negated_number : promise.TheNegatedWordGoesOutAsTheNegatedNumber
 unfolding promise.TheNegatedWordGoesOutAsTheNegatedNumber
-the_negated_word_goes_out_as_the_negated_number n w rule x a small y z = takes_whole_one n rule (negated n w) a (Whole.Is (neg_ℤ x)) z (negated_taken n w rule x y small)
+the_negated_word_goes_out_as_the_negated_number n w rule x a small y z = takes_whole_one n rule (negated n w) a (Ok (neg_ℤ x)) z (negated_taken n w rule x y small)
 
 pub the_negated_word_of_the_least_number_is_over : promise.TheNegatedWordOfTheLeastNumberIsOver
 unfolding promise.TheNegatedWordOfTheLeastNumberIsOver
-the_negated_word_of_the_least_number_is_over n w rule a y z = record { q = Refusal.Over; is = takes_whole_one n rule (negated n w) a (Whole.Refused Refusal.Over) z (negated_over n w rule (neg_ℤ (pos (2 ^ 63))) y refl); known = refl }
+the_negated_word_of_the_least_number_is_over n w rule a y z = record { q = Refusal.Over; is = takes_whole_one n rule (negated n w) a (Err Refusal.Over) z (negated_over n w rule (neg_ℤ (pos (2 ^ 63))) y refl); known = refl }
 
 -- ---- a value and the number nearest to it, in sizes
 module _ (n w : ℕ) (z x : ℤ) (i : IsWord n w) (means : takum n w ≡ real z) (near : IsNearestWhole z x) where
@@ -147,7 +146,7 @@ no_word_past_the_limit_goes_out_odd n l w rule z x g means large y = even_number
       where
         up_to_4 : n ≤ 4 → (j : ℕ) × (nat_abs z ≡ 2 * j * 2 ^ 307)
         up_to_4 short =
-            let same = gives_limit_one n (Limit.Count l) (Limit.Count 1) g (through (width_fits n k.lo k.hi) (1, refl, limit_up_to_4 n short)) in
+            let same = gives_limit_one n (Ok l) (Ok 1) g (through (width_fits n k.lo k.hi) (1, refl, limit_up_to_4 n short)) in
             let one : l ≡ 1 = cc in
             even_past_one n k.lo short (is_negative z) (nat_abs z) w value (subst (λ (l : ℕ). l * 2 ^ 307 < nat_abs z) one large)
 

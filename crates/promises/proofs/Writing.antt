@@ -1,4 +1,7 @@
 -- The demands that specs/Writing.antt states, from the laws of writing. Assumes nothing.
+use Rattle.std.specs.Prelude.{Ok, Err}
+use Rattle.bounds.specs.Refusals.{passed, Answer}
+use Rattle.bounds.specs.Sayings.{written}
 use mathlib.Core.Path.{◌≡◌, refl, sym, ap, ap₂, ◌∙◌, subst}
 use mathlib.Core.Bool.{Bool, true, false, not}
 use mathlib.Core.List.{List, [], ◌∷◌}
@@ -7,10 +10,8 @@ use Prim.Native.Nat.{ℕ, zero, ◌-◌, ◌*◌, ◌^◌, ◌≤◌, ◌<◌}
 use native.Mathlib.Nat.{zero-mul, mul-pos, mul_assoc}
 use native.Mathlib.Omega.{arith}
 use lib.IntN.{pos, ◌+ℤ◌}
-use Rattle.bounds.specs.declared.answer.Answer.{Answer}
 use Rattle.bounds.specs.declared.refusal.Refusal.{Refusal}
 use Rattle.word.specs.Takum.{Takum, real, takum, fraction_bits}
-use Rattle.bounds.specs.declared.refusal.Verdict.{Verdict}
 use Rattle.word.specs.declared.reading.Kind.{Kind}
 use Rattle.word.specs.declared.reading.Reading.{Reading}
 use Rattle.bounds.specs.Refusals.{width_test, stray_test, ◌then◌, IsWord, through, refused}
@@ -46,7 +47,7 @@ unfolding denominator
 some_denominator v = (unit_some (v.k +ℤ pos 307)).1
 
 -- what the contract says at a width from 2 to 64
-written : (n : ℕ) (rule : Rule) (v : Value) (r : Answer) → 2 ≤ n → n ≤ 64 → Writes n rule v r → IsWritten n rule v.negative (numerator v) (denominator v) r
+written : (n : ℕ) (rule : Rule) (v : Value) (r : Answer ℕ) → 2 ≤ n → n ≤ 64 → Writes n rule v r → IsWritten n rule v.negative (numerator v) (denominator v) r
 unfolding Writes numerator denominator
 written n rule v r lo hi x = answered (width_fits n lo hi) x
 
@@ -59,9 +60,9 @@ pub rounded_is_the_nearest : promise.RoundedIsTheNearest
 unfolding promise.RoundedIsTheNearest IsWritten
 rounded_is_the_nearest n v r lo hi x = by r (written n Rule.Rounded v r lo hi x)
   where
-    by : (r : Answer) → IsWritten n Rule.Rounded v.negative (numerator v) (denominator v) r → (w : ℕ) × (r ≡ Answer.Word w) × IsRounded n v.negative (numerator v) (denominator v) w
-    by (Answer.Word w) y = (w, refl, y)
-    by (Answer.Refused q) y = absurd y
+    by : (r : Answer ℕ) → IsWritten n Rule.Rounded v.negative (numerator v) (denominator v) r → (w : ℕ) × (r ≡ Ok w) × IsRounded n v.negative (numerator v) (denominator v) w
+    by (Ok w) y = (w, refl, y)
+    by (Err q) y = absurd y
 
 pub one_rounded_word : promise.OneRoundedWord
 unfolding promise.OneRoundedWord
@@ -76,9 +77,9 @@ module _ (v : Value) (some : 0 < v.m) where
   some_numerator = mul-pos some (unit_some (v.k +ℤ pos 307)).0
 
   -- a rounded word of it is the nearest one
-  nearest_one : (n w : ℕ) → 2 ≤ n → n ≤ 64 → Writes n Rule.Rounded v (Answer.Word w) → Nearest n v.negative (numerator v) (denominator v) w
+  nearest_one : (n w : ℕ) → 2 ≤ n → n ≤ 64 → Writes n Rule.Rounded v (Ok w) → Nearest n v.negative (numerator v) (denominator v) w
   unfolding IsWritten
-  nearest_one n w lo hi x = by (written n Rule.Rounded v (Answer.Word w) lo hi x)
+  nearest_one n w lo hi x = by (written n Rule.Rounded v (Ok w) lo hi x)
     where
       by : IsRounded n v.negative (numerator v) (denominator v) w → Nearest n v.negative (numerator v) (denominator v) w
       by (zero q e) = absurd (omega (arith, q, some_numerator))
@@ -95,11 +96,11 @@ module _ (n : ℕ) (lo : 2 ≤ n) (hi : n ≤ 64) where
   of_sign_lem true v h b = sym (negated_other n v h (omega (arith, b, twice n lo)))
 
   -- an answer whose word is known for the nearest one
-  end_word : (v : Value) (r : Answer) (e : ℕ) → 0 < e → e < 2 ^ (n - 1) → 0 < v.m → Writes n Rule.Rounded v r → ((w : ℕ) → Nearest n v.negative (numerator v) (denominator v) w → w ≡ word_of n v.negative e) → r ≡ Answer.Word (of_sign n v.negative e)
+  end_word : (v : Value) (r : Answer ℕ) (e : ℕ) → 0 < e → e < 2 ^ (n - 1) → 0 < v.m → Writes n Rule.Rounded v r → ((w : ℕ) → Nearest n v.negative (numerator v) (denominator v) w → w ≡ word_of n v.negative e) → r ≡ Ok (of_sign n v.negative e)
   unfolding promise.RoundedIsTheNearest
   end_word v r e first last some x f =
       let t = rounded_is_the_nearest n v r lo hi x in
-      t.1 ∙ ap Answer.Word (f t.0 (nearest_one v some n t.0 lo hi (subst (Writes n Rule.Rounded v) t.1 x)) ∙ of_sign_lem v.negative e first last)
+      t.1 ∙ ap Ok (f t.0 (nearest_one v some n t.0 lo hi (subst (Writes n Rule.Rounded v) t.1 x)) ∙ of_sign_lem v.negative e first last)
 
 pub past_the_largest_word : promise.PastTheLargest
 unfolding promise.PastTheLargest largest word_of
@@ -126,7 +127,7 @@ at_width_2_every_positive_value_is_written_as_1 v r some plus x =
     let t = rounded_is_the_nearest 2 v r lo hi x in
     let u = from_word 2 lo hi v.negative (numerator v) (denominator v) t.0 (nearest_one v some 2 t.0 lo hi (subst (Writes 2 Rule.Rounded v) t.1 x)) in
     let one : u.0 ≡ 1 = omega (arith, u.1.first, u.1.last) in
-    t.1 ∙ ap Answer.Word (u.2 ∙ ap (λ (s : Bool). word_of 2 s u.0) plus ∙ one)
+    t.1 ∙ ap Ok (u.2 ∙ ap (λ (s : Bool). word_of 2 s u.0) plus ∙ one)
 
 pub a_words_value_is_written_as_the_word : promise.AWordsValueIsWrittenAsTheWord
 unfolding promise.AWordsValueIsWrittenAsTheWord
@@ -140,7 +141,7 @@ strict_writing_keeps_the_value n v w (refused h q) = absurd (subst GivesAWord q 
 pub strict_writing_is_refused_exactly_where_there_is_no_word : promise.StrictWritingIsRefusedExactlyWhereThereIsNoWord
 unfolding promise.StrictWritingIsRefusedExactlyWhereThereIsNoWord IsWritten
 strict_writing_is_refused_exactly_where_there_is_no_word n v r lo hi x =
-    given_or_inexact _ r (λ w q. written n Rule.Strict v (Answer.Word w) lo hi (subst (Writes n Rule.Strict v) q x)) (past Answer.Refused r 1 _ _ (good_width n (lo, hi)) (write_follows n Rule.Strict v r x))
+    given_or_inexact _ r (λ w q. written n Rule.Strict v (Ok w) lo hi (subst (Writes n Rule.Strict v) q x)) (past Err r 1 _ _ (good_width n (lo, hi)) (write_follows n Rule.Strict v r x))
 
 -- a word that was read has exactly the value that the reading says
 kind_exactly : (n w : ℕ) (a : Kind) (v : Value) → IsWord n w → IsKind (takum n w) (fraction_bits n w) a → KindSays a v → IsExact n v.negative (numerator v) (denominator v) w
@@ -150,7 +151,7 @@ kind_exactly n w Kind.Zero v i x says =
 kind_exactly n w (Kind.Number s h m p) v i number says =
     subst (λ (v : Value). IsExact n v.negative (numerator v) (denominator v) w) (sym says) (record { z = number.v; is = record { word = i; means = number.means }; same = sym number.size })
 kind_exactly n w Kind.Nar v i x says = absurd says
-kind_exactly n w (Kind.Refused q) v i x says = absurd says
+kind_exactly n w (Err q) v i x says = absurd says
 
 read_exactly : (n w : ℕ) (a : Reading) (v : Value) → IsWord n w → Reads n w a → Says a v → IsExact n v.negative (numerator v) (denominator v) w
 unfolding Says Reads
@@ -163,8 +164,8 @@ what_was_read_is_written_back n w rule a v r i x says y = a_words_value_is_writt
 pub rounding_commutes_with_negation : promise.RoundingCommutesWithNegation
 unfolding promise.RoundingCommutesWithNegation IsWritten with_other_sign numerator denominator
 rounding_commutes_with_negation n v w r lo hi x y =
-    let w_is = written n Rule.Rounded v (Answer.Word w) lo hi x in
-    written_one n lo hi Rule.Rounded (not v.negative) (numerator v) (denominator v) r (Answer.Word (negated n w)) (some_denominator v) (written n Rule.Rounded (with_other_sign v) r lo hi y) (rounded_negated n lo hi v.negative (numerator v) (denominator v) w w_is)
+    let w_is = written n Rule.Rounded v (Ok w) lo hi x in
+    written_one n lo hi Rule.Rounded (not v.negative) (numerator v) (denominator v) r (Ok (negated n w)) (some_denominator v) (written n Rule.Rounded (with_other_sign v) r lo hi y) (rounded_negated n lo hi v.negative (numerator v) (denominator v) w w_is)
 
 -- the order of two words is that of their values, and so of any multiples of them
 pub the_order_of_values_is_that_of_their_words : promise.TheOrderOfValuesIsThatOfTheirWords
@@ -185,28 +186,28 @@ the_order_of_values_is_that_of_their_words n x y a b u v i j p q says says' =
 pub rounding_keeps_the_order : promise.RoundingKeepsOrder
 unfolding promise.RoundingKeepsOrder promise.order_of IsWritten
 rounding_keeps_the_order n u v x y lo hi h p q =
-    rounding_keeps_order n lo hi u.negative v.negative (numerator u) (denominator u) (numerator v) (denominator v) x y (some_denominator u) (some_denominator v) (written n Rule.Rounded u (Answer.Word x) lo hi p) (written n Rule.Rounded v (Answer.Word y) lo hi q) h
+    rounding_keeps_order n lo hi u.negative v.negative (numerator u) (denominator u) (numerator v) (denominator v) x y (some_denominator u) (some_denominator v) (written n Rule.Rounded u (Ok x) lo hi p) (written n Rule.Rounded v (Ok y) lo hi q) h
 
 -- ---- moves
 -- zero is moved as it is written
-zero_moved : (n : ℕ) → 2 ≤ n → n ≤ 64 → (rule : Rule) (r : Answer) (t : Takum) (v : Value) → t ≡ real (pos 0) → v.m ≡ 0 → IsMoved n rule t r → IsWritten n rule v.negative (numerator v) (denominator v) r
+zero_moved : (n : ℕ) → 2 ≤ n → n ≤ 64 → (rule : Rule) (r : Answer ℕ) (t : Takum) (v : Value) → t ≡ real (pos 0) → v.m ≡ 0 → IsMoved n rule t r → IsWritten n rule v.negative (numerator v) (denominator v) r
 unfolding IsMoved is_negative
 zero_moved n lo hi rule r t v q m x =
-    let same = written_one n lo hi rule false 0 1 r (Answer.Word 0) (omega arith) (subst (λ (t : Takum). IsMoved n rule t r) q x) (zero_written n lo hi rule false 0 1 refl) in
+    let same = written_one n lo hi rule false 0 1 r (Ok 0) (omega arith) (subst (λ (t : Takum). IsMoved n rule t r) q x) (zero_written n lo hi rule false 0 1 refl) in
     subst (IsWritten n rule v.negative (numerator v) (denominator v)) (sym same) (zero_written n lo hi rule v.negative (numerator v) (denominator v) (no_numerator v m))
 
 -- where the source is a word, only the target's width can be refused
-pub target_tested : (n n' w : ℕ) → IsWord n w → width_test n then width_test n' then stray_test n w ≡ width_test n' then Verdict.Through
+pub target_tested : (n n' w : ℕ) → IsWord n w → width_test n then width_test n' then stray_test n w ≡ width_test n' then passed
 target_tested n n' w i = ap₂ (λ (u v : Verdict). u then width_test n' then v) (width_fits n i.least i.most) (stray_fits n w i.fits)
 
-only_target : (n n' w : ℕ) {q : Refusal} → IsWord n w → width_test n then width_test n' then stray_test n w ≡ Verdict.Refused q → width_test n' ≡ Verdict.Refused q
+only_target : (n n' w : ℕ) {q : Refusal} → IsWord n w → width_test n then width_test n' then stray_test n w ≡ Err q → width_test n' ≡ Err q
 only_target n n' w {q} i h = by (width_test n') (sym (target_tested n n' w i) ∙ h)
   where
-    by : (u : Verdict) → (u then Verdict.Through) ≡ Verdict.Refused q → u ≡ Verdict.Refused q
-    by Verdict.Through h = h
-    by (Verdict.Refused q') h = h
+    by : (u : Verdict) → (u then passed) ≡ Err q → u ≡ Err q
+    by (Ok _) h = h
+    by (Err q') h = h
 
-kind_moved : (n n' w : ℕ) (rule : Rule) (a : Kind) (v : Value) (r : Answer) → IsWord n w → IsKind (takum n w) (fraction_bits n w) a → KindSays a v → Moves n n' rule w r → Writes n' rule v r
+kind_moved : (n n' w : ℕ) (rule : Rule) (a : Kind) (v : Value) (r : Answer ℕ) → IsWord n w → IsKind (takum n w) (fraction_bits n w) a → KindSays a v → Moves n n' rule w r → Writes n' rule v r
 unfolding KindSays IsKind Moves Writes numerator denominator
 kind_moved n n' w rule a v r i x says (refused q y) = refused (only_target n n' w i q) y
 kind_moved n n' w rule Kind.Zero v r i x says (through q y) =
@@ -215,7 +216,7 @@ kind_moved n n' w rule Kind.Zero v r i x says (through q y) =
 kind_moved n n' w rule (Kind.Number s h m p) v r i number says (through q y) =
     subst (λ (v : Value). Writes n' rule v r) (sym says) (through (move_through n n' w q).1 (number_written n' rule r (takum n w) _ s h m p number y))
 kind_moved n n' w rule Kind.Nar v r i x says (through q y) = absurd says
-kind_moved n n' w rule (Kind.Refused p) v r i x says (through q y) = absurd says
+kind_moved n n' w rule (Err p) v r i x says (through q y) = absurd says
 
 pub a_move_is_a_reading_and_a_writing : promise.AMoveIsAReadingAndAWriting
 unfolding promise.AMoveIsAReadingAndAWriting Says Reads
@@ -233,7 +234,7 @@ pub strict_moves_are_refused_exactly_where_there_is_no_word : promise.StrictMove
 unfolding promise.StrictMovesAreRefusedExactlyWhereThereIsNoWord move_lines
 strict_moves_are_refused_exactly_where_there_is_no_word n n' w r i lo hi x =
     given_or_inexact _ r (λ w' q. let k = strict_keeps n n' w w' (subst (Moves n n' Rule.Strict w) q x) in (k.to, k.same))
-    (past Answer.Refused r 2 _ _ (λ h. omega (arith, h, i.fits)) (past Answer.Refused r 1 _ _ (good_width n' (lo, hi)) (past Answer.Refused r 1 _ _ (good_width n (i.least, i.most)) (move_follows n n' Rule.Strict w r x))))
+    (past Err r 2 _ _ (λ h. omega (arith, h, i.fits)) (past Err r 1 _ _ (good_width n' (lo, hi)) (past Err r 1 _ _ (good_width n (i.least, i.most)) (move_follows n n' Rule.Strict w r x))))
 
 pub NaR_moves_to_NaR : promise.NaRMovesToNaR
 unfolding promise.NaRMovesToNaR Moves IsMoved
@@ -263,7 +264,7 @@ chains_come_home n w ns m v r i x y =
     moved_to_the_same m n v w Rule.Strict r t.0 i (sym t.1) y
 
 -- ---- the chain as a function goes through it
-goes_keeps : (home : ℕ) (ns : List ℕ) (n w v : ℕ) → Goes home n w ns (Answer.Word v) → Kept n home w v
+goes_keeps : (home : ℕ) (ns : List ℕ) (n w v : ℕ) → Goes home n w ns (Ok v) → Kept n home w v
 unfolding Goes GivesAWord
 goes_keeps home [] n w v x = strict_keeps n home w v x
 goes_keeps home (n' ∷ ns) n w v (inl x) =
@@ -272,7 +273,7 @@ goes_keeps home (n' ∷ ns) n w v (inl x) =
     record { from = k.from; to = l.to; same = l.same ∙ k.same }
 goes_keeps home (n' ∷ ns) n w v (inr x) = absurd (subst GivesAWord x.2 tt)
 
-pub goes_home : (n w : ℕ) (ns : List ℕ) (r : Answer) → Goes n n w ns r → ComesHome n w ns r
+pub goes_home : (n w : ℕ) (ns : List ℕ) (r : Answer ℕ) → Goes n n w ns r → ComesHome n w ns r
 goes_home n w ns r x =
     record {
       goes = x;

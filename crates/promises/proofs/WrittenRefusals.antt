@@ -1,4 +1,9 @@
 -- The refusals of a block that is to be written follow the table. Assumes nothing.
+use Rattle.std.specs.Prelude.{Ok, Err}
+use Rattle.bounds.specs.declared.refusal.ListRefusal.{ListRefusal}
+use Rattle.bounds.specs.Refusals.{passed, ListAnswer}
+use Rattle.std.specs.Prelude.{⊤}
+use Rattle.bounds.specs.Sayings.{written}
 use mathlib.Core.Path.{◌≡◌, refl, sym, subst}
 use mathlib.Core.Bool.{Bool, true, false, not}
 use mathlib.Core.List.{List, [], ◌∷◌}
@@ -9,10 +14,8 @@ use borrow.Author.Tests.{eqb-true, eqb-false}
 use lib.Dec.{eqb}
 use lib.ListN.{length, get_or}
 use Rattle.bounds.specs.declared.refusal.Refusal.{Refusal}
-use Rattle.bounds.specs.declared.refusal.Verdict.{Verdict}
 use Rattle.bounds.specs.Refusals.{stray_test, unless, through, refused}
 use Rattle.bounds.proofs.Powers.{not_more}
-use Rattle.sheet.specs.declared.writing.Writing.{Writing}
 use Rattle.sheet.specs.Writes.{is_retired, content_test, FitUpTo, IsTried, WritesBlock}
 use Rattle.promises.specs.Refusals.{FollowsUpTo, Follows, stray, size, written_width, retired, written_count}
 use Rattle.promises.proofs.Lines.{Tells, holds, fails, stray_tells, parts, follow, carry, verdict_decided}
@@ -29,7 +32,7 @@ retired_tells n = by (eqb n 8) refl
     by false e = fails refl (eqb-false n 8 e)
 
 module _ (n : ℕ) (words buffer : List ℕ) where
-  pub written_follows : (a : Writing) → WritesBlock n words buffer a → Follows Writing.Refused a (written_width n ∷ retired n ∷ written_count n (length words) ∷ size buffer ∷ [])
+  pub written_follows : (a : ListAnswer ⊤) → WritesBlock n words buffer a → Follows Err (ListRefusal.Whole a) (written_width n ∷ retired n ∷ written_count n (length words) ∷ size buffer ∷ [])
   unfolding Follows FollowsUpTo WritesBlock content_test IsTried
   written_follows a x =
       follow Refusal.Width (four_tells n) (parts (parts (parts x)))
@@ -39,29 +42,29 @@ module _ (n : ℕ) (words buffer : List ℕ) where
 
   -- a position that is reached has the line of its word
   module _ (i : ℕ) (inside : i < length words) where
-    at_position : (a : Writing) (v : Verdict) → v ≡ stray_test n (get_or words i 0) → ((q : Refusal) → v ≡ Verdict.Refused q → a ≡ Writing.RefusedAt i q) → ((q : Refusal) → a ≡ Writing.RefusedAt i q → v ≡ Verdict.Refused q) → Follows (Writing.RefusedAt i) a (stray n (get_or words i 0) ∷ [])
+    at_position : (a : ListAnswer ⊤) (v : Verdict) → v ≡ stray_test n (get_or words i 0) → ((q : Refusal) → v ≡ Err q → a ≡ Err (ListRefusal.At i q)) → ((q : Refusal) → a ≡ Err (ListRefusal.At i q) → v ≡ Err q) → Follows (λ q. Err (ListRefusal.At i q)) a (stray n (get_or words i 0) ∷ [])
     unfolding Follows FollowsUpTo
-    at_position a v e to from = carry Verdict.Refused (Writing.RefusedAt i) v a (stray n (get_or words i 0) ∷ []) to from (follow Refusal.Stray (stray_tells n (get_or words i 0)) (verdict_decided e) (λ h. verdict_none v))
+    at_position a v e to from = carry Err (λ q. Err (ListRefusal.At i q)) v a (stray n (get_or words i 0) ∷ []) to from (follow Refusal.Stray (stray_tells n (get_or words i 0)) (verdict_decided e) (λ h. verdict_none v))
 
-    tried : (a : Writing) → ((j : ℕ) (q : Refusal) → j < i → a ≡ Writing.RefusedAt j q → ⊥) → IsTried n words a → Follows (Writing.RefusedAt i) a (stray n (get_or words i 0) ∷ [])
+    tried : (a : ListAnswer ⊤) → ((j : ℕ) (q : Refusal) → j < i → a ≡ Err (ListRefusal.At j q) → ⊥) → IsTried n words a → Follows (λ q. Err (ListRefusal.At i q)) a (stray n (get_or words i 0) ∷ [])
     unfolding IsTried FitUpTo
-    tried Writing.Written before x = at_position Writing.Written Verdict.Through (sym (x i inside)) (λ q h. cc) (λ q h. cc)
-    tried (Writing.Refused q) before x = absurd x
-    tried (Writing.RefusedAt p q) before x = by (dec_lt p i) (dec_lt i p)
+    tried Ok tt before x = at_position Ok tt passed (sym (x i inside)) (λ q h. cc) (λ q h. cc)
+    tried (Err (ListRefusal.Whole q)) before x = absurd x
+    tried (Err (ListRefusal.At p q)) before x = by (dec_lt p i) (dec_lt i p)
       where
-        by : Dec (p < i) → Dec (i < p) → Follows (Writing.RefusedAt i) (Writing.RefusedAt p q) (stray n (get_or words i 0) ∷ [])
+        by : Dec (p < i) → Dec (i < p) → Follows (λ q. Err (ListRefusal.At i q)) (Err (ListRefusal.At p q)) (stray n (get_or words i 0) ∷ [])
         by (yes l) d = absurd (before p q l refl)
-        by (no f) (yes l) = at_position (Writing.RefusedAt p q) Verdict.Through (sym (x.1 i l)) (λ q' h. cc) (λ q' h. let same : p ≡ i = cc in absurd (omega (arith, same, l)))
+        by (no f) (yes l) = at_position (Err (ListRefusal.At p q)) passed (sym (x.1 i l)) (λ q' h. cc) (λ q' h. let same : p ≡ i = cc in absurd (omega (arith, same, l)))
         by (no f) (no g) =
             let same : p ≡ i = omega (arith, not_more f, not_more g) in
-            at_position (Writing.RefusedAt p q) (Verdict.Refused q) (sym (subst (λ (k : ℕ). stray_test n (get_or words k 0) ≡ Verdict.Refused q) same x.2)) (λ q' h. cc) (λ q' h. cc)
+            at_position (Err (ListRefusal.At p q)) (Err q) (sym (subst (λ (k : ℕ). stray_test n (get_or words k 0) ≡ Err q) same x.2)) (λ q' h. cc) (λ q' h. cc)
 
-    pub written_position_follows : (a : Writing) → WritesBlock n words buffer a → ((q : Refusal) → a ≡ Writing.Refused q → ⊥) → ((j : ℕ) (q : Refusal) → j < i → a ≡ Writing.RefusedAt j q → ⊥) → Follows (Writing.RefusedAt i) a (stray n (get_or words i 0) ∷ [])
+    pub written_position_follows : (a : ListAnswer ⊤) → WritesBlock n words buffer a → ((q : Refusal) → a ≡ Err (ListRefusal.Whole q) → ⊥) → ((j : ℕ) (q : Refusal) → j < i → a ≡ Err (ListRefusal.At j q) → ⊥) → Follows (λ q. Err (ListRefusal.At i q)) a (stray n (get_or words i 0) ∷ [])
     unfolding WritesBlock
     written_position_follows a (through h x) f before = tried a before x
     written_position_follows a (refused {q = q} h e) f before = absurd (f q e)
 
-  pub position_inside : (i : ℕ) (q : Refusal) → WritesBlock n words buffer (Writing.RefusedAt i q) → i < length words
+  pub position_inside : (i : ℕ) (q : Refusal) → WritesBlock n words buffer (Err (ListRefusal.At i q)) → i < length words
   unfolding WritesBlock IsTried
   position_inside i q (through h x) = x.0
   position_inside i q (refused h e) = let z : ◌≡◌ {A = ℕ} 0 1 = cc in absurd (omega arith)

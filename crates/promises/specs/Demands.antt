@@ -1,7 +1,8 @@
 -- What the letter demands of reading, order and negation, what belongs to a width, and how a refusal is said by its number.
+use Rattle.std.specs.Prelude.{Ok, Err}
+use Rattle.bounds.specs.Refusals.{Answer}
+use Rattle.std.specs.Ordering.{Less, Equal, Greater, Ordering, int_cmp}
 use Rattle.std.specs.Prelude.{◌≡◌, false, ℕ, ◌-◌, ◌*◌, ◌^◌, ◌≤◌, ◌<◌, ℤ, negsuc, pos, ◌-ℤ◌}
-use Rattle.bounds.specs.declared.answer.Answer.{Answer}
-use Rattle.order.specs.declared.order.Comparison.{Comparison}
 use Rattle.word.specs.declared.reading.Reading.{Reading}
 use Rattle.bounds.specs.declared.refusal.Refusal.{Refusal}
 use Rattle.word.specs.Takum.{real, NaR, takum, fraction_bits, own_fraction_bits}
@@ -47,23 +48,23 @@ TheNaRWord = (n : ℕ) → 2 ≤ n → n ≤ 64 → IsWord n (nar_word n) × (ta
 -- ---- order and negation, as the values have them
 -- the comparison of two words is the order of their values
 unfoldable pub ComparisonIsTheOrderOfValues : Type 0
-ComparisonIsTheOrderOfValues = (n x y : ℕ) (u v : ℤ) (a : Comparison) → IsWord n x → IsWord n y → takum n x ≡ real u → takum n y ≡ real v → Compares n x y a → a ≡ Comparison.Is (order u v)
+ComparisonIsTheOrderOfValues = (n x y : ℕ) (u v : ℤ) (a : Answer Ordering) → IsWord n x → IsWord n y → takum n x ≡ real u → takum n y ≡ real v → Compares n x y a → a ≡ Ok (int_cmp u v)
 
 -- NaR comes below everything
 unfoldable pub NaRIsBelowEveryValue : Type 0
-NaRIsBelowEveryValue = (n x y : ℕ) (v : ℤ) (a : Comparison) → IsWord n x → IsWord n y → takum n x ≡ NaR → takum n y ≡ real v → Compares n x y a → a ≡ Comparison.Is (negsuc 0)
+NaRIsBelowEveryValue = (n x y : ℕ) (v : ℤ) (a : Answer Ordering) → IsWord n x → IsWord n y → takum n x ≡ NaR → takum n y ≡ real v → Compares n x y a → a ≡ Ok Less
 
 unfoldable pub EveryValueIsAboveNaR : Type 0
-EveryValueIsAboveNaR = (n x y : ℕ) (v : ℤ) (a : Comparison) → IsWord n x → IsWord n y → takum n x ≡ real v → takum n y ≡ NaR → Compares n x y a → a ≡ Comparison.Is (pos 1)
+EveryValueIsAboveNaR = (n x y : ℕ) (v : ℤ) (a : Answer Ordering) → IsWord n x → IsWord n y → takum n x ≡ real v → takum n y ≡ NaR → Compares n x y a → a ≡ Ok Greater
 
 -- every word equals itself, NaR too
 unfoldable pub EveryWordEqualsItself : Type 0
-EveryWordEqualsItself = (n w : ℕ) (a : Comparison) → IsWord n w → Compares n w w a → a ≡ Comparison.Is (pos 0)
+EveryWordEqualsItself = (n w : ℕ) (a : Answer Ordering) → IsWord n w → Compares n w w a → a ≡ Ok Equal
 
 -- the negated word has the opposite value; zero and NaR are kept
 unfoldable pub NegationNegates : Type 0
-NegationNegates = (n w : ℕ) (a : Answer) → IsWord n w → Negates n w a → (v : ℕ) × (a ≡ Answer.Word v) × IsWord n v × (takum n v ≡ opposite (takum n w))
+NegationNegates = (n w : ℕ) (a : Answer ℕ) → IsWord n w → Negates n w a → (v : ℕ) × (a ≡ Ok v) × IsWord n v × (takum n v ≡ opposite (takum n w))
 
 -- a word negated twice
-unfoldable pub ComesBack : ℕ → ℕ → Answer → Type 0
-ComesBack n w a = Decided (width_test n then stray_test n w) (λ q. a ≡ Answer.Refused q) (a ≡ Answer.Word w)
+unfoldable pub ComesBack : ℕ → ℕ → Answer ℕ → Type 0
+ComesBack n w a = Decided (width_test n then stray_test n w) (λ q. a ≡ Err q) (a ≡ Ok w)

@@ -1,10 +1,13 @@
 -- The figures of paper 01 that are marked P, all of them, and those of paper 02 that a proved call answers, as one table under one claim.
+use Rattle.std.specs.Prelude.{Ok, Err}
+use Rattle.bounds.specs.declared.refusal.ListRefusal.{ListRefusal}
+use Rattle.bounds.specs.Refusals.{Answer, ListAnswer}
+use Rattle.std.specs.Prelude.{⊤}
+use Rattle.bounds.specs.Sayings.{written}
 use Rattle.std.specs.Prelude.{◌≡◌, true, false, List, [], ◌∷◌, ℕ, ◌+◌, ◌-◌, ◌*◌, ◌^◌, ℤ, pos, neg_ℤ}
-use Rattle.bounds.specs.declared.answer.Answer.{Answer}
 use Rattle.bounds.specs.declared.answer.Written.{Written}
 use Rattle.bounds.specs.declared.saying.Saying.{Saying}
 use Rattle.bounds.specs.declared.saying.Saying.TheVariants.{Exact, Below, Above, PastTheEnd}
-use Rattle.bounds.specs.declared.width.Made.{Made}
 use Rattle.bounds.specs.Refusals.{IsWord}
 use Rattle.word.specs.declared.reading.Reading.{Reading}
 use Rattle.word.specs.Takum.{Takum, real, NaR, fraction_bits, own_fraction_bits}
@@ -14,11 +17,9 @@ use Rattle.write.specs.declared.value.Value.{Value}
 use Rattle.write.specs.Writes.{Writes}
 use Rattle.write.specs.Sayings.{WritesAndSays, MovesAndSays}
 use Rattle.whole.specs.declared.taking.Taking.{Taking}
-use Rattle.whole.specs.declared.taking.Whole.{Whole}
 use Rattle.whole.specs.Wholes.{WritesWhole, TakesWhole}
 use Rattle.whole.specs.Sayings.{WritesWholeAndSays}
 use Rattle.whole.specs.Shortest.{GivesShortest}
-use Rattle.sheet.specs.declared.writing.Writing.{Writing}
 use Rattle.sheet.specs.Writes.{WritesBlock}
 use Rattle.promises.specs.Demands.{RefusedAs}
 use Rattle.promises.specs.Shortest.{bits}
@@ -211,17 +212,17 @@ figures =
 unfoldable pub FigureHolds : Figure → Type 0
 FigureHolds (reads n w x) = (a : Reading) → Reads n w a → (t : Takum) × IsSaid x t × IsReading t (fraction_bits n w) (own_fraction_bits n w) a
 FigureHolds (has_own n w k) = IsWord n w × ((a : Reading) → Reads n w a → a.own ≡ k)
-FigureHolds (writes n rule M w) = (a : Answer) → Writes n rule (whole M) a → a ≡ Answer.Word w
-FigureHolds (refuses n rule M number) = (a : Answer) → Writes n rule (whole M) a → RefusedAs Answer Answer.Refused number a
-FigureHolds (writes_whole n rule M w) = (a : Answer) → WritesWhole n rule (pos M) a → a ≡ Answer.Word w
-FigureHolds (refuses_whole n rule M number) = (a : Answer) → WritesWhole n rule (pos M) a → RefusedAs Answer Answer.Refused number a
-FigureHolds (takes n rule w x) = (a : Whole) → TakesWhole n rule w a → a ≡ Whole.Is x
-FigureHolds (says n v w s) = (a : Written) → WritesAndSays n Rule.Rounded v a → a ≡ Written.Word w s
-FigureHolds (says_whole n x w s) = (a : Written) → WritesWholeAndSays n Rule.Rounded x a → a ≡ Written.Word w s
-FigureHolds (needs x n) = (a : Made) → GivesShortest x a → a ≡ bits n
-FigureHolds (needs_more x number) = (a : Made) → GivesShortest x a → RefusedAs Made Made.Refused number a
-FigureHolds (refuses_blocks n number) = (words buffer : List ℕ) (a : Writing) → WritesBlock n words buffer a → RefusedAs Writing Writing.Refused number a
-FigureHolds (moves n w n' w' s) = (a : Written) → MovesAndSays n n' Rule.Rounded w a → a ≡ Written.Word w' s
+FigureHolds (writes n rule M w) = (a : Answer ℕ) → Writes n rule (whole M) a → a ≡ Ok w
+FigureHolds (refuses n rule M number) = (a : Answer ℕ) → Writes n rule (whole M) a → RefusedAs (Answer ℕ) Err number a
+FigureHolds (writes_whole n rule M w) = (a : Answer ℕ) → WritesWhole n rule (pos M) a → a ≡ Ok w
+FigureHolds (refuses_whole n rule M number) = (a : Answer ℕ) → WritesWhole n rule (pos M) a → RefusedAs (Answer ℕ) Err number a
+FigureHolds (takes n rule w x) = (a : Answer ℤ) → TakesWhole n rule w a → a ≡ Ok x
+FigureHolds (says n v w s) = (a : Answer Written) → WritesAndSays n Rule.Rounded v a → a ≡ written w s
+FigureHolds (says_whole n x w s) = (a : Answer Written) → WritesWholeAndSays n Rule.Rounded x a → a ≡ written w s
+FigureHolds (needs x n) = (a : Answer Width) → GivesShortest x a → a ≡ bits n
+FigureHolds (needs_more x number) = (a : Answer Width) → GivesShortest x a → RefusedAs (Answer Width) Err number a
+FigureHolds (refuses_blocks n number) = (words buffer : List ℕ) (a : ListAnswer ⊤) → WritesBlock n words buffer a → RefusedAs (ListAnswer ⊤) Err (ListRefusal.Whole number) a
+FigureHolds (moves n w n' w' s) = (a : Answer Written) → MovesAndSays n n' Rule.Rounded w a → a ≡ written w' s
 
 -- every figure of a list holds
 unfoldable pub AllHold : List Figure → Type 0

@@ -1,6 +1,6 @@
 -- How fine a reading is (paper 02, Wish 3): the word's own fraction bits, and what a move to a wider width makes of them.
+use Rattle.std.specs.Prelude.{Ok}
 use Rattle.std.specs.Prelude.{◌≡◌, Bool, ◌⊎◌, ℕ, ◌+◌, ◌≤◌, ◌<◌, ℤ, pos}
-use Rattle.bounds.specs.declared.answer.Answer.{Answer}
 use Rattle.bounds.specs.Refusals.{IsWord}
 use Rattle.word.specs.declared.reading.Kind.{Kind}
 use Rattle.word.specs.declared.reading.Reading.{Reading}
@@ -47,7 +47,7 @@ TheCountNeverExceedsP = (n w p : ℕ) (a : Reading) → IsWord n w → Reads n w
 -- (`WiderNeverChangesNorRefuses`), or w is what w' is moved to strictly.
 pub record Widened (n k w w' : ℕ) (a a' : Reading) : Type 0 where
   pub room : n + k ≤ 64
-  pub moved : (IsWord n w × (rule : Rule) × Moves n (n + k) rule w (Answer.Word w')) ⊎ Moves (n + k) n Rule.Strict w' (Answer.Word w)
+  pub moved : (IsWord n w × (rule : Rule) × Moves n (n + k) rule w (Ok w')) ⊎ Moves (n + k) n Rule.Strict w' (Ok w)
   pub narrow : Reads n w a
   pub wide : Reads (n + k) w' a'
 

@@ -1,6 +1,9 @@
 -- Laws of moving (paper 02, Wish 14), in its letters: the widths a, b and c. A move is rounded where no rule is named.
+use Rattle.std.specs.Prelude.{Ok, Err}
+use Rattle.bounds.specs.Refusals.{Answer}
+use Rattle.std.specs.Ordering.{Ordering}
+use Rattle.bounds.specs.Sayings.{written}
 use Rattle.std.specs.Prelude.{◌≡◌, ◌⊎◌, ℕ, ◌≤◌, ◌<◌, ℤ, pos, negsuc}
-use Rattle.bounds.specs.declared.answer.Answer.{Answer}
 use Rattle.bounds.specs.declared.answer.Written.{Written}
 use Rattle.bounds.specs.declared.refusal.Refusal.{Refusal}
 use Rattle.bounds.specs.declared.saying.Saying.{Saying}
@@ -9,53 +12,52 @@ use Rattle.bounds.specs.Refusals.{IsWord}
 use Rattle.bounds.specs.Sayings.{opposite_saying}
 use Rattle.word.specs.Takum.{real, NaR, takum}
 use Rattle.word.specs.Orders.{negated}
-use Rattle.order.specs.declared.order.Comparison.{Comparison}
 use Rattle.order.specs.Orders.{Compares, Negates}
 use Rattle.round.specs.declared.value.Rule.{Rule}
 use Rattle.write.specs.Writes.{Moves}
 use Rattle.write.specs.Sayings.{MovesAndSays}
 
 -- One call after another: the word that the first answers goes on to the next. Where the first is refused, that is the answer.
-pub data AndThen {A : Type 0} (refused : Refusal → A) (First : Answer → Type 0) (Next : ℕ → A → Type 0) (r : A) : Type 0 where
-  goes_on : (w : ℕ) → First (Answer.Word w) → Next w r → AndThen refused First Next r
-  stops : (q : Refusal) → First (Answer.Refused q) → r ≡ refused q → AndThen refused First Next r
+pub data AndThen {A : Type 0} (refused : Refusal → A) (First : Answer ℕ → Type 0) (Next : ℕ → A → Type 0) (r : A) : Type 0 where
+  goes_on : (w : ℕ) → First (Ok w) → Next w r → AndThen refused First Next r
+  stops : (q : Refusal) → First (Err q) → r ≡ refused q → AndThen refused First Next r
 
 -- ---- out and back
 -- the word w goes from a to b, then to c by the rule, then back to b
-unfoldable pub GoesOutAndBack : ℕ → ℕ → ℕ → Rule → ℕ → Answer → Type 0
-GoesOutAndBack a b c rule w = AndThen Answer.Refused (Moves a b Rule.Rounded w) (λ u. AndThen Answer.Refused (Moves b c rule u) (Moves c b Rule.Rounded))
+unfoldable pub GoesOutAndBack : ℕ → ℕ → ℕ → Rule → ℕ → Answer ℕ → Type 0
+GoesOutAndBack a b c rule w = AndThen Err (Moves a b Rule.Rounded w) (λ u. AndThen Err (Moves b c rule u) (Moves c b Rule.Rounded))
 
 -- with c at least b, and no more than 64, this equals the first move alone, in its refusals too
 unfoldable pub OutAndBackIsTheFirstMove : Type 0
-OutAndBackIsTheFirstMove = (a b c w : ℕ) (rule : Rule) (r : Answer) → b ≤ c → c ≤ 64 → GoesOutAndBack a b c rule w r → Moves a b Rule.Rounded w r
+OutAndBackIsTheFirstMove = (a b c w : ℕ) (rule : Rule) (r : Answer ℕ) → b ≤ c → c ≤ 64 → GoesOutAndBack a b c rule w r → Moves a b Rule.Rounded w r
 
 -- the move back says exact, whatever the first one said
 unfoldable pub TheWayBackIsExact : Type 0
-TheWayBackIsExact = (a b c w u v : ℕ) (rule : Rule) (r : Written) → b ≤ c → c ≤ 64 → Moves a b Rule.Rounded w (Answer.Word u) → Moves b c rule u (Answer.Word v) → MovesAndSays c b Rule.Rounded v r → r ≡ Written.Word u Exact
+TheWayBackIsExact = (a b c w u v : ℕ) (rule : Rule) (r : Answer Written) → b ≤ c → c ≤ 64 → Moves a b Rule.Rounded w (Ok u) → Moves b c rule u (Ok v) → MovesAndSays c b Rule.Rounded v r → r ≡ written u Exact
 
 -- what `out_and_back` answers: it goes so, and that is the law
-pub record OutAndBack (a b c w : ℕ) (r : Answer) : Type 0 where
+pub record OutAndBack (a b c w : ℕ) (r : Answer ℕ) : Type 0 where
   pub goes : GoesOutAndBack a b c Rule.Rounded w r
   pub first : b ≤ c → c ≤ 64 → Moves a b Rule.Rounded w r
 
 -- ---- negation
 -- the word w is negated and then moved from a to b
-unfoldable pub GoesNegated : ℕ → ℕ → ℕ → Written → Type 0
-GoesNegated a b w = AndThen Written.Refused (Negates a w) (MovesAndSays a b Rule.Rounded)
+unfoldable pub GoesNegated : ℕ → ℕ → ℕ → Answer Written → Type 0
+GoesNegated a b w = AndThen Err (Negates a w) (MovesAndSays a b Rule.Rounded)
 
 -- this is the negation of the moved word, with below and above exchanged in what is said; w is any word, zero and NaR too
 unfoldable pub TheNegationMovesToTheNegation : Type 0
-TheNegationMovesToTheNegation = (a b w u : ℕ) (s : Saying) (r : Written) → MovesAndSays a b Rule.Rounded w (Written.Word u s) → GoesNegated a b w r → r ≡ Written.Word (negated b u) (opposite_saying s)
+TheNegationMovesToTheNegation = (a b w u : ℕ) (s : Saying) (r : Answer Written) → MovesAndSays a b Rule.Rounded w (written u s) → GoesNegated a b w r → r ≡ written (negated b u) (opposite_saying s)
 
 -- what `move_negated` answers
-pub record MovesNegated (a b w : ℕ) (r : Written) : Type 0 where
+pub record MovesNegated (a b w : ℕ) (r : Answer Written) : Type 0 where
   pub goes : GoesNegated a b w r
-  pub negates : (u : ℕ) (s : Saying) → MovesAndSays a b Rule.Rounded w (Written.Word u s) → r ≡ Written.Word (negated b u) (opposite_saying s)
+  pub negates : (u : ℕ) (s : Saying) → MovesAndSays a b Rule.Rounded w (written u s) → r ≡ written (negated b u) (opposite_saying s)
 
 -- ---- order
 -- the words x and y are moved from a to b and then compared
-unfoldable pub GoesCompared : ℕ → ℕ → ℕ → ℕ → Comparison → Type 0
-GoesCompared a b x y = AndThen Comparison.Refused (Moves a b Rule.Rounded x) (λ u. AndThen Comparison.Refused (Moves a b Rule.Rounded y) (Compares b u))
+unfoldable pub GoesCompared : ℕ → ℕ → ℕ → ℕ → Answer Ordering → Type 0
+GoesCompared a b x y = AndThen Err (Moves a b Rule.Rounded x) (λ u. AndThen Err (Moves a b Rule.Rounded y) (Compares b u))
 
 -- the order that two words have afterwards is the one they had before, or they have become equal: so it is never the reverse
 unfoldable pub IsNotReversed : ℤ → ℤ → Type 0
@@ -70,27 +72,27 @@ unfoldable pub NaRStaysBelowEveryOtherWord : Type 0
 NaRStaysBelowEveryOtherWord = (a b x y : ℕ) (z after : ℤ) → takum a x ≡ NaR → takum a y ≡ real z → GoesCompared a b x y (Comparison.Is after) → after ≡ negsuc 0
 
 -- what `compare_moved` answers
-pub record ComparesMoved (a b x y : ℕ) (r : Comparison) : Type 0 where
+pub record ComparesMoved (a b x y : ℕ) (r : Answer Ordering) : Type 0 where
   pub goes : GoesCompared a b x y r
   pub not_reversed : (before after : ℤ) → Compares a x y (Comparison.Is before) → r ≡ Comparison.Is after → IsNotReversed before after
 
 -- ---- a middle width
 -- the word w goes from a to c by way of b
-unfoldable pub GoesBy : ℕ → ℕ → ℕ → ℕ → Written → Type 0
-GoesBy a b c w = AndThen Written.Refused (Moves a b Rule.Rounded w) (MovesAndSays b c Rule.Rounded)
+unfoldable pub GoesBy : ℕ → ℕ → ℕ → ℕ → Answer Written → Type 0
+GoesBy a b c w = AndThen Err (Moves a b Rule.Rounded w) (MovesAndSays b c Rule.Rounded)
 
 -- There are a word and widths, each narrower than the one before, for which this and the direct move differ.
 unfoldable pub AMiddleWidthCanChangeTheWord : Type 0
-AMiddleWidthCanChangeTheWord = (a b c w : ℕ) × IsWord a w × (b < a) × (c < b) × (u v : ℕ) × (s t : Saying) × GoesBy a b c w (Written.Word u s) × MovesAndSays a c Rule.Rounded w (Written.Word v t) × (u ≡ v → ⊥)
+AMiddleWidthCanChangeTheWord = (a b c w : ℕ) × IsWord a w × (b < a) × (c < b) × (u v : ℕ) × (s t : Saying) × GoesBy a b c w (written u s) × MovesAndSays a c Rule.Rounded w (written v t) × (u ≡ v → ⊥)
 
 -- A middle width at which the first move says exact changes nothing, neither the word nor what is said, nor a refusal.
 unfoldable pub AnExactMiddleChangesNothing : Type 0
-AnExactMiddleChangesNothing = (a b c w u : ℕ) (r r' : Written) → MovesAndSays a b Rule.Rounded w (Written.Word u Exact) → GoesBy a b c w r → MovesAndSays a c Rule.Rounded w r' → r ≡ r'
+AnExactMiddleChangesNothing = (a b c w u : ℕ) (r r' : Answer Written) → MovesAndSays a b Rule.Rounded w (written u Exact) → GoesBy a b c w r → MovesAndSays a c Rule.Rounded w r' → r ≡ r'
 
 -- Nor does one that is at least as wide as the source.
 unfoldable pub AMiddleAsWideChangesNothing : Type 0
-AMiddleAsWideChangesNothing = (a b c w : ℕ) (r r' : Written) → IsWord a w → a ≤ b → b ≤ 64 → GoesBy a b c w r → MovesAndSays a c Rule.Rounded w r' → r ≡ r'
+AMiddleAsWideChangesNothing = (a b c w : ℕ) (r r' : Answer Written) → IsWord a w → a ≤ b → b ≤ 64 → GoesBy a b c w r → MovesAndSays a c Rule.Rounded w r' → r ≡ r'
 
 -- a move to the same width is the word itself, and is said to be exact
 unfoldable pub AMoveToTheSameWidthIsTheWord : Type 0
-AMoveToTheSameWidthIsTheWord = (a w : ℕ) (r : Written) → IsWord a w → MovesAndSays a a Rule.Rounded w r → r ≡ Written.Word w Exact
+AMoveToTheSameWidthIsTheWord = (a w : ℕ) (r : Answer Written) → IsWord a w → MovesAndSays a a Rule.Rounded w r → r ≡ written w Exact

@@ -1,7 +1,11 @@
 -- What Wish 10 of paper 02 promises of blocks: none of width 8 is written any more, and old ones are read as before.
+use Rattle.std.specs.Prelude.{Err}
+use Rattle.bounds.specs.declared.refusal.ListRefusal.{ListRefusal}
+use Rattle.bounds.specs.Refusals.{ListAnswer}
+use Rattle.std.specs.Prelude.{⊤}
+use Rattle.bounds.specs.Sayings.{written}
 use Rattle.std.specs.Prelude.{◌≡◌, List, [], ◌∷◌, ℕ, ◌+◌, ◌≤◌, ◌<◌, length, get_or}
 use Rattle.sheet.specs.declared.block.Block.{Block}
-use Rattle.sheet.specs.declared.writing.Writing.{Writing}
 use Rattle.sheet.specs.Layout.{AreBytes, mark, width, count, block_number, words, numbers, A, B}
 use Rattle.sheet.specs.Sums.{sum_a, sum_b}
 use Rattle.sheet.specs.Reads.{ReadsBlock, FillsResults}
@@ -11,12 +15,12 @@ use Rattle.promises.specs.Demands.{RefusedAs}
 -- ---- "The writer refuses width 8 in blocks":
 -- with 13, whatever number, words and buffer it is given, and the buffer stays as it came
 unfoldable pub NoBlockOfWidth8IsWritten : Type 0
-NoBlockOfWidth8IsWritten = (number : ℕ) (words before after : List ℕ) (a : Writing) → WritesBlock 8 words before a → FillsBuffer 8 number words before a after
-    → RefusedAs Writing Writing.Refused 13 a × (after ≡ before)
+NoBlockOfWidth8IsWritten = (number : ℕ) (words before after : List ℕ) (a : ListAnswer ⊤) → WritesBlock 8 words before a → FillsBuffer 8 number words before a after
+    → RefusedAs (ListAnswer ⊤) Err (ListRefusal.Whole 13) a × (after ≡ before)
 
 -- and no other width so
 unfoldable pub OnlyWidth8IsRetired : Type 0
-OnlyWidth8IsRetired = (n : ℕ) (words before : List ℕ) (a : Writing) → WritesBlock n words before a → RefusedAs Writing Writing.Refused 13 a → n ≡ 8
+OnlyWidth8IsRetired = (n : ℕ) (words before : List ℕ) (a : ListAnswer ⊤) → WritesBlock n words before a → RefusedAs (ListAnswer ⊤) Err (ListRefusal.Whole 13) a → n ≡ 8
 
 -- ---- "Old 8-bit blocks are still read":
 -- a block of width 8 as it was sent once, with the right sums, no more words than there is room for, and zeros behind them,

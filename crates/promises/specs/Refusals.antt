@@ -1,17 +1,18 @@
 -- Demand 1: the refusal numbers of paper 01's table and those of paper 02, each given exactly when its line says. A call tries the lines that concern it
 -- in the paper's order, and each call's lines stand below in that order.
+use Rattle.std.specs.Prelude.{Ok, Err}
+use Rattle.bounds.specs.declared.refusal.ListRefusal.{ListRefusal}
+use Rattle.bounds.specs.Refusals.{Answer, ListAnswer}
+use Rattle.std.specs.Ordering.{Ordering}
+use Rattle.std.specs.Prelude.{⊤}
+use Rattle.bounds.specs.Sayings.{written}
 use Rattle.std.specs.Prelude.{◌≡◌, Bool, List, [], ◌∷◌, ◌⊎◌, ℕ, ◌+◌, ◌*◌, ◌/◌, ◌^◌, ◌≤◌, ◌<◌, Float, ℤ, pos, negsuc, ◌+ℤ◌, ◌-ℤ◌, length, get_or}
 use Rattle.std.specs.Float.{nan, inf, fin}
 use Rattle.std.specs.Float.Ieee.{up, down}
-use Rattle.bounds.specs.declared.answer.Answer.{Answer}
 use Rattle.bounds.specs.declared.answer.Written.{Written}
 use Rattle.bounds.specs.declared.refusal.Refusal.{Refusal}
-use Rattle.bounds.specs.declared.refusal.Verdict.{Verdict}
-use Rattle.bounds.specs.declared.width.Limit.{Limit}
-use Rattle.bounds.specs.declared.width.Made.{Made}
 use Rattle.bounds.specs.Refusals.{width_test, word_test, room_test, IsWord}
 use Rattle.bounds.specs.Widths.{Makes, GivesWord, GivesLimit}
-use Rattle.order.specs.declared.order.Comparison.{Comparison}
 use Rattle.word.specs.declared.reading.Reading.{Reading}
 use Rattle.sizes.specs.declared.size.Size.{Size}
 use Rattle.sizes.specs.declared.size.WordSize.{WordSize}
@@ -26,16 +27,13 @@ use Rattle.write.specs.declared.value.Value.{Value}
 use Rattle.round.specs.Writes.{IsExact, WritesShort, WritesSize, WritesLong}
 use Rattle.write.specs.Writes.{Writes, Moves}
 use Rattle.whole.specs.declared.taking.Taking.{Taking}
-use Rattle.whole.specs.declared.taking.Whole.{Whole}
 use Rattle.whole.specs.Wholes.{IsNearestWhole, WritesWhole, TakesWhole}
 use Rattle.whole.specs.Shortest.{GivesShortest}
 use Rattle.binary64.specs.declared.taking.Binary64.{Binary64}
 use Rattle.binary64.specs.Takes.{TakesBinary64}
 use Rattle.binary64.specs.Writes.{WritesBinary64}
-use Rattle.column.specs.declared.moving.Column.{Column}
 use Rattle.column.specs.Columns.{MovesColumn}
 use Rattle.sheet.specs.declared.block.Block.{Block}
-use Rattle.sheet.specs.declared.writing.Writing.{Writing}
 use Rattle.sheet.specs.Layout as block
 use Rattle.sheet.specs.Sums.{sum_a, sum_b}
 use Rattle.sheet.specs.Reads.{ReadsBlock}
@@ -149,52 +147,52 @@ IsBinary64 n (inf s) w = IsWord n w × (takum n w ≡ NaR)
 IsBinary64 n (fin s m e) w = IsExact n s (m * up e * 2 ^ 307) (down e) w
 
 -- a chain of strict moves has the lines of its first move and, where none of them holds, those of the rest of the chain
-unfoldable pub ChainFollows : ℕ → ℕ → ℕ → List ℕ → Answer → Type 0
-ChainFollows home n w [] a = Follows Answer.Refused a (width n ∷ width home ∷ move_lines n home Rule.Strict w)
-ChainFollows home n w (n' ∷ ns) a = FollowsUpTo Answer.Refused a (width n ∷ width n' ∷ move_lines n n' Rule.Strict w) ((w' : ℕ) × Moves n n' Rule.Strict w (Answer.Word w') × ChainFollows home n' w' ns a)
+unfoldable pub ChainFollows : ℕ → ℕ → ℕ → List ℕ → Answer ℕ → Type 0
+ChainFollows home n w [] a = Follows Err a (width n ∷ width home ∷ move_lines n home Rule.Strict w)
+ChainFollows home n w (n' ∷ ns) a = FollowsUpTo Err a (width n ∷ width n' ∷ move_lines n n' Rule.Strict w) ((w' : ℕ) × Moves n n' Rule.Strict w (Ok w') × ChainFollows home n' w' ns a)
 
 -- each call with its lines
 pub record RefusalsFollowTheTable : Type 0 where
-  pub test : (n : ℕ) (a : Verdict) → a ≡ width_test n → Follows Verdict.Refused a (width n ∷ [])
-  pub test_word : (n w : ℕ) (a : Verdict) → a ≡ word_test n w → Follows Verdict.Refused a (width n ∷ stray n w ∷ [])
-  pub test_room : (count places : ℕ) (a : Verdict) → a ≡ room_test count places → Follows Verdict.Refused a (room count places ∷ [])
-  pub new : (n : ℕ) (a : Made) → Makes n a → Follows Made.Refused a (width n ∷ [])
+  pub test : (n : ℕ) (a : Verdict) → a ≡ width_test n → Follows Err a (width n ∷ [])
+  pub test_word : (n w : ℕ) (a : Verdict) → a ≡ word_test n w → Follows Err a (width n ∷ stray n w ∷ [])
+  pub test_room : (count places : ℕ) (a : Verdict) → a ≡ room_test count places → Follows Err a (room count places ∷ [])
+  pub new : (n : ℕ) (a : Answer Width) → Makes n a → Follows Err a (width n ∷ [])
   -- largest, smallest and NaR word
-  pub words : (f : ℕ → ℕ) (n : ℕ) (a : Answer) → GivesWord f n a → Follows Answer.Refused a (width n ∷ [])
-  pub limit : (n : ℕ) (a : Limit) → GivesLimit n a → Follows Limit.Refused a (width n ∷ [])
+  pub words : (f : ℕ → ℕ) (n : ℕ) (a : Answer ℕ) → GivesWord f n a → Follows Err a (width n ∷ [])
+  pub limit : (n : ℕ) (a : Answer ℕ) → GivesLimit n a → Follows Err a (width n ∷ [])
   pub read : (n w : ℕ) (a : Reading) → Reads n w a → Follows refused_reading a (width n ∷ stray n w ∷ [])
-  pub read_size : (n w : ℕ) (a : WordSize) → ReadsSize n w a → Follows WordSize.Refused a (width n ∷ stray n w ∷ [])
-  pub compare : (n x y : ℕ) (a : Comparison) → Compares n x y a → Follows Comparison.Refused a (width n ∷ stray n x ∷ stray n y ∷ [])
-  pub negate : (n w : ℕ) (a : Answer) → Negates n w a → Follows Answer.Refused a (width n ∷ stray n w ∷ [])
-  pub negate_twice : (n w : ℕ) (a : Answer) → ComesBack n w a → Follows Answer.Refused a (width n ∷ stray n w ∷ [])
-  pub nearest : (n : ℕ) (negative : Bool) (h : ℤ) (m below : ℕ) (a : Answer) → FindsNearest n negative h m below a → Follows Answer.Refused a (width n ∷ [])
+  pub read_size : (n w : ℕ) (a : WordSize) → ReadsSize n w a → Follows Err a (width n ∷ stray n w ∷ [])
+  pub compare : (n x y : ℕ) (a : Answer Ordering) → Compares n x y a → Follows Err a (width n ∷ stray n x ∷ stray n y ∷ [])
+  pub negate : (n w : ℕ) (a : Answer ℕ) → Negates n w a → Follows Err a (width n ∷ stray n w ∷ [])
+  pub negate_twice : (n w : ℕ) (a : Answer ℕ) → ComesBack n w a → Follows Err a (width n ∷ stray n w ∷ [])
+  pub nearest : (n : ℕ) (negative : Bool) (h : ℤ) (m below : ℕ) (a : Answer ℕ) → FindsNearest n negative h m below a → Follows Err a (width n ∷ [])
   -- through the hub
-  pub write_short : (n : ℕ) (rule : Rule) (negative : Bool) (m : ℕ) (k : ℤ) (a : Answer) → WritesShort n rule negative m k a → Follows Answer.Refused a (short_lines n rule negative m k)
-  pub write_size : (n : ℕ) (rule : Rule) (s : Size) (a : Answer) → WritesSize n rule s a → Follows Answer.Refused a (short_lines n rule s.negative s.m (s.h -ℤ pos 63))
-  pub write_long : (n : ℕ) (rule : Rule) (v : LongValue) (a : Answer) → WritesLong n rule v a → Follows Answer.Refused a (width n ∷ no_word rule (IsExact n v.negative (long_numerator v) (long_denominator v)) ∷ [])
-  pub write : (n : ℕ) (rule : Rule) (v : Value) (a : Answer) → Writes n rule v a → Follows Answer.Refused a (width n ∷ no_word rule (IsExact n v.negative (numerator v) (denominator v)) ∷ [])
-  pub write_whole : (n : ℕ) (rule : Rule) (x : ℤ) (a : Answer) → WritesWhole n rule x a → Follows Answer.Refused a (width n ∷ no_word rule (IsWhole n x) ∷ [])
-  pub take_whole : (n : ℕ) (rule : Taking) (w : ℕ) (a : Whole) → TakesWhole n rule w a → Follows Whole.Refused a (width n ∷ stray n w ∷ nar n w ∷ over n w ∷ no_whole rule n w ∷ [])
-  pub shortest_width : (x : ℤ) (a : Made) → GivesShortest x a → Follows Made.Refused a (no_width x ∷ [])
-  pub write_binary64 : (n : ℕ) (rule : Rule) (x : Float) (a : Answer) → WritesBinary64 n rule x a → Follows Answer.Refused a (width n ∷ no_word rule (IsBinary64 n x) ∷ [])
+  pub write_short : (n : ℕ) (rule : Rule) (negative : Bool) (m : ℕ) (k : ℤ) (a : Answer ℕ) → WritesShort n rule negative m k a → Follows Err a (short_lines n rule negative m k)
+  pub write_size : (n : ℕ) (rule : Rule) (s : Size) (a : Answer ℕ) → WritesSize n rule s a → Follows Err a (short_lines n rule s.negative s.m (s.h -ℤ pos 63))
+  pub write_long : (n : ℕ) (rule : Rule) (v : LongValue) (a : Answer ℕ) → WritesLong n rule v a → Follows Err a (width n ∷ no_word rule (IsExact n v.negative (long_numerator v) (long_denominator v)) ∷ [])
+  pub write : (n : ℕ) (rule : Rule) (v : Value) (a : Answer ℕ) → Writes n rule v a → Follows Err a (width n ∷ no_word rule (IsExact n v.negative (numerator v) (denominator v)) ∷ [])
+  pub write_whole : (n : ℕ) (rule : Rule) (x : ℤ) (a : Answer ℕ) → WritesWhole n rule x a → Follows Err a (width n ∷ no_word rule (IsWhole n x) ∷ [])
+  pub take_whole : (n : ℕ) (rule : Taking) (w : ℕ) (a : Answer ℤ) → TakesWhole n rule w a → Follows Err a (width n ∷ stray n w ∷ nar n w ∷ over n w ∷ no_whole rule n w ∷ [])
+  pub shortest_width : (x : ℤ) (a : Answer Width) → GivesShortest x a → Follows Err a (no_width x ∷ [])
+  pub write_binary64 : (n : ℕ) (rule : Rule) (x : Float) (a : Answer ℕ) → WritesBinary64 n rule x a → Follows Err a (width n ∷ no_word rule (IsBinary64 n x) ∷ [])
   pub take_binary64 : (n w : ℕ) (a : Binary64) → TakesBinary64 n w a → Follows Binary64.Refused a (width n ∷ stray n w ∷ [])
   -- the source's width, then the target's
-  pub move_word : (n n' : ℕ) (rule : Rule) (w : ℕ) (a : Answer) → Moves n n' rule w a → Follows Answer.Refused a (width n ∷ width n' ∷ move_lines n n' rule w)
-  pub come_home : (n w : ℕ) (ns : List ℕ) (a : Answer) → ComesHome n w ns a → ChainFollows n n w ns a
+  pub move_word : (n n' : ℕ) (rule : Rule) (w : ℕ) (a : Answer ℕ) → Moves n n' rule w a → Follows Err a (width n ∷ width n' ∷ move_lines n n' rule w)
+  pub come_home : (n w : ℕ) (ns : List ℕ) (a : Answer ℕ) → ComesHome n w ns a → ChainFollows n n w ns a
   -- The laws of moving, as functions (paper 02, Wish 14). Each call is made only where the one before it gave a word, so a width can come after STRAY.
-  pub out_and_back : (a b c w : ℕ) (r : Answer) → OutAndBack a b c w r → Follows Answer.Refused r (width a ∷ width b ∷ stray a w ∷ width c ∷ [])
-  pub move_negated : (a b w : ℕ) (r : Written) → MovesNegated a b w r → Follows Written.Refused r (width a ∷ stray a w ∷ width b ∷ [])
-  pub compare_moved : (a b x y : ℕ) (r : Comparison) → ComparesMoved a b x y r → Follows Comparison.Refused r (width a ∷ width b ∷ stray a x ∷ stray a y ∷ [])
-  pub move_column : (n n' : ℕ) (rule : Rule) (words : List ℕ) (places : ℕ) (a : Column) → MovesColumn n n' rule words places a → Follows Column.Refused a (width n ∷ width n' ∷ room (length words) places ∷ [])
+  pub out_and_back : (a b c w : ℕ) (r : Answer ℕ) → OutAndBack a b c w r → Follows Err r (width a ∷ width b ∷ stray a w ∷ width c ∷ [])
+  pub move_negated : (a b w : ℕ) (r : Answer Written) → MovesNegated a b w r → Follows Err r (width a ∷ stray a w ∷ width b ∷ [])
+  pub compare_moved : (a b x y : ℕ) (r : Answer Ordering) → ComparesMoved a b x y r → Follows Err r (width a ∷ width b ∷ stray a x ∷ stray a y ∷ [])
+  pub move_column : (n n' : ℕ) (rule : Rule) (words : List ℕ) (places : ℕ) (a : ListAnswer ℕ) → MovesColumn n n' rule words places a → Follows Err (ListRefusal.Whole a) (width n ∷ width n' ∷ room (length words) places ∷ [])
   -- and then each position that is reached, because the answer is no refusal of the column, nor one at a position before it
-  pub position : (n n' : ℕ) (rule : Rule) (words : List ℕ) (places : ℕ) (a : Column) → MovesColumn n n' rule words places a → ((q : Refusal) → a ≡ Column.Refused q → ⊥)
-      → (i : ℕ) → i < length words → ((j : ℕ) (q : Refusal) → j < i → a ≡ Column.RefusedAt j q → ⊥) → Follows (Column.RefusedAt i) a (move_lines n n' rule (get_or words i 0))
+  pub position : (n n' : ℕ) (rule : Rule) (words : List ℕ) (places : ℕ) (a : ListAnswer ℕ) → MovesColumn n n' rule words places a → ((q : Refusal) → a ≡ Err (ListRefusal.Whole q) → ⊥)
+      → (i : ℕ) → i < length words → ((j : ℕ) (q : Refusal) → j < i → a ≡ Err (ListRefusal.At j q) → ⊥) → Follows (λ q. Err (ListRefusal.At i q)) a (move_lines n n' rule (get_or words i 0))
   -- and no refusal has a position behind the column's end
-  pub inside : (n n' : ℕ) (rule : Rule) (words : List ℕ) (places : ℕ) (a : Column) → MovesColumn n n' rule words places a → (i : ℕ) (q : Refusal) → a ≡ Column.RefusedAt i q → i < length words
-  pub read_block : (b : List ℕ) (places : ℕ) (a : Block) → ReadsBlock b places a → Follows Block.Refused a (size b ∷ mark b ∷ check b ∷ block_width b ∷ count b ∷ fill b ∷ room (block.count b) places ∷ [])
+  pub inside : (n n' : ℕ) (rule : Rule) (words : List ℕ) (places : ℕ) (a : ListAnswer ℕ) → MovesColumn n n' rule words places a → (i : ℕ) (q : Refusal) → a ≡ Err (ListRefusal.At i q) → i < length words
+  pub read_block : (b : List ℕ) (places : ℕ) (a : Block) → ReadsBlock b places a → Follows Err a (size b ∷ mark b ∷ check b ∷ block_width b ∷ count b ∷ fill b ∷ room (block.count b) places ∷ [])
   -- SIZE is asked of the buffer
-  pub write_block : (n : ℕ) (words buffer : List ℕ) (a : Writing) → WritesBlock n words buffer a → Follows Writing.Refused a (written_width n ∷ retired n ∷ written_count n (length words) ∷ size buffer ∷ [])
+  pub write_block : (n : ℕ) (words buffer : List ℕ) (a : ListAnswer ⊤) → WritesBlock n words buffer a → Follows Err (ListRefusal.Whole a) (written_width n ∷ retired n ∷ written_count n (length words) ∷ size buffer ∷ [])
   -- and then each position that is reached, as in a column
-  pub write_position : (n : ℕ) (words buffer : List ℕ) (a : Writing) → WritesBlock n words buffer a → ((q : Refusal) → a ≡ Writing.Refused q → ⊥)
-      → (i : ℕ) → i < length words → ((j : ℕ) (q : Refusal) → j < i → a ≡ Writing.RefusedAt j q → ⊥) → Follows (Writing.RefusedAt i) a (stray n (get_or words i 0) ∷ [])
-  pub write_inside : (n : ℕ) (words buffer : List ℕ) (a : Writing) → WritesBlock n words buffer a → (i : ℕ) (q : Refusal) → a ≡ Writing.RefusedAt i q → i < length words
+  pub write_position : (n : ℕ) (words buffer : List ℕ) (a : ListAnswer ⊤) → WritesBlock n words buffer a → ((q : Refusal) → a ≡ Err (ListRefusal.Whole q) → ⊥)
+      → (i : ℕ) → i < length words → ((j : ℕ) (q : Refusal) → j < i → a ≡ Err (ListRefusal.At j q) → ⊥) → Follows (λ q. Err (ListRefusal.At i q)) a (stray n (get_or words i 0) ∷ [])
+  pub write_inside : (n : ℕ) (words buffer : List ℕ) (a : ListAnswer ⊤) → WritesBlock n words buffer a → (i : ℕ) (q : Refusal) → a ≡ Err (ListRefusal.At i q) → i < length words

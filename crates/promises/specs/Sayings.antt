@@ -1,4 +1,7 @@
 -- Which way it went (paper 02, Wish 4): what is promised of the saying beside a word, whatever was written, and of a column's count.
+use Rattle.std.specs.Prelude.{Ok, Err}
+use Rattle.bounds.specs.Refusals.{Answer, ListAnswer}
+use Rattle.bounds.specs.Sayings.{written}
 use Rattle.std.specs.Prelude.{◌≡◌, Bool, false, not, List, ◌⊎◌, ℕ, ◌+◌, ◌*◌, ◌^◌, ◌≤◌, ◌<◌, Float, ℤ, pos, neg_ℤ, nat_abs, ◌+ℤ◌, ◌-ℤ◌, length, get_or}
 use Rattle.std.specs.Float.{nan, inf, fin}
 use Rattle.std.specs.Float.Ieee.{neg, up, down}
@@ -29,7 +32,6 @@ use Rattle.whole.specs.Wholes.{WritesWhole}
 use Rattle.whole.specs.Sayings.{WritesWholeAndSays}
 use Rattle.binary64.specs.Writes.{WritesBinary64}
 use Rattle.binary64.specs.Sayings.{WritesBinary64AndSays}
-use Rattle.column.specs.declared.moving.Column.{Column}
 use Rattle.column.specs.declared.moving.MovedColumn.{MovedColumn}
 use Rattle.column.specs.Columns.{MovesColumn}
 use Rattle.column.specs.Counts.{Counts, HoldsAndCounts}
@@ -68,7 +70,7 @@ IsFit (size s) = Unit {0}
 IsFit (long v) = Unit {0}
 
 -- what the call answers that writes it in n bits by the rule
-unfoldable pub Gives : ℕ → Rule → Offered → Written → Type 0
+unfoldable pub Gives : ℕ → Rule → Offered → Answer Written → Type 0
 Gives n rule (value v) r = WritesAndSays n rule v r
 Gives n rule (whole x) r = WritesWholeAndSays n rule x r
 Gives n rule (binary64 x) r = WritesBinary64AndSays n rule x r
@@ -111,35 +113,35 @@ HasTheMeaning n nar w = IsWord n w × (takum n w ≡ NaR)
 -- ---- what stays
 -- Without its saying, what a call answers is what it answered before there were sayings: all that is promised of that holds as it did.
 pub record TheAnswerIsAsBefore : Type 0 where
-  pub write : (n : ℕ) (rule : Rule) (v : Value) (r : Written) → WritesAndSays n rule v r → Writes n rule v (plain r)
-  pub write_whole : (n : ℕ) (rule : Rule) (x : ℤ) (r : Written) → WritesWholeAndSays n rule x r → WritesWhole n rule x (plain r)
-  pub write_binary64 : (n : ℕ) (rule : Rule) (x : Float) (r : Written) → WritesBinary64AndSays n rule x r → WritesBinary64 n rule x (plain r)
-  pub move_word : (n n' : ℕ) (rule : Rule) (w : ℕ) (r : Written) → MovesAndSays n n' rule w r → Moves n n' rule w (plain r)
-  pub write_short : (n : ℕ) (rule : Rule) (negative : Bool) (m : ℕ) (k : ℤ) (r : Written) → WritesShortAndSays n rule negative m k r → WritesShort n rule negative m k (plain r)
-  pub write_size : (n : ℕ) (rule : Rule) (s : Size) (r : Written) → WritesSizeAndSays n rule s r → WritesSize n rule s (plain r)
-  pub write_long : (n : ℕ) (rule : Rule) (v : LongValue) (r : Written) → WritesLongAndSays n rule v r → WritesLong n rule v (plain r)
-  pub nearest : (n : ℕ) (negative : Bool) (h : ℤ) (m below : ℕ) (r : Written) → nearest.FindsAndSays n negative h m below r → FindsNearest n negative h m below (plain r)
+  pub write : (n : ℕ) (rule : Rule) (v : Value) (r : Answer Written) → WritesAndSays n rule v r → Writes n rule v (plain r)
+  pub write_whole : (n : ℕ) (rule : Rule) (x : ℤ) (r : Answer Written) → WritesWholeAndSays n rule x r → WritesWhole n rule x (plain r)
+  pub write_binary64 : (n : ℕ) (rule : Rule) (x : Float) (r : Answer Written) → WritesBinary64AndSays n rule x r → WritesBinary64 n rule x (plain r)
+  pub move_word : (n n' : ℕ) (rule : Rule) (w : ℕ) (r : Answer Written) → MovesAndSays n n' rule w r → Moves n n' rule w (plain r)
+  pub write_short : (n : ℕ) (rule : Rule) (negative : Bool) (m : ℕ) (k : ℤ) (r : Answer Written) → WritesShortAndSays n rule negative m k r → WritesShort n rule negative m k (plain r)
+  pub write_size : (n : ℕ) (rule : Rule) (s : Size) (r : Answer Written) → WritesSizeAndSays n rule s r → WritesSize n rule s (plain r)
+  pub write_long : (n : ℕ) (rule : Rule) (v : LongValue) (r : Answer Written) → WritesLongAndSays n rule v r → WritesLong n rule v (plain r)
+  pub nearest : (n : ℕ) (negative : Bool) (h : ℤ) (m below : ℕ) (r : Answer Written) → nearest.FindsAndSays n negative h m below r → FindsNearest n negative h m below (plain r)
 
 -- ---- exact
 -- exact is said if and only if a word of the width means the same, and then it is that word, by either rule
 unfoldable pub ExactWhereAWordHasTheValue : Type 0
-ExactWhereAWordHasTheValue = (n : ℕ) (rule : Rule) (o : Offered) (w : ℕ) (s : Saying) → IsFit o → 2 ≤ n → n ≤ 64 → Gives n rule o (Written.Word w s) → (s ≡ Exact → HasTheMeaning n (meant o) w) × ((w' : ℕ) → HasTheMeaning n (meant o) w' → (s ≡ Exact) × (w ≡ w'))
+ExactWhereAWordHasTheValue = (n : ℕ) (rule : Rule) (o : Offered) (w : ℕ) (s : Saying) → IsFit o → 2 ≤ n → n ≤ 64 → Gives n rule o (written w s) → (s ≡ Exact → HasTheMeaning n (meant o) w) × ((w' : ℕ) → HasTheMeaning n (meant o) w' → (s ≡ Exact) × (w ≡ w'))
 
 -- by the strict rule it is always exact
 unfoldable pub ByTheStrictRuleItIsExact : Type 0
-ByTheStrictRuleItIsExact = (n : ℕ) (o : Offered) (w : ℕ) (s : Saying) → IsFit o → 2 ≤ n → n ≤ 64 → Gives n Rule.Strict o (Written.Word w s) → s ≡ Exact
+ByTheStrictRuleItIsExact = (n : ℕ) (o : Offered) (w : ℕ) (s : Saying) → IsFit o → 2 ≤ n → n ≤ 64 → Gives n Rule.Strict o (written w s) → s ≡ Exact
 
 -- The two rules tell the same story. Rounded gives a word and its saying; where that is exact, strict gives the same, and elsewhere it refuses as INEXACT.
-unfoldable pub TellTheSame : Written → Written → Type 0
-TellTheSame rounded strict = (w : ℕ) × (s : Saying) × (rounded ≡ Written.Word w s) × (((s ≡ Exact) × (strict ≡ rounded)) ⊎ ((s ≡ Exact → ⊥) × RefusedAs Written Written.Refused 4 strict))
+unfoldable pub TellTheSame : Answer Written → Answer Written → Type 0
+TellTheSame rounded strict = (w : ℕ) × (s : Saying) × (rounded ≡ written w s) × (((s ≡ Exact) × (strict ≡ rounded)) ⊎ ((s ≡ Exact → ⊥) × RefusedAs Written Err 4 strict))
 
 unfoldable pub TheTwoRulesTellTheSameStory : Type 0
-TheTwoRulesTellTheSameStory = (n : ℕ) (o : Offered) (a b : Written) → IsFit o → 2 ≤ n → n ≤ 64 → Gives n Rule.Rounded o a → Gives n Rule.Strict o b → TellTheSame a b
+TheTwoRulesTellTheSameStory = (n : ℕ) (o : Offered) (a b : Answer Written) → IsFit o → 2 ≤ n → n ≤ 64 → Gives n Rule.Rounded o a → Gives n Rule.Strict o b → TellTheSame a b
 
 -- what is zero or NaR is exact: NaN and both infinities become NaR
 unfoldable pub ZeroAndNaRAreExact : Type 0
-ZeroAndNaRAreExact = (n : ℕ) (rule : Rule) (o : Offered) (r : Written) → IsFit o → 2 ≤ n → n ≤ 64 → Gives n rule o r
-    → ((negative : Bool) (b : ℕ) → meant o ≡ number negative 0 b → r ≡ Written.Word 0 Exact) × (meant o ≡ nar → r ≡ Written.Word (nar_word n) Exact)
+ZeroAndNaRAreExact = (n : ℕ) (rule : Rule) (o : Offered) (r : Answer Written) → IsFit o → 2 ≤ n → n ≤ 64 → Gives n rule o r
+    → ((negative : Bool) (b : ℕ) → meant o ≡ number negative 0 b → r ≡ written 0 Exact) × (meant o ≡ nar → r ≡ written (nar_word n) Exact)
 
 -- ---- one value, however it is offered
 -- NaR both, or numbers of one sign and one size; both sizes are multiplied by both denominators
@@ -151,22 +153,22 @@ MeanTheSame nar nar = Unit {0}
 
 -- are answered alike by every call, and the same is said of them
 unfoldable pub OneMeaningHasOneAnswer : Type 0
-OneMeaningHasOneAnswer = (n : ℕ) (rule : Rule) (o o' : Offered) (r r' : Written) → IsFit o → IsFit o' → 2 ≤ n → n ≤ 64 → MeanTheSame (meant o) (meant o') → Gives n rule o r → Gives n rule o' r' → r ≡ r'
+OneMeaningHasOneAnswer = (n : ℕ) (rule : Rule) (o o' : Offered) (r r' : Answer Written) → IsFit o → IsFit o' → 2 ≤ n → n ≤ 64 → MeanTheSame (meant o) (meant o') → Gives n rule o r → Gives n rule o' r' → r ≡ r'
 
 -- What `nearest` says is said of the size (m + below * 2^-64) * 2^(h - 63), of which it finds the word, the top bit of m being set.
 unfoldable pub WhatIsFoundIsSaidOfTheSize : Type 0
-WhatIsFoundIsSaidOfTheSize = (n : ℕ) (negative : Bool) (h : ℤ) (m below w : ℕ) (s : Saying) → 2 ^ 63 ≤ m → m < 2 ^ 64 → below < 2 ^ 64 → nearest.FindsAndSays n negative h m below (Written.Word w s) → (a b : ℕ) → 0 < b → IsOffered (m * 2 ^ 64 + below) Rest.Nothing (h -ℤ pos 127) a b → nearest.Says n negative a b w s
+WhatIsFoundIsSaidOfTheSize = (n : ℕ) (negative : Bool) (h : ℤ) (m below w : ℕ) (s : Saying) → 2 ^ 63 ≤ m → m < 2 ^ 64 → below < 2 ^ 64 → nearest.FindsAndSays n negative h m below (written w s) → (a b : ℕ) → 0 < b → IsOffered (m * 2 ^ 64 + below) Rest.Nothing (h -ℤ pos 127) a b → nearest.Says n negative a b w s
 
 -- What is said of a jammed long value is said of the exact size a / b, between x and x + 1 units, of which x is the first 128 bits. (`JammingChangesNoAnswer`
 -- says that the word is that of the exact size.)
 unfoldable pub JammingChangesNoSaying : Type 0
 JammingChangesNoSaying =
-    (n : ℕ) (rule : Rule) (v : LongValue) (x a b w : ℕ) (s : Saying) → 2 ≤ n → n ≤ 64 → 2 ^ 127 ≤ x → x < 2 ^ 128 → 0 < b → Between x v.k a b → significand v ≡ jammed x → WritesLongAndSays n rule v (Written.Word w s) → nearest.Says n v.negative a b w s
+    (n : ℕ) (rule : Rule) (v : LongValue) (x a b w : ℕ) (s : Saying) → 2 ≤ n → n ≤ 64 → 2 ^ 127 ≤ x → x < 2 ^ 128 → 0 < b → Between x v.k a b → significand v ≡ jammed x → WritesLongAndSays n rule v (written w s) → nearest.Says n v.negative a b w s
 
 -- ---- past the end
 -- past the end is said of an end word of the sign: of the largest where the size is beyond it, of the smallest where it is short of it
 unfoldable pub PastTheEndIsSaidOfTheEndWord : Type 0
-PastTheEndIsSaidOfTheEndWord = (n : ℕ) (o : Offered) (w : ℕ) → IsFit o → 2 ≤ n → n ≤ 64 → Gives n Rule.Rounded o (Written.Word w PastTheEnd)
+PastTheEndIsSaidOfTheEndWord = (n : ℕ) (o : Offered) (w : ℕ) → IsFit o → 2 ≤ n → n ≤ 64 → Gives n Rule.Rounded o (written w PastTheEnd)
     → (negative : Bool) × (a b z : ℕ) × (meant o ≡ number negative a b) × ((HasValue n false z (largest n) × (z * b < a) × (w ≡ of_sign n negative (largest n))) ⊎ (HasValue n false z (smallest n) × (a < z * b) × (w ≡ of_sign n negative (smallest n))))
 
 -- ---- negation
@@ -182,40 +184,40 @@ opposite (long v) = long (record { negative = not v.negative; high = v.high; low
 
 -- gives the negated word, and exchanges below and above
 unfoldable pub NegatingExchangesBelowAndAbove : Type 0
-NegatingExchangesBelowAndAbove = (n : ℕ) (o : Offered) (w : ℕ) (s : Saying) (r : Written) → IsFit o → 2 ≤ n → n ≤ 64 → Gives n Rule.Rounded o (Written.Word w s) → Gives n Rule.Rounded (opposite o) r → r ≡ Written.Word (negated n w) (opposite_saying s)
+NegatingExchangesBelowAndAbove = (n : ℕ) (o : Offered) (w : ℕ) (s : Saying) (r : Answer Written) → IsFit o → 2 ≤ n → n ≤ 64 → Gives n Rule.Rounded o (written w s) → Gives n Rule.Rounded (opposite o) r → r ≡ written (negated n w) (opposite_saying s)
 
 -- ---- moves
 -- a move says exact if and only if the meaning stays
 unfoldable pub AMoveIsExactWhereTheMeaningStays : Type 0
-AMoveIsExactWhereTheMeaningStays = (n n' : ℕ) (rule : Rule) (w w' : ℕ) (s : Saying) → MovesAndSays n n' rule w (Written.Word w' s) → (s ≡ Exact → takum n' w' ≡ takum n w) × (takum n' w' ≡ takum n w → s ≡ Exact)
+AMoveIsExactWhereTheMeaningStays = (n n' : ℕ) (rule : Rule) (w w' : ℕ) (s : Saying) → MovesAndSays n n' rule w (written w' s) → (s ≡ Exact → takum n' w' ≡ takum n w) × (takum n' w' ≡ takum n w → s ≡ Exact)
 
 -- to a width at least as wide it is exact, by either rule
 unfoldable pub AWiderMoveIsExact : Type 0
-AWiderMoveIsExact = (n more : ℕ) (rule : Rule) (w : ℕ) (r : Written) → n + more ≤ 64 → IsWord n w → MovesAndSays n (n + more) rule w r → r ≡ Written.Word (w * 2 ^ more) Exact
+AWiderMoveIsExact = (n more : ℕ) (rule : Rule) (w : ℕ) (r : Answer Written) → n + more ≤ 64 → IsWord n w → MovesAndSays n (n + more) rule w r → r ≡ written (w * 2 ^ more) Exact
 
 -- after a move that says exact, by either rule, a strict move back gives the first word
 unfoldable pub AfterExactTheWayBackIsOpen : Type 0
-AfterExactTheWayBackIsOpen = (n n' : ℕ) (rule : Rule) (w w' : ℕ) (r : Written) → MovesAndSays n n' rule w (Written.Word w' Exact) → MovesAndSays n' n Rule.Strict w' r → r ≡ Written.Word w Exact
+AfterExactTheWayBackIsOpen = (n n' : ℕ) (rule : Rule) (w w' : ℕ) (r : Answer Written) → MovesAndSays n n' rule w (written w' Exact) → MovesAndSays n' n Rule.Strict w' r → r ≡ written w Exact
 
 -- what a move answers and says is what writing answers and says of what was read
 unfoldable pub AMoveSaysWhatWritingSays : Type 0
-AMoveSaysWhatWritingSays = (n n' w : ℕ) (rule : Rule) (a : Reading) (v : Value) (r : Written) → IsWord n w → Reads n w a → Says a v → MovesAndSays n n' rule w r → WritesAndSays n' rule v r
+AMoveSaysWhatWritingSays = (n n' w : ℕ) (rule : Rule) (a : Reading) (v : Value) (r : Answer Written) → IsWord n w → Reads n w a → Says a v → MovesAndSays n n' rule w r → WritesAndSays n' rule v r
 
 -- ---- columns
 -- a column that was moved, with what its results hold afterwards
 pub record Moved (n n' : ℕ) (rule : Rule) (words before after : List ℕ) (a : MovedColumn) (count : ℕ) : Type 0 where
-  pub moved : a.answer ≡ Column.Moved count
+  pub moved : a.answer ≡ Ok count
   pub answers : MovesColumn n n' rule words (length before) a.answer
   pub holds : HoldsAndCounts n n' rule words before a after
 
 -- the count is that of the positions at which the move says exact
 unfoldable pub AColumnCountsWhatItsMovesSay : Type 0
-AColumnCountsWhatItsMovesSay = (n n' : ℕ) (rule : Rule) (words before after : List ℕ) (a : MovedColumn) (count : ℕ) → Moved n n' rule words before after a count → Counts (λ i. MovesAndSays n n' rule (get_or words i 0) (Written.Word (get_or after i 0) Exact)) (length words) a.exact
+AColumnCountsWhatItsMovesSay = (n n' : ℕ) (rule : Rule) (words before after : List ℕ) (a : MovedColumn) (count : ℕ) → Moved n n' rule words before after a count → Counts (λ i. MovesAndSays n n' rule (get_or words i 0) (written (get_or after i 0) Exact)) (length words) a.exact
 
 -- all are exact if and only if the strict column move of the same words is not refused
 unfoldable pub AllAreExactWhereStrictMovesThem : Type 0
-AllAreExactWhereStrictMovesThem = (n n' : ℕ) (words before after : List ℕ) (a : MovedColumn) (count : ℕ) (strict : Column) → Moved n n' Rule.Rounded words before after a count → MovesColumn n n' Rule.Strict words (length before) strict
-    → (a.exact ≡ count → strict ≡ Column.Moved count) × ((other : ℕ) → strict ≡ Column.Moved other → a.exact ≡ count)
+AllAreExactWhereStrictMovesThem = (n n' : ℕ) (words before after : List ℕ) (a : MovedColumn) (count : ℕ) (strict : ListAnswer ℕ) → Moved n n' Rule.Rounded words before after a count → MovesColumn n n' Rule.Strict words (length before) strict
+    → (a.exact ≡ count → strict ≡ Ok count) × ((other : ℕ) → strict ≡ Ok other → a.exact ≡ count)
 
 -- by the strict rule all are exact
 unfoldable pub AStrictColumnIsExactThroughout : Type 0
@@ -227,4 +229,4 @@ AWiderColumnIsExactThroughout = (n more : ℕ) (rule : Rule) (words before after
 
 -- a refused column counts none
 unfoldable pub ARefusedColumnCountsNone : Type 0
-ARefusedColumnCountsNone = (n n' : ℕ) (rule : Rule) (words before after : List ℕ) (a : MovedColumn) → HoldsAndCounts n n' rule words before a after → ((count : ℕ) → a.answer ≡ Column.Moved count → ⊥) → a.exact ≡ 0
+ARefusedColumnCountsNone = (n n' : ℕ) (rule : Rule) (words before after : List ℕ) (a : MovedColumn) → HoldsAndCounts n n' rule words before a after → ((count : ℕ) → a.answer ≡ Ok count → ⊥) → a.exact ≡ 0

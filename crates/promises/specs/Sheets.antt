@@ -1,11 +1,14 @@
 -- What Wish 1 of paper 02 promises of a written block: it reads back, and a block that is read, of width 16, 32 or 64, is what writing makes of its content.
+use Rattle.std.specs.Prelude.{Ok, Err}
+use Rattle.bounds.specs.declared.refusal.ListRefusal.{ListRefusal}
+use Rattle.bounds.specs.Refusals.{ListAnswer}
+use Rattle.std.specs.Prelude.{⊤}
+use Rattle.bounds.specs.Sayings.{written}
 use Rattle.std.specs.Prelude.{◌≡◌, List, ◌++◌, ◌⊎◌, ℕ, ◌≤◌, length, take, drop}
 use Rattle.bounds.specs.declared.refusal.Refusal.{Refusal}
 use Rattle.round.specs.declared.value.Rule.{Rule}
-use Rattle.column.specs.declared.moving.Column.{Column}
 use Rattle.column.specs.Columns.{MovesColumn, Holds}
 use Rattle.sheet.specs.declared.block.Block.{Block}
-use Rattle.sheet.specs.declared.writing.Writing.{Writing}
 use Rattle.sheet.specs.Layout.{AreBytes}
 use Rattle.sheet.specs.Reads.{ReadsBlock, FillsResults}
 use Rattle.sheet.specs.Writes.{WritesBlock, FillsBuffer}
@@ -13,8 +16,8 @@ use Rattle.sheet.specs.Writes.{WritesBlock, FillsBuffer}
 -- ---- what the two calls do, each with its answer and what it leaves in the memory that it was lent
 -- these words are written with this width and number: the buffer, which held `before`, holds the block
 pub record BlockIsWritten (n number : ℕ) (words before block : List ℕ) : Type 0 where
-  pub answer : WritesBlock n words before Writing.Written
-  pub buffer : FillsBuffer n number words before Writing.Written block
+  pub answer : WritesBlock n words before Ok tt
+  pub buffer : FillsBuffer n number words before Ok tt block
 
 -- the block is read as this width and number and these words: they are the first results
 pub record BlockIsRead (block : List ℕ) (n number : ℕ) (words : List ℕ) : Type 0 where
@@ -26,7 +29,7 @@ pub record BlockIsRead (block : List ℕ) (n number : ℕ) (words : List ℕ) : 
 
 -- ---- demand 1 for the buffer: a refused call writes nothing into it
 unfoldable pub ARefusedWriteLeavesTheBuffer : Type 0
-ARefusedWriteLeavesTheBuffer = (n number : ℕ) (words before after : List ℕ) (a : Writing) → FillsBuffer n number words before a after → (a ≡ Writing.Written → ⊥) → after ≡ before
+ARefusedWriteLeavesTheBuffer = (n number : ℕ) (words before after : List ℕ) (a : ListAnswer ⊤) → FillsBuffer n number words before a after → (a ≡ Ok tt → ⊥) → after ≡ before
 
 -- ---- "A written block reads back as the same width, number and words,
 -- (in results that are long enough, of which the words are the first, and the others stay)
@@ -39,8 +42,8 @@ AWrittenBlockReadsBack = (n number : ℕ) (words before block : List ℕ) → Bl
 -- (all of its bytes, in whatever buffer of 512 bytes; by Wish 10 of widths 16, 32 and 64, and OldBlocks.antt has what is answered at width 8)
 unfoldable pub AnAcceptedBlockIsWhatTheWriterMakes : Type 0
 AnAcceptedBlockIsWhatTheWriterMakes = (block : List ℕ) (n number : ℕ) (words : List ℕ) → AreBytes block → BlockIsRead block n number words → (n ≡ 16) ⊎ ((n ≡ 32) ⊎ (n ≡ 64))
-    → (before after : List ℕ) (a : Writing) → length before ≡ 512 → WritesBlock n words before a → FillsBuffer n number words before a after
-    → (a ≡ Writing.Written) × (after ≡ block)
+    → (before after : List ℕ) (a : ListAnswer ⊤) → length before ≡ 512 → WritesBlock n words before a → FillsBuffer n number words before a after
+    → (a ≡ Ok tt) × (after ≡ block)
 
 -- two blocks with the same content are the same bytes, at width 8 too
 unfoldable pub TheSameContentIsTheSameBytes : Type 0
@@ -49,8 +52,8 @@ TheSameContentIsTheSameBytes = (one other : List ℕ) (n number : ℕ) (words : 
 -- ---- demand 3 through a sheet: a column that is moved strictly, written, read back and moved back strictly is the first column. None of its words is
 -- stray, so the write is refused only as a whole: for the width, also where it is retired, the count or the buffer.
 unfoldable pub StrictColumnsComeHomeThroughASheet : Type 0
-StrictColumnsComeHomeThroughASheet = (n n' : ℕ) (words before moved : List ℕ) (count : ℕ) → MovesColumn n n' Rule.Strict words (length before) (Column.Moved count) → Holds n n' Rule.Strict words before (Column.Moved count) moved
-    → (number : ℕ) (buffer block : List ℕ) (w : Writing) → WritesBlock n' (take count moved) buffer w → FillsBuffer n' number (take count moved) buffer w block → ((q : Refusal) → w ≡ Writing.Refused q → ⊥)
+StrictColumnsComeHomeThroughASheet = (n n' : ℕ) (words before moved : List ℕ) (count : ℕ) → MovesColumn n n' Rule.Strict words (length before) (Ok count) → Holds n n' Rule.Strict words before (Ok count) moved
+    → (number : ℕ) (buffer block : List ℕ) (w : ListAnswer ⊤) → WritesBlock n' (take count moved) buffer w → FillsBuffer n' number (take count moved) buffer w block → ((q : Refusal) → w ≡ Err (ListRefusal.Whole q) → ⊥)
     → (results read : List ℕ) (b : Block) → count ≤ length results → ReadsBlock block (length results) b → FillsResults block results read
-    → (before' home : List ℕ) (a : Column) → count ≤ length before' → MovesColumn n' n Rule.Strict (take count read) (length before') a → Holds n' n Rule.Strict (take count read) before' a home
-    → (w ≡ Writing.Written) × (b ≡ Block.Read n' number count) × (a ≡ Column.Moved count) × (take count home ≡ words)
+    → (before' home : List ℕ) (a : ListAnswer ℕ) → count ≤ length before' → MovesColumn n' n Rule.Strict (take count read) (length before') a → Holds n' n Rule.Strict (take count read) before' a home
+    → (w ≡ Ok tt) × (b ≡ Block.Read n' number count) × (a ≡ Ok count) × (take count home ≡ words)

@@ -1,6 +1,8 @@
 -- What the letter demands of columns and blocks: lent memory after a refusal, and every place of a column or a block.
+use Rattle.std.specs.Prelude.{Ok, Err}
+use Rattle.bounds.specs.declared.refusal.ListRefusal.{ListRefusal}
+use Rattle.bounds.specs.Refusals.{ListAnswer}
 use Rattle.std.specs.Prelude.{◌≡◌, List, ◌⊎◌, ℕ, ◌+◌, ◌*◌, ◌/◌, ◌≤◌, ◌<◌, length, get_or}
-use Rattle.bounds.specs.declared.answer.Answer.{Answer}
 use Rattle.word.specs.declared.reading.Reading.{Reading}
 use Rattle.bounds.specs.declared.refusal.Refusal.{Refusal}
 use Rattle.bounds.specs.Refusals.{IsWord}
@@ -8,7 +10,6 @@ use Rattle.word.specs.Takum.{takum, fraction_bits, own_fraction_bits}
 use Rattle.word.specs.Reads.{IsReading, Reads}
 use Rattle.round.specs.declared.value.Rule.{Rule}
 use Rattle.write.specs.Writes.{Moves}
-use Rattle.column.specs.declared.moving.Column.{Column}
 use Rattle.column.specs.Columns.{MovesColumn, Holds}
 use Rattle.sheet.specs.declared.block.Block.{Block}
 use Rattle.sheet.specs.Layout.{AreBytes, number_at, mark, numbers, A, B}
@@ -20,26 +21,26 @@ use Rattle.promises.specs.Demands.{RefusedAs}
 -- ---- demand 1: a refused call writes nothing into lent memory
 -- a column that isn't moved, whether it was refused as a whole or at a position
 unfoldable pub ARefusedColumnWritesNothing : Type 0
-ARefusedColumnWritesNothing = (n n' : ℕ) (rule : Rule) (words before after : List ℕ) (a : Column) → Holds n n' rule words before a after → ((count : ℕ) → a ≡ Column.Moved count → ⊥) → after ≡ before
+ARefusedColumnWritesNothing = (n n' : ℕ) (rule : Rule) (words before after : List ℕ) (a : ListAnswer ℕ) → Holds n n' rule words before a after → ((count : ℕ) → a ≡ Ok count → ⊥) → after ≡ before
 
 -- a block that is refused
 unfoldable pub ARefusedBlockWritesNothing : Type 0
-ARefusedBlockWritesNothing = (block before after : List ℕ) (q : Refusal) → ReadsBlock block (length before) (Block.Refused q) → FillsResults block before after → after ≡ before
+ARefusedBlockWritesNothing = (block before after : List ℕ) (q : Refusal) → ReadsBlock block (length before) (Err q) → FillsResults block before after → after ≡ before
 
 -- ---- demands 2 and 3 at each place of a column
 -- every result is what the move of its word gives, what lies behind them is as it was, and the slice is as long as it was
 unfoldable pub EachWordOfAColumnIsMoved : Type 0
-EachWordOfAColumnIsMoved = (n n' : ℕ) (rule : Rule) (words before after : List ℕ) (count : ℕ) → MovesColumn n n' rule words (length before) (Column.Moved count) → Holds n n' rule words before (Column.Moved count) after
-    → (count ≡ length words) × (length after ≡ length before) × ((i : ℕ) → i < length words → Moves n n' rule (get_or words i 0) (Answer.Word (get_or after i 0))) × ((i : ℕ) → length words ≤ i → get_or after i 0 ≡ get_or before i 0)
+EachWordOfAColumnIsMoved = (n n' : ℕ) (rule : Rule) (words before after : List ℕ) (count : ℕ) → MovesColumn n n' rule words (length before) (Ok count) → Holds n n' rule words before (Ok count) after
+    → (count ≡ length words) × (length after ≡ length before) × ((i : ℕ) → i < length words → Moves n n' rule (get_or words i 0) (Ok (get_or after i 0))) × ((i : ℕ) → length words ≤ i → get_or after i 0 ≡ get_or before i 0)
 
 -- a refusal at a position is the move's of the word there, and no word before it is refused
 unfoldable pub TheFirstRefusalIsGiven : Type 0
-TheFirstRefusalIsGiven = (n n' : ℕ) (rule : Rule) (words : List ℕ) (room position : ℕ) (q : Refusal) → MovesColumn n n' rule words room (Column.RefusedAt position q)
-    → (position < length words) × Moves n n' rule (get_or words position 0) (Answer.Refused q) × ((i : ℕ) (q' : Refusal) → i < position → Moves n n' rule (get_or words i 0) (Answer.Refused q') → ⊥)
+TheFirstRefusalIsGiven = (n n' : ℕ) (rule : Rule) (words : List ℕ) (room position : ℕ) (q : Refusal) → MovesColumn n n' rule words room (Err (ListRefusal.At position q))
+    → (position < length words) × Moves n n' rule (get_or words position 0) (Err q) × ((i : ℕ) (q' : Refusal) → i < position → Moves n n' rule (get_or words i 0) (Err q') → ⊥)
 
 -- a strict column that is moved keeps every value
 unfoldable pub AStrictColumnKeepsEveryValue : Type 0
-AStrictColumnKeepsEveryValue = (n n' : ℕ) (words before after : List ℕ) (count : ℕ) → MovesColumn n n' Rule.Strict words (length before) (Column.Moved count) → Holds n n' Rule.Strict words before (Column.Moved count) after → (i : ℕ) → i < length words → takum n' (get_or after i 0) ≡ takum n (get_or words i 0)
+AStrictColumnKeepsEveryValue = (n n' : ℕ) (words before after : List ℕ) (count : ℕ) → MovesColumn n n' Rule.Strict words (length before) (Ok count) → Holds n n' Rule.Strict words before (Ok count) after → (i : ℕ) → i < length words → takum n' (get_or after i 0) ≡ takum n (get_or words i 0)
 
 -- ---- demand 2 at each place of a block
 -- the j-th result is the number in the block's bytes at its place, is a word of the block's width, and reading it is Definition 2
@@ -68,4 +69,4 @@ AChangeInOneNumberIsAChangeOfItsBytes = (i : ℕ) (old new : List ℕ) → AreBy
 -- where byte 0 is what changed.
 unfoldable pub AChangeInOneNumberIsNoticed : Type 0
 AChangeInOneNumberIsNoticed = (i : ℕ) (old new : List ℕ) (places : ℕ) (a : Block) → AreBytes old → AreBytes new → length old ≡ 512 → mark old ≡ 0x54 → sum_a (numbers old) ≡ A old → ChangedWithin i old new → ReadsBlock new places a
-    → ((mark new ≡ 0x54) × RefusedAs Block Block.Refused 9 a) ⊎ ((mark new ≡ 0x54 → ⊥) × RefusedAs Block Block.Refused 8 a)
+    → ((mark new ≡ 0x54) × RefusedAs Block Err 9 a) ⊎ ((mark new ≡ 0x54 → ⊥) × RefusedAs Block Err 8 a)

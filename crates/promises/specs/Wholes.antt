@@ -1,14 +1,13 @@
 -- Whole numbers by nearest (paper 02, Wish 2), as statements about what the public contracts allow. A value is z * 2^-307.
+use Rattle.std.specs.Prelude.{Ok, Err}
+use Rattle.bounds.specs.Refusals.{passed, Answer}
 use Rattle.std.specs.Prelude.{◌≡◌, List, [], ◌∷◌, ◌⊎◌, ℕ, ◌*◌, ◌%◌, ◌^◌, ◌≤◌, ◌<◌, ℤ, pos, negsuc, neg_ℤ, nat_abs, ◌+ℤ◌, length}
-use Rattle.bounds.specs.declared.refusal.Verdict.{Verdict}
-use Rattle.bounds.specs.declared.width.Limit.{Limit}
 use Rattle.bounds.specs.Refusals.{IsWord}
 use Rattle.bounds.specs.Widths.{GivesLimit}
 use Rattle.word.specs.Takum.{real, takum}
 use Rattle.word.specs.Orders.{negated}
 use Rattle.nearest.specs.Nearest.{distance}
 use Rattle.whole.specs.declared.taking.Taking.{Taking}
-use Rattle.whole.specs.declared.taking.Whole.{Whole}
 use Rattle.whole.specs.Wholes.{off_by, IsNearestWhole, over_test, TakesWhole}
 use Rattle.promises.specs.Demands.{RefusedAs}
 use Rattle.promises.specs.Numbers.{IsWhole}
@@ -17,7 +16,7 @@ use Rattle.promises.specs.Refusals.{OutsideSigned64}
 -- ---- the nearest, ties to even
 -- the number that goes out is the nearest to the word's value, by either rule
 unfoldable pub TheWholeNumberOutIsTheNearest : Type 0
-TheWholeNumberOutIsTheNearest = (n w : ℕ) (rule : Taking) (x : ℤ) → TakesWhole n rule w (Whole.Is x) → (z : ℤ) × (takum n w ≡ real z) × IsNearestWhole z x
+TheWholeNumberOutIsTheNearest = (n w : ℕ) (rule : Taking) (x : ℤ) → TakesWhole n rule w (Ok x) → (z : ℤ) × (takum n w ≡ real z) × IsNearestWhole z x
 
 -- every value has such a number, and only one
 unfoldable pub EveryValueHasANearestWholeNumber : Type 0
@@ -28,39 +27,39 @@ OneWholeNumberIsTheNearest = (z x y : ℤ) → IsNearestWhole z x → IsNearestW
 
 -- a whole value inside signed 64 bits goes out as itself, by either rule
 unfoldable pub AWholeValueGoesOutAsItself : Type 0
-AWholeValueGoesOutAsItself = (n w : ℕ) (x : ℤ) (rule : Taking) (a : Whole) → IsWhole n x w → over_test x ≡ Verdict.Through → TakesWhole n rule w a → a ≡ Whole.Is x
+AWholeValueGoesOutAsItself = (n w : ℕ) (x : ℤ) (rule : Taking) (a : Answer ℤ) → IsWhole n x w → over_test x ≡ passed → TakesWhole n rule w a → a ≡ Ok x
 
 -- and strictly, what goes out is the value itself
 unfoldable pub StrictlyTheNumberOutIsTheValue : Type 0
-StrictlyTheNumberOutIsTheValue = (n w : ℕ) (x : ℤ) → TakesWhole n Taking.Strict w (Whole.Is x) → IsWhole n x w
+StrictlyTheNumberOutIsTheValue = (n w : ℕ) (x : ℤ) → TakesWhole n Taking.Strict w (Ok x) → IsWhole n x w
 
 -- ---- negation (that the order of words is never reversed is `TakingWholeNumbersKeepsOrder`, Numbers.antt)
 -- the negated word goes out as the negated number
 unfoldable pub TheNegatedWordGoesOutAsTheNegatedNumber : Type 0
-TheNegatedWordGoesOutAsTheNegatedNumber = (n w : ℕ) (rule : Taking) (x : ℤ) (a : Whole) → nat_abs x < 2 ^ 63 → TakesWhole n rule w (Whole.Is x) → TakesWhole n rule (negated n w) a → a ≡ Whole.Is (neg_ℤ x)
+TheNegatedWordGoesOutAsTheNegatedNumber = (n w : ℕ) (rule : Taking) (x : ℤ) (a : Answer ℤ) → nat_abs x < 2 ^ 63 → TakesWhole n rule w (Ok x) → TakesWhole n rule (negated n w) a → a ≡ Ok (neg_ℤ x)
 
 -- but that of -2^63 is 2^63, which is OVER
 unfoldable pub TheNegatedWordOfTheLeastNumberIsOver : Type 0
-TheNegatedWordOfTheLeastNumberIsOver = (n w : ℕ) (rule : Taking) (a : Whole) → TakesWhole n rule w (Whole.Is (neg_ℤ (pos (2 ^ 63)))) → TakesWhole n rule (negated n w) a → RefusedAs Whole Whole.Refused 5 a
+TheNegatedWordOfTheLeastNumberIsOver = (n w : ℕ) (rule : Taking) (a : Answer ℤ) → TakesWhole n rule w (Ok (neg_ℤ (pos (2 ^ 63)))) → TakesWhole n rule (negated n w) a → RefusedAs Whole Err 5 a
 
 -- ---- the line in the ledger
 -- no word whose value is past the exact-count limit of its width goes out as an odd whole number, by either rule
 unfoldable pub NoWordPastTheLimitGoesOutOdd : Type 0
-NoWordPastTheLimitGoesOutOdd = (n l w : ℕ) (rule : Taking) (z x : ℤ) → GivesLimit n (Limit.Count l) → takum n w ≡ real z → l * 2 ^ 307 < nat_abs z → TakesWhole n rule w (Whole.Is x) → nat_abs x % 2 ≡ 0
+NoWordPastTheLimitGoesOutOdd = (n l w : ℕ) (rule : Taking) (z x : ℤ) → GivesLimit n (Ok l) → takum n w ≡ real z → l * 2 ^ 307 < nat_abs z → TakesWhole n rule w (Ok x) → nat_abs x % 2 ≡ 0
 
 -- nor does any go out as an odd whole number that is past it
 unfoldable pub NoOddNumberPastTheLimitGoesOut : Type 0
-NoOddNumberPastTheLimitGoesOut = (n l w : ℕ) (rule : Taking) (x : ℤ) → GivesLimit n (Limit.Count l) → l < nat_abs x → TakesWhole n rule w (Whole.Is x) → nat_abs x % 2 ≡ 0
+NoOddNumberPastTheLimitGoesOut = (n l w : ℕ) (rule : Taking) (x : ℤ) → GivesLimit n (Ok l) → l < nat_abs x → TakesWhole n rule w (Ok x) → nat_abs x % 2 ≡ 0
 
 -- ---- what the trade can quote
 -- the number out differs from the value by at most a half
 unfoldable pub TheWholeNumberOutIsOffByAtMostAHalf : Type 0
-TheWholeNumberOutIsOffByAtMostAHalf = (n w : ℕ) (rule : Taking) (z x : ℤ) → takum n w ≡ real z → TakesWhole n rule w (Whole.Is x) → 2 * off_by z x ≤ 2 ^ 307
+TheWholeNumberOutIsOffByAtMostAHalf = (n w : ℕ) (rule : Taking) (z x : ℤ) → takum n w ≡ real z → TakesWhole n rule w (Ok x) → 2 * off_by z x ≤ 2 ^ 307
 
 -- a rack: the words of its joints, each of a width of its own, their values, and the numbers that went out
 pub data Rack (rule : Taking) : List ℕ → List ℤ → List ℤ → Type 0 where
   empty : Rack rule [] [] []
-  joint : {words : List ℕ} {values numbers : List ℤ} (n w : ℕ) (z x : ℤ) → takum n w ≡ real z → TakesWhole n rule w (Whole.Is x) → Rack rule words values numbers → Rack rule (w ∷ words) (z ∷ values) (x ∷ numbers)
+  joint : {words : List ℕ} {values numbers : List ℤ} (n w : ℕ) (z x : ℤ) → takum n w ≡ real z → TakesWhole n rule w (Ok x) → Rack rule words values numbers → Rack rule (w ∷ words) (z ∷ values) (x ∷ numbers)
 
 unfoldable pub total : List ℤ → ℤ
 total [] = pos 0

@@ -1,5 +1,8 @@
 -- The law of jamming: an exact size with more than 128 bits is written as its first 128 bits are, the lowest one set for whatever lies below.
 -- Both lie strictly between the same two multiples of twice the last unit, and there every size is written alike. Assumes nothing.
+use Rattle.std.specs.Prelude.{Ok, Err}
+use Rattle.bounds.specs.Refusals.{Answer}
+use Rattle.bounds.specs.Sayings.{written}
 use mathlib.Core.Path.{◌≡◌, refl, sym, ap, ◌∙◌, subst}
 use mathlib.Core.Bool.{Bool, false}
 use Prim.Native.Nat.{ℕ, zero, suc, ◌+◌, ◌-◌, ◌*◌, ◌/◌, ◌%◌, ◌^◌, ◌≤◌, ◌<◌}
@@ -9,7 +12,6 @@ use native.Mathlib.Omega.{arith}
 use lib.Dec.{lit<, lit≤}
 use lib.IntN.{ℤ, pos, ◌+ℤ◌, +ℤ-neg_ℤ_cancel}
 use lib.Pow.{pow_pos, pow_mono, shr_lt, split}
-use Rattle.bounds.specs.declared.answer.Answer.{Answer}
 use Rattle.bounds.specs.declared.refusal.Refusal.{Refusal}
 use Rattle.word.specs.Takum.{regime_of, characteristic_of, power, S, D, R, r, p, C, F, c, e, value, meaning, N, padded, takum}
 use Rattle.word.specs.Reads.{num, den, signed_size}
@@ -112,12 +114,12 @@ module _ (n : ℕ) (lo : 2 ≤ n) (hi : n ≤ 64) (i y : ℕ) (k : ℤ) (full : 
       by (no f) = class_word Rest.OverHalf (λ a b x. over_half m below i k a b (parts a b x) (not_more f) fits)
 
   -- and by either rule one answer
-  pub between_written : (rule : Rule) (s : Bool) → (r : Answer) × ((a b : ℕ) → 0 < b → Between y k a b → IsWritten n rule s a b r)
+  pub between_written : (rule : Rule) (s : Bool) → (r : Answer ℕ) × ((a b : ℕ) → 0 < b → Between y k a b → IsWritten n rule s a b r)
   unfolding IsWritten
   between_written Rule.Rounded s =
       let t = between_nearest in
-      (Answer.Word (with_sign n s t.0), λ a b some x. other (nonzero y k a b x) (signed_nearest n lo hi s a b t.0 (t.1 a b some x)))
-  between_written Rule.Strict s = (Answer.Refused Refusal.Inexact, λ a b some x. (refl, λ w q. no_word_between n lo hi s y k a b (le_trans (pow_mono {i = 63} {j = 64 + i} (omega arith)) full) (nonzero y k a b x) some x w q))
+      (Ok (with_sign n s t.0), λ a b some x. other (nonzero y k a b x) (signed_nearest n lo hi s a b t.0 (t.1 a b some x)))
+  between_written Rule.Strict s = (Err Refusal.Inexact, λ a b some x. (refl, λ w q. no_word_between n lo hi s y k a b (le_trans (pow_mono {i = 63} {j = 64 + i} (omega arith)) full) (nonzero y k a b x) some x w q))
 
 -- ---- the exact size and the jammed one lie between the same multiples of twice the unit
 module _ (x : ℕ) (k : ℤ) where
@@ -144,7 +146,7 @@ module _ (x : ℕ) (k : ℤ) where
 -- every size that is cut to so many bits and jammed is written as it is itself
 unfoldable pub Jams : ℕ → Type 0
 Jams bits =
-    (n : ℕ) → 2 ≤ n → n ≤ 64 → (rule : Rule) (s : Bool) (x : ℕ) (k : ℤ) (a b : ℕ) (r r' : Answer) → 2 ^ (bits - 1) ≤ x → x < 2 ^ bits → 0 < b → Between x k a b
+    (n : ℕ) → 2 ≤ n → n ≤ 64 → (rule : Rule) (s : Bool) (x : ℕ) (k : ℤ) (a b : ℕ) (r r' : Answer ℕ) → 2 ^ (bits - 1) ≤ x → x < 2 ^ bits → 0 < b → Between x k a b
     → IsWritten n rule s a b r → IsWritten n rule s (jammed x * num (k +ℤ pos 307)) (den (k +ℤ pos 307)) r' → r ≡ r'
 
 -- 66 bits are enough
@@ -166,7 +168,7 @@ enough_bits_jam bits enough n lo hi rule s x k a b r r' full top some between ex
         sum = omega (arith, enough)
 
 -- so the 128 bits of a long value are
-pub jamming : (n : ℕ) → 2 ≤ n → n ≤ 64 → (rule : Rule) (s : Bool) (x : ℕ) (k : ℤ) (a b : ℕ) (r r' : Answer) → 2 ^ 127 ≤ x → x < 2 ^ 128 → 0 < b → Between x k a b → IsWritten n rule s a b r → IsWritten n rule s (jammed x * num (k +ℤ pos 307)) (den (k +ℤ pos 307)) r' → r ≡ r'
+pub jamming : (n : ℕ) → 2 ≤ n → n ≤ 64 → (rule : Rule) (s : Bool) (x : ℕ) (k : ℤ) (a b : ℕ) (r r' : Answer ℕ) → 2 ^ 127 ≤ x → x < 2 ^ 128 → 0 < b → Between x k a b → IsWritten n rule s a b r → IsWritten n rule s (jammed x * num (k +ℤ pos 307)) (den (k +ℤ pos 307)) r' → r ≡ r'
 unfolding Jams
 jamming = enough_bits_jam 128 (lit≤ tt)
 
@@ -182,7 +184,7 @@ upper = record { word = record { least = lit≤ tt; most = lit≤ tt; fits = lit
 
 pub sixty_five_bits_dont_jam : Jams 65 → ⊥
 unfolding Jams jammed num den IsWritten word_of
-sixty_five_bits_dont_jam jams = differ (jams 5 (lit≤ tt) (lit≤ tt) Rule.Rounded false (2 ^ 64 + 1) (pos 62) past 1 (Answer.Word 15) (Answer.Word 14) (lit≤ tt) (lit< tt) (lit< tt) (record { low = lit< tt; high = lit< tt }) (other (lit< tt) rounded_up) (other (lit< tt) rounded_down))
+sixty_five_bits_dont_jam jams = differ (jams 5 (lit≤ tt) (lit≤ tt) Rule.Rounded false (2 ^ 64 + 1) (pos 62) past 1 (Ok 15) (Ok 14) (lit≤ tt) (lit< tt) (lit< tt) (record { low = lit< tt; high = lit< tt }) (other (lit< tt) rounded_up) (other (lit< tt) rounded_down))
   where
     past : ℕ
     past = (2 ^ 126 + 2 ^ 62 + 1) * 2 ^ 307
@@ -193,5 +195,5 @@ sixty_five_bits_dont_jam jams = differ (jams 5 (lit≤ tt) (lit≤ tt) Rule.Roun
     rounded_down : Nearest 5 false ((2 ^ 64 + 1) * 2 ^ (62 + 307)) 1 14
     rounded_down = tie_nearest 5 (lit≤ tt) (lit≤ tt) 14 (2 ^ (63 + 307)) (2 ^ (127 + 307)) ((2 ^ 64 + 1) * 2 ^ (62 + 307)) 1 (lit< tt) (lit< tt) (lit< tt) lower upper refl
 
-    differ : Answer.Word 15 ≡ Answer.Word 14 → ⊥
+    differ : Ok 15 ≡ Ok 14 → ⊥
     differ q = omega (arith, ap word_of q)

@@ -1,4 +1,7 @@
 -- The laws of one rounded and one strict word: there is exactly one, a word's own value gives it back, and the ends. Assumes nothing.
+use Rattle.std.specs.Prelude.{Ok, Err}
+use Rattle.bounds.specs.Refusals.{Answer}
+use Rattle.bounds.specs.Sayings.{written}
 use mathlib.Core.Path.{◌≡◌, refl, sym, ap, ap₂, ◌∙◌, subst, subst₂}
 use mathlib.Core.Bool.{Bool, true, false, not}
 use Prim.Native.Nat.{ℕ, zero, suc, ◌+◌, ◌-◌, ◌*◌, ◌%◌, ◌^◌, ◌≤◌, ◌<◌}
@@ -6,7 +9,6 @@ use native.Mathlib.Nat.{zero-mul, lt_of_not-le, eq_of_mul-eq-mul_right, add-mul,
 use native.Mathlib.Decide.{dec_le}
 use native.Mathlib.Omega.{arith}
 use Rattle.word.specs.Orders.{negated}
-use Rattle.bounds.specs.declared.answer.Answer.{Answer}
 use Rattle.bounds.proofs.Powers.{twice}
 use Rattle.word.proofs.Signed.{negated_zero, negated_other}
 use Rattle.word.proofs.Values.{grown, words_differ}
@@ -127,19 +129,19 @@ module _ (n : ℕ) (lo : 2 ≤ n) (hi : n ≤ 64) where
       by (no f) = other (lt_of_not-le f) (exact_nearest n lo hi a b (lt_of_not-le f) some s w x)
 
   -- whatever the rule, it is written as that word
-  pub exact_written : (rule : Rule) (s : Bool) (a b w : ℕ) (r : Answer) → 0 < b → IsExact n s a b w → IsWritten n rule s a b r → r ≡ Answer.Word w
+  pub exact_written : (rule : Rule) (s : Bool) (a b w : ℕ) (r : Answer ℕ) → 0 < b → IsExact n s a b w → IsWritten n rule s a b r → r ≡ Ok w
   unfolding IsWritten
-  exact_written Rule.Rounded s a b w (Answer.Word v) some x y = ap Answer.Word (rounded_one s a b v w some y (exact_rounded s a b w some x))
-  exact_written Rule.Rounded s a b w (Answer.Refused q) some x y = absurd y
-  exact_written Rule.Strict s a b w (Answer.Word v) some x y = ap Answer.Word (rounded_one s a b v w some (exact_rounded s a b v some y) (exact_rounded s a b w some x))
-  exact_written Rule.Strict s a b w (Answer.Refused q) some x y = absurd (y.1 w x)
+  exact_written Rule.Rounded s a b w (Ok v) some x y = ap Ok (rounded_one s a b v w some y (exact_rounded s a b w some x))
+  exact_written Rule.Rounded s a b w (Err q) some x y = absurd y
+  exact_written Rule.Strict s a b w (Ok v) some x y = ap Ok (rounded_one s a b v w some (exact_rounded s a b v some y) (exact_rounded s a b w some x))
+  exact_written Rule.Strict s a b w (Err q) some x y = absurd (y.1 w x)
 
   -- two answers of a rule are the same
-  pub written_one : (rule : Rule) (s : Bool) (a b : ℕ) (r r' : Answer) → 0 < b → IsWritten n rule s a b r → IsWritten n rule s a b r' → r ≡ r'
+  pub written_one : (rule : Rule) (s : Bool) (a b : ℕ) (r r' : Answer ℕ) → 0 < b → IsWritten n rule s a b r → IsWritten n rule s a b r' → r ≡ r'
   unfolding IsWritten
-  written_one Rule.Rounded s a b (Answer.Word w) (Answer.Word w') some x y = ap Answer.Word (rounded_one s a b w w' some x y)
-  written_one Rule.Rounded s a b (Answer.Word w) (Answer.Refused q) some x y = absurd y
-  written_one Rule.Rounded s a b (Answer.Refused q) r some x y = absurd x
-  written_one Rule.Strict s a b (Answer.Word w) r some x y = sym (exact_written Rule.Strict s a b w r some x y)
-  written_one Rule.Strict s a b (Answer.Refused q) (Answer.Word w) some x y = absurd (x.1 w y)
-  written_one Rule.Strict s a b (Answer.Refused q) (Answer.Refused q') some x y = ap Answer.Refused (x.0 ∙ sym y.0)
+  written_one Rule.Rounded s a b (Ok w) (Ok w') some x y = ap Ok (rounded_one s a b w w' some x y)
+  written_one Rule.Rounded s a b (Ok w) (Err q) some x y = absurd y
+  written_one Rule.Rounded s a b (Err q) r some x y = absurd x
+  written_one Rule.Strict s a b (Ok w) r some x y = sym (exact_written Rule.Strict s a b w r some x y)
+  written_one Rule.Strict s a b (Err q) (Ok w) some x y = absurd (x.1 w y)
+  written_one Rule.Strict s a b (Err q) (Err q') some x y = ap Err (x.0 ∙ sym y.0)

@@ -1,4 +1,7 @@
 -- Zero, and what each rule makes of the nearest word and its saying. Assumes nothing.
+use Rattle.std.specs.Prelude.{Ok, Err}
+use Rattle.bounds.specs.Refusals.{Answer}
+use Rattle.bounds.specs.Sayings.{written}
 use mathlib.Core.Path.{◌≡◌, refl, sym, ap, ◌∙◌, subst, subst₂}
 use mathlib.Core.Bool.{Bool, true, false, cond, true≢false}
 use Prim.Native.Nat.{ℕ, ◌+◌, ◌%◌, ◌^◌, ◌≤◌, ◌<◌}
@@ -7,7 +10,6 @@ use native.Mathlib.Omega.{arith}
 use lib.IntN.{ℤ, pos, ◌-ℤ◌}
 use lib.Pow.{pow_pos}
 use Rattle.word.specs.Takum.{real}
-use Rattle.bounds.specs.declared.answer.Answer.{Answer}
 use Rattle.bounds.specs.declared.answer.Written.{Written}
 use Rattle.bounds.specs.declared.refusal.Refusal.{Refusal}
 use Rattle.bounds.specs.declared.saying.Saying.{Saying}
@@ -34,17 +36,17 @@ use Rattle.round.proofs.Signs.{exact_nearest}
 pub zero_value : (n : ℕ) → 2 ≤ n → n ≤ 64 → (s : Bool) → HasValue n s 0 0
 zero_value n lo hi s = record { word = record { least = lo; most = hi; fits = pow_pos n }; means = takum_zero n ∙ ap real (sym (no_sign s)) }
 
-pub zero_written : (n : ℕ) → 2 ≤ n → n ≤ 64 → (rule : Rule) (s : Bool) (a b : ℕ) → a ≡ 0 → IsWritten n rule s a b (Answer.Word 0)
+pub zero_written : (n : ℕ) → 2 ≤ n → n ≤ 64 → (rule : Rule) (s : Bool) (a b : ℕ) → a ≡ 0 → IsWritten n rule s a b (Ok 0)
 unfolding IsWritten
 zero_written n lo hi Rule.Rounded s a b q = zero q refl
 zero_written n lo hi Rule.Strict s a b q = record { z = 0; is = zero_value n lo hi s; same = zero-mul b ∙ sym q }
 
 -- and is exactly it, also where the width is tested
-pub zero_answered : (n : ℕ) (rule : Rule) (s : Bool) (a b : ℕ) (r : Written) → a ≡ 0 → WritesZero n r → AndSays (λ (t : Answer). Decided (width_test n) (λ q. t ≡ Answer.Refused q) (IsWritten n rule s a b t)) (Says n s a b) r
+pub zero_answered : (n : ℕ) (rule : Rule) (s : Bool) (a b : ℕ) (r : Answer Written) → a ≡ 0 → WritesZero n r → AndSays (λ (t : Answer ℕ). Decided (width_test n) (λ q. t ≡ Err q) (IsWritten n rule s a b t)) (Says n s a b) r
 unfolding WritesZero
 zero_answered n rule s a b r q x = decided_said (width_test n) r (by x)
   where
-    by : Decided (width_test n) (λ t. r ≡ Written.Refused t) (r ≡ Written.Word 0 Exact) → Decided (width_test n) (λ t. r ≡ Written.Refused t) (AndSays (IsWritten n rule s a b) (Says n s a b) r)
+    by : Decided (width_test n) (λ t. r ≡ Err t) (r ≡ written 0 Exact) → Decided (width_test n) (λ t. r ≡ Err t) (AndSays (IsWritten n rule s a b) (Says n s a b) r)
     by (through e is) = let t = width_through n e in
         through e (subst (AndSays (IsWritten n rule s a b) (Says n s a b)) (sym is) (word_said 0 Exact (zero_written n t.0 t.1 rule s a b q) (size_exact n t.0 t.1 s 0 a b 0 (zero_value n t.0 t.1 s) (zero-mul b ∙ sym q))))
     by (refused e is) = refused e is
@@ -61,39 +63,39 @@ module _ (n : ℕ) (lo : 2 ≤ n) (hi : n ≤ 64) (s : Bool) (a b w : ℕ) (t : 
       let exact = size_exact n lo hi s y.z a b w (subst (HasValue n s y.z) same y.is) y.same in
       true≢false (sym (ap says_exact (says_one n lo hi s a b w t Exact near.is.word says exact)) ∙ q)
 
-  word_settled : (rule : Rule) → AndSays (IsWritten n rule s a b) (Says n s a b) (settled rule (Written.Word w t))
+  word_settled : (rule : Rule) → AndSays (IsWritten n rule s a b) (Says n s a b) (settled rule (written w t))
   unfolding settled IsWritten
   word_settled Rule.Rounded = word_said w t (other nonzero near) says
   word_settled Rule.Strict = by (says_exact t) refl
     where
-      by : (e : Bool) → says_exact t ≡ e → AndSays (IsWritten n Rule.Strict s a b) (Says n s a b) (cond e (Written.Word w t) (Written.Refused Refusal.Inexact))
+      by : (e : Bool) → says_exact t ≡ e → AndSays (IsWritten n Rule.Strict s a b) (Says n s a b) (cond e (written w t) (Err Refusal.Inexact))
       by true q = word_said w t (strict_word q) says
       by false q = refusal_said Refusal.Inexact (refl, strict_refusal q)
 
 -- a refusal stays
-refusal_settled : (rule : Rule) (q : Refusal) → settled rule (Written.Refused q) ≡ Written.Refused q
+refusal_settled : (rule : Rule) (q : Refusal) → settled rule (Err q) ≡ Err q
 unfolding settled
 refusal_settled Rule.Rounded q = refl
 refusal_settled Rule.Strict q = refl
 
 -- what is found for a normal size is settled for each size that is offered so
-pub settles : (n : ℕ) (rule : Rule) (s : Bool) (h : ℤ) (m below : ℕ) (found : Written) → 2 ^ 63 ≤ m → m < 2 ^ 64 → FindsAndSays n s h m below found → (rest : Rest) → IsRest below rest → (a b : ℕ) → 0 < a → 0 < b → IsOffered m rest (h -ℤ pos 63) a b
-    → AndSays (λ (r : Answer). Decided (width_test n) (λ q. r ≡ Answer.Refused q) (IsWritten n rule s a b r)) (Says n s a b) (settled rule found)
+pub settles : (n : ℕ) (rule : Rule) (s : Bool) (h : ℤ) (m below : ℕ) (found : Answer Written) → 2 ^ 63 ≤ m → m < 2 ^ 64 → FindsAndSays n s h m below found → (rest : Rest) → IsRest below rest → (a b : ℕ) → 0 < a → 0 < b → IsOffered m rest (h -ℤ pos 63) a b
+    → AndSays (λ (r : Answer ℕ). Decided (width_test n) (λ q. r ≡ Err q) (IsWritten n rule s a b r)) (Says n s a b) (settled rule found)
 unfolding FindsAndSays FindsNearest SaysFound SaysOffered IsSignedNearest GivesAWord word_of
-settles n rule s h m below (Written.Word w t) full top finds rest is a b nonzero some offered = by finds.answers
+settles n rule s h m below (Ok (w,t)) full top finds rest is a b nonzero some offered = by finds.answers
   where
     same : 2 ^ 63 + m % 2 ^ 63 ≡ m
     same = omega (arith, full, top)
 
-    by : FindsNearest n s h m below (Answer.Word w) → AndSays (λ (r : Answer). Decided (width_test n) (λ q. r ≡ Answer.Refused q) (IsWritten n rule s a b r)) (Says n s a b) (settled rule (Written.Word w t))
+    by : FindsNearest n s h m below (Ok w) → AndSays (λ (r : Answer ℕ). Decided (width_test n) (λ q. r ≡ Err q) (IsWritten n rule s a b r)) (Says n s a b) (settled rule (written w t))
     by (through e x) =
         let u = width_through n e in
         let offer = subst₂ (λ (m : ℕ) (rest : Rest). IsOffered m rest (h -ℤ pos 63) a b) (sym same) (rest_one below rest x.2 is x.3) offered in
         let near = subst (Nearest n s a b) (ap word_of (sym x.1)) (x.4 a b some offer) in
-        decided_said (width_test n) (settled rule (Written.Word w t)) (through e (word_settled n u.0 u.1 s a b w t nonzero some near (finds.says w t refl x.2 x.3 a b some offer) rule))
+        decided_said (width_test n) (settled rule (written w t)) (through e (word_settled n u.0 u.1 s a b w t nonzero some near (finds.says w t refl x.2 x.3 a b some offer) rule))
     by (refused e x) = absurd (subst GivesAWord x tt)
-settles n rule s h m below (Written.Refused q) full top finds rest is a b nonzero some offered = by finds.answers
+settles n rule s h m below (Err q) full top finds rest is a b nonzero some offered = by finds.answers
   where
-    by : FindsNearest n s h m below (Answer.Refused q) → AndSays (λ (r : Answer). Decided (width_test n) (λ q. r ≡ Answer.Refused q) (IsWritten n rule s a b r)) (Says n s a b) (settled rule (Written.Refused q))
+    by : FindsNearest n s h m below (Err q) → AndSays (λ (r : Answer ℕ). Decided (width_test n) (λ q. r ≡ Err q) (IsWritten n rule s a b r)) (Says n s a b) (settled rule (Err q))
     by (through e x) = absurd (subst GivesAWord (sym x.1) tt)
-    by (refused e x) = subst (AndSays (λ (r : Answer). Decided (width_test n) (λ q. r ≡ Answer.Refused q) (IsWritten n rule s a b r)) (Says n s a b)) (sym (refusal_settled rule q)) (refusal_said q (refused e x))
+    by (refused e x) = subst (AndSays (λ (r : Answer ℕ). Decided (width_test n) (λ q. r ≡ Err q) (IsWritten n rule s a b r)) (Says n s a b)) (sym (refusal_settled rule q)) (refusal_said q (refused e x))

@@ -1,4 +1,7 @@
 -- One size under several units: a power of two moves between significand and exponent, and a fraction between its two parts. Assumes nothing.
+use Rattle.std.specs.Prelude.{Ok, Err}
+use Rattle.bounds.specs.Refusals.{Answer}
+use Rattle.bounds.specs.Sayings.{written}
 use mathlib.Core.Path.{◌≡◌, sym, ap, ap₂, ◌∙◌, subst, subst₂}
 use mathlib.Core.Bool.{Bool}
 use mathlib.Core.Logic.{⊎_elim}
@@ -7,7 +10,6 @@ use native.Mathlib.Nat.{mul_comm, mul_assoc, mul_right_comm, eq_of_mul-eq-mul_ri
 use native.Mathlib.Omega.{arith}
 use lib.IntN.{ℤ, pos, ◌+ℤ◌}
 use Rattle.word.specs.Reads.{num, den, IsSize}
-use Rattle.bounds.specs.declared.answer.Answer.{Answer}
 use Rattle.round.specs.declared.value.Rule.{Rule}
 use Rattle.nearest.specs.declared.size.Rest.{Rest}
 use Rattle.nearest.specs.declared.size.Side.{Side}
@@ -139,17 +141,17 @@ module _ (n : ℕ) (s : Bool) (a b d : ℕ) (some : zero < d) where
   rounded_times w (zero q e) = zero (ap (λ (y : ℕ). y * d) q ∙ zero-mul d) e
   rounded_times w (other h x) = other (mul-pos h some) (nearest_times w x)
 
-  pub written_times : (rule : Rule) (r : Answer) → IsWritten n rule s a b r → IsWritten n rule s (a * d) (b * d) r
+  pub written_times : (rule : Rule) (r : Answer ℕ) → IsWritten n rule s a b r → IsWritten n rule s (a * d) (b * d) r
   unfolding IsWritten
-  written_times Rule.Rounded (Answer.Word w) x = rounded_times w x
-  written_times Rule.Rounded (Answer.Refused q) x = x
-  written_times Rule.Strict (Answer.Word w) x = exact_times w x
-  written_times Rule.Strict (Answer.Refused q) x = (x.0, λ w y. x.1 w (exact_reduced w y))
+  written_times Rule.Rounded (Ok w) x = rounded_times w x
+  written_times Rule.Rounded (Err q) x = x
+  written_times Rule.Strict (Ok w) x = exact_times w x
+  written_times Rule.Strict (Err q) x = (x.0, λ w y. x.1 w (exact_reduced w y))
 
   -- what is written for a fraction is written for its reduced form
-  pub written_reduced : (rule : Rule) (r : Answer) → IsWritten n rule s (a * d) (b * d) r → IsWritten n rule s a b r
+  pub written_reduced : (rule : Rule) (r : Answer ℕ) → IsWritten n rule s (a * d) (b * d) r → IsWritten n rule s a b r
   unfolding IsWritten
-  written_reduced Rule.Rounded (Answer.Word w) x = rounded_reduced w x
-  written_reduced Rule.Rounded (Answer.Refused q) x = x
-  written_reduced Rule.Strict (Answer.Word w) x = exact_reduced w x
-  written_reduced Rule.Strict (Answer.Refused q) x = (x.0, λ w y. x.1 w (exact_times w y))
+  written_reduced Rule.Rounded (Ok w) x = rounded_reduced w x
+  written_reduced Rule.Rounded (Err q) x = x
+  written_reduced Rule.Strict (Ok w) x = exact_reduced w x
+  written_reduced Rule.Strict (Err q) x = (x.0, λ w y. x.1 w (exact_times w y))

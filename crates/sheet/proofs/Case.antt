@@ -1,10 +1,11 @@
 -- The block that paper 01 gives as a case is read, with the A and B that it gives, and written. Assumes nothing.
+use Rattle.std.specs.Prelude.{Ok}
+use Rattle.bounds.specs.Refusals.{passed}
+use Rattle.bounds.specs.Sayings.{written}
 use Rattle.std.proofs.Common.{◌≡◌, ℕ, zero, suc, Bool, true, ◌&&◌, ltb, List, [], ◌∷◌, ◌++◌, replicate, refl, lit<, ltb-true}
-use Rattle.bounds.specs.declared.refusal.Verdict.{Verdict}
 use Rattle.bounds.proofs.Verdicts.{both, answered}
 use Rattle.bounds.specs.Refusals.{room_test}
 use Rattle.sheet.specs.declared.block.Block.{Block}
-use Rattle.sheet.specs.declared.writing.Writing.{Writing}
 use Rattle.sheet.specs.Layout.{AreBytes, number, number_at, packed, mark, width, count, block_number, word_bytes, end, words, unused, A, B, numbers}
 use Rattle.sheet.specs.Sums.{total, sum_a, running, sum_b}
 use Rattle.sheet.specs.Reads.{is_block_width, all_zero, size_test, mark_test, check_test, block_width_test, count_test, fill_test, block_test, ReadsBlock, FillsResults}
@@ -23,7 +24,7 @@ pub case_sums : (A case ≡ 0x80026A55) × (B case ≡ 0x012FA1D5)
 unfolding case A B number_at number
 case_sums = (refl, refl)
 
-pub case_passes : block_test case 2 ≡ Verdict.Through
+pub case_passes : block_test case 2 ≡ passed
 unfolding case A B number_at number packed mark width count word_bytes end unused numbers total sum_a running sum_b is_block_width all_zero size_test mark_test check_test block_width_test count_test fill_test room_test block_test
 case_passes = refl
 
@@ -56,6 +57,6 @@ case_has_content : IsBlockOf 16 1 (0x5A00 ∷ 0x8000 ∷ []) case
 unfolding case words width count block_number word_bytes packed number_at number
 case_has_content = has_content case 2 case_bytes case_passes
 
-pub case_written : (before after : List ℕ) → FillsBuffer 16 1 (0x5A00 ∷ 0x8000 ∷ []) before Writing.Written after → after ≡ case
+pub case_written : (before after : List ℕ) → FillsBuffer 16 1 (0x5A00 ∷ 0x8000 ∷ []) before Ok tt after → after ≡ case
 unfolding FillsBuffer
 case_written before after x = same_bytes 16 1 (0x5A00 ∷ 0x8000 ∷ []) after case x case_has_content

@@ -1,11 +1,12 @@
 -- The tests of a content in the paper's order, what is known of one that they let through, and its words, tried in order. Assumes nothing.
+use Rattle.std.specs.Prelude.{Err}
+use Rattle.bounds.specs.declared.refusal.ListRefusal.{ListRefusal}
+use Rattle.bounds.specs.Refusals.{passed}
 use Rattle.std.proofs.Common.{◌≡◌, ℕ, ◌+◌, ◌-◌, ◌*◌, ◌/◌, ◌^◌, ◌<◌, ◌≤◌, Bool, true, false, not, List, length, get_or, sym, ap, ◌∙◌, subst, le_antisymm, arith, pow_pos, below_none, below_more, eq-eqb, ne_eqb, eqb-true, leb-true}
 use mathlib.Core.Bool.{false≢true}
 use Rattle.bounds.specs.declared.refusal.Refusal.{Refusal}
-use Rattle.bounds.specs.declared.refusal.Verdict.{Verdict}
 use Rattle.bounds.specs.Refusals.{unless, ◌then◌}
 use Rattle.bounds.proofs.Verdicts.{open_when, then_through, stray_through, stray_fits, stray_bit}
-use Rattle.sheet.specs.declared.writing.Writing.{Writing}
 use Rattle.sheet.specs.Puts.{AreOfBytes, IsFirstStray}
 use Rattle.sheet.specs.Reads.{is_block_width, size_test}
 use Rattle.sheet.specs.Writes.{is_retired, has_room_for, content_test, FitUpTo, IsTried}
@@ -22,26 +23,26 @@ pub isn't_wide : (n : ℕ) (b : Bool) → b ≡ is_block_width n → b ≡ false
 isn't_wide n b e h = sym e ∙ h
 
 module _ (n count : ℕ) (buffer : List ℕ) where
-  pub other_width : is_block_width n ≡ false → content_test n count buffer ≡ Verdict.Refused Refusal.Width
+  pub other_width : is_block_width n ≡ false → content_test n count buffer ≡ Err Refusal.Width
   unfolding content_test
   other_width h = rw h
 
   module _ (wide : is_block_width n ≡ true) where
-    pub old_width : n ≡ 8 → content_test n count buffer ≡ Verdict.Refused Refusal.Retired
+    pub old_width : n ≡ 8 → content_test n count buffer ≡ Err Refusal.Retired
     unfolding content_test is_retired
     old_width h = rw (wide, eq-eqb n 8 h)
 
     module _ (made : n ≡ 8 → ⊥) where
-      pub too_many : 496 / (n / 8) < count → content_test n count buffer ≡ Verdict.Refused Refusal.Count
+      pub too_many : 496 / (n / 8) < count → content_test n count buffer ≡ Err Refusal.Count
       unfolding content_test is_retired
       too_many h = rw (wide, ne_eqb n 8 made, has_no_room n count (is_width n wide) h)
 
       module _ (room : count ≤ 496 / (n / 8)) where
-        pub other_buffer : (length buffer ≡ 512 → ⊥) → content_test n count buffer ≡ Verdict.Refused Refusal.Size
+        pub other_buffer : (length buffer ≡ 512 → ⊥) → content_test n count buffer ≡ Err Refusal.Size
         unfolding content_test is_retired size_test
         other_buffer h = rw (wide, ne_eqb n 8 made, has_room n count (is_width n wide) room, ne_eqb (length buffer) 512 h)
 
-        pub content_passes : length buffer ≡ 512 → content_test n count buffer ≡ Verdict.Through
+        pub content_passes : length buffer ≡ 512 → content_test n count buffer ≡ passed
         unfolding content_test is_retired size_test
         content_passes h = rw (wide, ne_eqb n 8 made, has_room n count (is_width n wide) room, eq-eqb (length buffer) 512 h)
 
@@ -52,7 +53,7 @@ pub record Fitting (n count : ℕ) (buffer : List ℕ) : Type 0 where
   pub inside : 8 + n / 8 * count ≤ 504
   pub size : length buffer ≡ 512
 
-pub fitting : (n count : ℕ) (buffer : List ℕ) → content_test n count buffer ≡ Verdict.Through → Fitting n count buffer
+pub fitting : (n count : ℕ) (buffer : List ℕ) → content_test n count buffer ≡ passed → Fitting n count buffer
 unfolding content_test is_retired has_room_for size_test
 fitting n count buffer h =
     let to_count = then_through (unless Refusal.Width (is_block_width n) then unless Refusal.Retired (not (is_retired n)) then unless Refusal.Count (has_room_for n count)) (size_test buffer) h in
@@ -103,7 +104,7 @@ module _ (n : ℕ) (words : List ℕ) where
 
 -- ---- what the first stray word decides
 module _ (n : ℕ) (words : List ℕ) (position : ℕ) (f : IsFirstStray n words position) where
-  pub stray_refused : position < length words → IsTried n words (Writing.RefusedAt position Refusal.Stray)
+  pub stray_refused : position < length words → IsTried n words (Err (ListRefusal.At position Refusal.Stray))
   unfolding IsTried
   stray_refused h = (h, f.lowest, f.is h)
 

@@ -1,7 +1,8 @@
 -- The tests of a block in the paper's order, and what is known of a block that they let through. Assumes nothing.
+use Rattle.std.specs.Prelude.{Err}
+use Rattle.bounds.specs.Refusals.{passed}
 use Rattle.std.proofs.Common.{◌≡◌, ℕ, ◌≤◌, eqb, List, length, sym, ap, ◌∙◌, ap₂, arith, eq-eqb, ne_eqb, eqb-true, leb-true}
 use Rattle.bounds.specs.declared.refusal.Refusal.{Refusal}
-use Rattle.bounds.specs.declared.refusal.Verdict.{Verdict}
 use Rattle.bounds.specs.Refusals.{◌then◌, through, refused, room_test}
 use Rattle.bounds.proofs.Verdicts.{open_when, both, then_through}
 use Rattle.sheet.specs.declared.block.Block.{Block}
@@ -11,11 +12,11 @@ use Rattle.sheet.specs.Sums.{sum_a, sum_b}
 use Rattle.sheet.specs.Reads.{size_test, mark_test, check_test, block_width_test, count_test, fill_test, block_test, ReadsBlock}
 use Rattle.sheet.proofs.Tests.{OneOfFour, is_width, a_differs}
 
-pub other_size : (block : List ℕ) (places : ℕ) → (length block ≡ 512 → ⊥) → Verdict.Refused Refusal.Size ≡ block_test block places
+pub other_size : (block : List ℕ) (places : ℕ) → (length block ≡ 512 → ⊥) → Err Refusal.Size ≡ block_test block places
 unfolding block_test size_test
 other_size block places h = rw (ne_eqb (length block) 512 h)
 
-pub other_mark : (block : List ℕ) (places : ℕ) → length block ≡ 512 → (mark block ≡ 0x54 → ⊥) → block_test block places ≡ Verdict.Refused Refusal.Mark
+pub other_mark : (block : List ℕ) (places : ℕ) → length block ≡ 512 → (mark block ≡ 0x54 → ⊥) → block_test block places ≡ Err Refusal.Mark
 unfolding block_test size_test mark_test
 other_mark block places h m = rw (eq-eqb (length block) 512 h, ne_eqb (mark block) 0x54 m)
 
@@ -25,38 +26,38 @@ module _ (block : List ℕ) (places : ℕ) (sized : length block ≡ 512) (marke
   unfolding block_test size_test mark_test
   from_check = rw (eq-eqb (length block) 512 sized, eq-eqb (mark block) 0x54 marked)
 
-  pub check_refuses : check_test block ≡ Verdict.Refused Refusal.Check → block_test block places ≡ Verdict.Refused Refusal.Check
+  pub check_refuses : check_test block ≡ Err Refusal.Check → block_test block places ≡ Err Refusal.Check
   check_refuses h = from_check ∙ rw h
 
-  pub other_A : (sum_a (numbers block) ≡ A block → ⊥) → block_test block places ≡ Verdict.Refused Refusal.Check
+  pub other_A : (sum_a (numbers block) ≡ A block → ⊥) → block_test block places ≡ Err Refusal.Check
   other_A a = check_refuses (sym (a_differs block a))
 
-  module _ (checked : check_test block ≡ Verdict.Through) where
-    pub width_refuses : block_width_test block ≡ Verdict.Refused Refusal.Width → block_test block places ≡ Verdict.Refused Refusal.Width
+  module _ (checked : check_test block ≡ passed) where
+    pub width_refuses : block_width_test block ≡ Err Refusal.Width → block_test block places ≡ Err Refusal.Width
     width_refuses h = from_check ∙ rw (checked, h)
 
-    module _ (wide : block_width_test block ≡ Verdict.Through) where
-      pub count_refuses : count_test block ≡ Verdict.Refused Refusal.Count → block_test block places ≡ Verdict.Refused Refusal.Count
+    module _ (wide : block_width_test block ≡ passed) where
+      pub count_refuses : count_test block ≡ Err Refusal.Count → block_test block places ≡ Err Refusal.Count
       count_refuses h = from_check ∙ rw (checked, wide, h)
 
-      module _ (counted : count_test block ≡ Verdict.Through) where
-        pub fill_refuses : fill_test block ≡ Verdict.Refused Refusal.Fill → block_test block places ≡ Verdict.Refused Refusal.Fill
+      module _ (counted : count_test block ≡ passed) where
+        pub fill_refuses : fill_test block ≡ Err Refusal.Fill → block_test block places ≡ Err Refusal.Fill
         fill_refuses h = from_check ∙ rw (checked, wide, counted, h)
 
-        pub room_decides : fill_test block ≡ Verdict.Through → block_test block places ≡ room_test (count block) places
+        pub room_decides : fill_test block ≡ passed → block_test block places ≡ room_test (count block) places
         room_decides h = from_check ∙ rw (checked, wide, counted, h)
 
 -- ---- a block that is let through: each test lets it through
 pub record PassesEach (block : List ℕ) (places : ℕ) : Type 0 where
-  pub size : size_test block ≡ Verdict.Through
-  pub mark : mark_test block ≡ Verdict.Through
-  pub check : check_test block ≡ Verdict.Through
-  pub width : block_width_test block ≡ Verdict.Through
-  pub count : count_test block ≡ Verdict.Through
-  pub fill : fill_test block ≡ Verdict.Through
-  pub room : room_test (layout.count block) places ≡ Verdict.Through
+  pub size : size_test block ≡ passed
+  pub mark : mark_test block ≡ passed
+  pub check : check_test block ≡ passed
+  pub width : block_width_test block ≡ passed
+  pub count : count_test block ≡ passed
+  pub fill : fill_test block ≡ passed
+  pub room : room_test (layout.count block) places ≡ passed
 
-pub passes_each : (block : List ℕ) (places : ℕ) → block_test block places ≡ Verdict.Through → PassesEach block places
+pub passes_each : (block : List ℕ) (places : ℕ) → block_test block places ≡ passed → PassesEach block places
 unfolding block_test
 passes_each block places h =
     let to_fill = then_through (size_test block then mark_test block then check_test block then block_width_test block then count_test block then fill_test block) (room_test (layout.count block) places) h in
@@ -77,7 +78,7 @@ pub record Passes (block : List ℕ) (places : ℕ) : Type 0 where
   pub inside : end block ≤ 504
   pub room : layout.count block ≤ places
 
-pub passes : (block : List ℕ) (places : ℕ) → block_test block places ≡ Verdict.Through → Passes block places
+pub passes : (block : List ℕ) (places : ℕ) → block_test block places ≡ passed → Passes block places
 unfolding size_test mark_test check_test block_width_test count_test room_test
 passes block places h =
     let each = passes_each block places h in
@@ -97,7 +98,7 @@ pub read_as : (block : List ℕ) {w i n : ℕ} → w ≡ width block → i ≡ b
 read_as block {n = n} p q r = ap₂ (λ (x y : ℕ). Block.Read x y n) p q ∙ ap (λ (z : ℕ). Block.Read (width block) (block_number block) z) r
 
 -- and what such an answer tells
-pub was_read : (block : List ℕ) (places w i n : ℕ) → ReadsBlock block places (Block.Read w i n) → (block_test block places ≡ Verdict.Through) × (w ≡ width block) × (n ≡ count block) × (i ≡ block_number block)
+pub was_read : (block : List ℕ) (places w i n : ℕ) → ReadsBlock block places (Block.Read w i n) → (block_test block places ≡ passed) × (w ≡ width block) × (n ≡ count block) × (i ≡ block_number block)
 unfolding ReadsBlock
 was_read block places w i n (through h x) = (h, cc, cc, cc)
 was_read block places w i n (refused h x) = let z : ◌≡◌ {A = ℕ} 0 1 = cc in absurd (omega arith)

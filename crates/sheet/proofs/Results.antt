@@ -1,8 +1,8 @@
 -- What stands in the results after a block was read: each word at its place, each a word of the block's width, and behind them what stood there.
 -- Assumes nothing.
+use Rattle.bounds.specs.Refusals.{passed}
 use Rattle.std.proofs.Common.{◌≡◌, ℕ, ◌+◌, ◌-◌, ◌*◌, ◌/◌, ◌^◌, ◌<◌, ◌≤◌, List, ◌++◌, length, get_or, drop, sym, ap, ◌∙◌, subst, subst₂, add-sub_of_le, arith, get_or-drop, get_or-append-add}
 use lib.ListN.{get_or-append}
-use Rattle.bounds.specs.declared.refusal.Verdict.{Verdict}
 use Rattle.bounds.specs.Refusals.{IsWord}
 use Rattle.bounds.proofs.Verdicts.{answered}
 use Rattle.sheet.specs.declared.block.Block.{Block}
@@ -20,7 +20,7 @@ words_length block = packed_length (word_bytes block) (count block) (drop 8 bloc
 
 -- a block was read
 module _ (block before after : List ℕ) (w i n : ℕ) (r : ReadsBlock block (length before) (Block.Read w i n)) (f : FillsResults block before after) where
-  read : (block_test block (length before) ≡ Verdict.Through) × (w ≡ width block) × (n ≡ count block) × (i ≡ block_number block)
+  read : (block_test block (length before) ≡ passed) × (w ≡ width block) × (n ≡ count block) × (i ≡ block_number block)
   read = was_read block (length before) w i n r
 
   pub holds : after ≡ words block ++ drop n before

@@ -1,48 +1,49 @@
 -- What each test of a block finds. Assumes nothing.
+use Rattle.std.specs.Prelude.{Ok, Err}
+use Rattle.bounds.specs.Refusals.{passed}
 use Rattle.std.proofs.Common.{◌≡◌, ℕ, ◌<◌, ◌≤◌, Bool, true, false, ◌||◌, eqb, leb, ◌⊎◌, List, sym, refl, ap, ◌∙◌, subst, inl, inr, ⊎_elim, eq-eqb, ne_eqb, eqb-true, le-leb}
 use mathlib.Core.Bool.{false≢true}
 use borrow.Author.Tests.{lt-leb}
 use Rattle.bounds.specs.declared.refusal.Refusal.{Refusal}
-use Rattle.bounds.specs.declared.refusal.Verdict.{Verdict}
 use Rattle.bounds.specs.Refusals.{unless}
 use Rattle.sheet.specs.Layout.{numbers, A, B}
 use Rattle.sheet.specs.Sums.{sum_a, sum_b}
 use Rattle.sheet.specs.Reads.{is_block_width, check_test}
 
-pub holds : (q : Refusal) {b : Bool} → b ≡ true → Verdict.Through ≡ unless q b
+pub holds : (q : Refusal) {b : Bool} → b ≡ true → passed ≡ unless q b
 holds q h = rw h
 
-pub fails : (q : Refusal) {b : Bool} → b ≡ false → Verdict.Refused q ≡ unless q b
+pub fails : (q : Refusal) {b : Bool} → b ≡ false → Err q ≡ unless q b
 fails q h = rw h
 
 -- no verdict lets through and refuses
 refused : Verdict → Bool
-refused Verdict.Through = false
-refused (Verdict.Refused q) = true
+refused (Ok _) = false
+refused (Err q) = true
 
-pub not_both : {v : Verdict} {q : Refusal} → v ≡ Verdict.Through → v ≡ Verdict.Refused q → ⊥
+pub not_both : {v : Verdict} {q : Refusal} → v ≡ passed → v ≡ Err q → ⊥
 unfolding refused
 not_both h k = false≢true (ap refused (sym h ∙ k))
 
 -- a call has told whether a test holds
-pub lets_through : {v : Verdict} (q : Refusal) (b : Bool) → v ≡ unless q b → b ≡ true → v ≡ Verdict.Through
+pub lets_through : {v : Verdict} (q : Refusal) (b : Bool) → v ≡ unless q b → b ≡ true → v ≡ passed
 lets_through q true e h = e
 lets_through q false e h = absurd (false≢true h)
 
-pub refuses : {v : Verdict} (q : Refusal) (b : Bool) → v ≡ unless q b → b ≡ false → v ≡ Verdict.Refused q
+pub refuses : {v : Verdict} (q : Refusal) (b : Bool) → v ≡ unless q b → b ≡ false → v ≡ Err q
 refuses q true e h = absurd (false≢true (sym h))
 refuses q false e h = e
 
 -- a number n that a call has given as m is tested against a most
-pub at_most : (q : Refusal) {m n : ℕ} (most : ℕ) → m ≡ n → m ≤ most → Verdict.Through ≡ unless q (leb n most)
+pub at_most : (q : Refusal) {m n : ℕ} (most : ℕ) → m ≡ n → m ≤ most → passed ≡ unless q (leb n most)
 at_most q {m} {n} most e h = holds q (le-leb n most (subst (λ (x : ℕ). x ≤ most) e h))
 
-pub past : (q : Refusal) {m n : ℕ} (most : ℕ) → m ≡ n → most < m → Verdict.Refused q ≡ unless q (leb n most)
+pub past : (q : Refusal) {m n : ℕ} (most : ℕ) → m ≡ n → most < m → Err q ≡ unless q (leb n most)
 past q {m} {n} most e h = fails q (lt-leb n most (subst (λ (x : ℕ). most < x) e h))
 
 -- ---- the sums
 module _ (block : List ℕ) where
-  pub a_differs : (sum_a (numbers block) ≡ A block → ⊥) → Verdict.Refused Refusal.Check ≡ check_test block
+  pub a_differs : (sum_a (numbers block) ≡ A block → ⊥) → Err Refusal.Check ≡ check_test block
   unfolding check_test
   a_differs h = rw (ne_eqb (sum_a (numbers block)) (A block) h)
 

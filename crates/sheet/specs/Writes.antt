@@ -1,10 +1,13 @@
 -- What writing a block answers, and what it leaves in the lent buffer (paper 02, Wish 1; no more blocks of width 8 by Wish 10).
+use Rattle.std.specs.Prelude.{Ok, Err}
+use Rattle.bounds.specs.declared.refusal.ListRefusal.{ListRefusal}
+use Rattle.bounds.specs.Refusals.{ListAnswer}
+use Rattle.std.specs.Prelude.{⊤}
+use Rattle.bounds.specs.Sayings.{written}
 use Rattle.std.specs.Prelude.{◌≡◌, ℕ, ◌+◌, ◌*◌, ◌/◌, ◌<◌, Bool, not, List, length, ◌==◌, nat_le, slice_index}
 use Rattle.bounds.specs.declared.refusal.Refusal.TheVariants.{Width, Count, Retired}
-use Rattle.bounds.specs.declared.refusal.Verdict.{Verdict}
 use Rattle.bounds.specs.declared.refusal.Verdict.TheVariants.{Through, Refused}
 use Rattle.bounds.specs.Refusals.{unless, stray_test, ◌then◌, Decided}
-use Rattle.sheet.specs.declared.writing.Writing.{Writing}
 use Rattle.sheet.specs.Layout.{AreBytes}
 use Rattle.sheet.specs.Layout as layout
 use Rattle.sheet.specs.Reads.{is_block_width, size_test, mark_test, check_test, fill_test}
@@ -43,16 +46,16 @@ unfoldable pub FitUpTo : ℕ → List ℕ → ℕ → Type 0
 FitUpTo n words position = (i : ℕ) → i < position → stray_test n (slice_index words i) ≡ Through
 
 -- 2 STRAY, with the lowest position that has one: what the words decide, in order
-unfoldable pub IsTried : ℕ → List ℕ → Writing → Type 0
-IsTried n words Writing.Written = FitUpTo n words (length words)
-IsTried n words (Writing.RefusedAt position q) = (position < length words) × FitUpTo n words position × (stray_test n (slice_index words position) ≡ Refused q)
-IsTried n words (Writing.Refused q) = ⊥
+unfoldable pub IsTried : ℕ → List ℕ → ListAnswer ⊤ → Type 0
+IsTried n words Ok tt = FitUpTo n words (length words)
+IsTried n words (Err (ListRefusal.At position q)) = (position < length words) × FitUpTo n words position × (stray_test n (slice_index words position) ≡ Refused q)
+IsTried n words (Err (ListRefusal.Whole q)) = ⊥
 
 -- ---- what the call answers, and what it leaves in the buffer: after a refusal, what it held before
-unfoldable pub WritesBlock : ℕ → List ℕ → List ℕ → Writing → Type 0
-WritesBlock n words buffer a = Decided (content_test n (length words) buffer) (λ q. a ≡ Writing.Refused q) (IsTried n words a)
+unfoldable pub WritesBlock : ℕ → List ℕ → List ℕ → ListAnswer ⊤ → Type 0
+WritesBlock n words buffer a = Decided (content_test n (length words) buffer) (λ q. a ≡ Err (ListRefusal.Whole q)) (IsTried n words a)
 
-unfoldable pub FillsBuffer : ℕ → ℕ → List ℕ → List ℕ → Writing → List ℕ → Type 0
-FillsBuffer n number words before Writing.Written after = IsBlockOf n number words after
-FillsBuffer n number words before (Writing.Refused q) after = after ≡ before
-FillsBuffer n number words before (Writing.RefusedAt position q) after = after ≡ before
+unfoldable pub FillsBuffer : ℕ → ℕ → List ℕ → List ℕ → ListAnswer ⊤ → List ℕ → Type 0
+FillsBuffer n number words before Ok tt after = IsBlockOf n number words after
+FillsBuffer n number words before (Err (ListRefusal.Whole q)) after = after ≡ before
+FillsBuffer n number words before (Err (ListRefusal.At position q)) after = after ≡ before

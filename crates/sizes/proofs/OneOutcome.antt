@@ -1,4 +1,5 @@
 -- Two outcomes that the contract of `read_size` allows are equal. Assumes nothing.
+use Rattle.std.specs.Prelude.{Err}
 use mathlib.Core.Path.{◌≡◌}
 use Prim.Native.Nat.{ℕ}
 use Rattle.word.specs.Takum.{takum}
@@ -9,4 +10,4 @@ use Rattle.sizes.proofs.Normal.{word_size_one}
 
 pub reads_size_one : (n w : ℕ) (a b : WordSize) → ReadsSize n w a → ReadsSize n w b → a ≡ b
 unfolding ReadsSize
-reads_size_one n w a b = decided_one WordSize.Refused (IsWordSize (takum n w)) (word_size_one (takum n w)) a b
+reads_size_one n w a b = decided_one Err (IsWordSize (takum n w)) (word_size_one (takum n w)) a b

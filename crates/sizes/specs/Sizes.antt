@@ -1,4 +1,5 @@
 -- The sign of a string of 64 bits, and its size without it, as the call gives them; and the same of a word.
+use Rattle.std.specs.Prelude.{Err}
 use Rattle.std.specs.Prelude.{◌≡◌, cond, ℕ, ◌+◌, ◌-◌, ◌*◌, ◌^◌, ltb, pos}
 use Rattle.bounds.specs.Refusals.{word_test, Decided}
 use Rattle.sizes.specs.declared.size.Size.{Size}
@@ -15,12 +16,12 @@ unfoldable pub IsWordSize : Takum → WordSize → Type 0
 IsWordSize meaning WordSize.Zero = meaning ≡ real (pos 0)
 IsWordSize meaning WordSize.Nar = meaning ≡ NaR
 IsWordSize meaning (WordSize.Number s) = IsNumber meaning 63 s.negative s.h s.m 63
-IsWordSize meaning (WordSize.Refused q) = ⊥
+IsWordSize meaning (Err q) = ⊥
 
 -- ---- what the calls answer
 -- WIDTH, then STRAY
 unfoldable pub ReadsSize : ℕ → ℕ → WordSize → Type 0
-ReadsSize n w a = Decided (word_test n w) (λ q. a ≡ WordSize.Refused q) (IsWordSize (takum n w) a)
+ReadsSize n w a = Decided (word_test n w) (λ q. a ≡ Err q) (IsWordSize (takum n w) a)
 
 -- the string without its sign has the size (1 + F / 2^p) * 2^c, which is m * 2^(h - 63)
 pub record Sizes (T : ℕ) (x : Size) : Type 0 where

@@ -1,4 +1,6 @@
 -- What is taken out of a size, by where it lies: below a half, from there up to 2^63, or past it. Assumes nothing.
+use Rattle.std.specs.Prelude.{Ok, Err}
+use Rattle.bounds.specs.Refusals.{passed}
 use mathlib.Core.Path.{◌≡◌, refl, sym, ap, ap₂, ◌∙◌, subst, subst₂}
 use mathlib.Core.Bool.{Bool, true, false}
 use Prim.Native.Nat.{ℕ, suc, ◌+◌, ◌-◌, ◌*◌, ◌%◌, ◌^◌, ◌≤◌, ◌<◌}
@@ -10,13 +12,11 @@ use lib.Dec.{eqb, lit<}
 use lib.IntN.{pos, negsuc, nat_abs, ◌-ℤ◌}
 use lib.Pow.{pow_pos, pow_mono}
 use Rattle.bounds.specs.declared.refusal.Refusal.{Refusal}
-use Rattle.bounds.specs.declared.refusal.Verdict.{Verdict}
 use Rattle.word.specs.Takum.{Takum}
 use Rattle.word.specs.Reads.{signed_size}
 use Rattle.bounds.proofs.Powers.{pow_sum}
 use Rattle.word.proofs.Values.{absolute, no_sign}
 use Rattle.whole.specs.declared.taking.Taking.{Taking}
-use Rattle.whole.specs.declared.taking.Whole.{Whole}
 use Rattle.whole.specs.Wholes.{IsNearestWhole, over_test, IsTakenWhole}
 use Rattle.whole.specs.Parts.{NearestSize, by_rule, TakesSize, WholeWhereLarge}
 use Rattle.whole.proofs.Amounts.{amount, amounts_to, under_half}
@@ -62,11 +62,11 @@ module _ (rule : Taking) (s : Bool) (m : ℕ) (low : 2 ^ 63 ≤ m) where
     near : (v : ℕ) → v ≡ m * 2 ^ (k + 243) → IsNearestWhole (signed_size s v) (signed_size s whole)
     near v q = subst (λ (y : ℕ). IsNearestWhole (signed_size s y) (signed_size s whole)) (sym (is_whole v q)) (nearest_whole s (whole * 2 ^ 307) whole (itself (2 ^ 307) (pow_pos 307) whole))
 
-    over : over_test (signed_size s whole) ≡ Verdict.Refused Refusal.Over → TakesSize rule s (pos k -ℤ pos 1) m (Whole.Refused Refusal.Over)
+    over : over_test (signed_size s whole) ≡ Err Refusal.Over → TakesSize rule s (pos k -ℤ pos 1) m (Err Refusal.Over)
     unfolding TakesSize
-    over h t v means counted = subst (λ (t : Takum). IsTakenWhole rule t (Whole.Refused Refusal.Over)) (sym means) (taken_over rule (signed_size s v) (signed_size s whole) (near v (amount k m v counted)) h)
+    over h t v means counted = subst (λ (t : Takum). IsTakenWhole rule t (Err Refusal.Over)) (sym means) (taken_over rule (signed_size s v) (signed_size s whole) (near v (amount k m v counted)) h)
 
-    pub takes_past : 64 < k → TakesSize rule s (pos k -ℤ pos 1) m (Whole.Refused Refusal.Over)
+    pub takes_past : 64 < k → TakesSize rule s (pos k -ℤ pos 1) m (Err Refusal.Over)
     unfolding whole
     takes_past h = over (outside s (m * 2 ^ (k - 64)) large)
       where
@@ -82,10 +82,10 @@ module _ (rule : Taking) (s : Bool) (m : ℕ) (low : 2 ^ 63 ≤ m) where
       unfolding whole
       is_m = let none : k - 64 ≡ 0 = omega (arith, last) in ap (λ (j : ℕ). m * 2 ^ j) none ∙ mul-one m
 
-      pub takes_outside : over_test (signed_size s m) ≡ Verdict.Refused Refusal.Over → TakesSize rule s (pos k -ℤ pos 1) m (Whole.Refused Refusal.Over)
+      pub takes_outside : over_test (signed_size s m) ≡ Err Refusal.Over → TakesSize rule s (pos k -ℤ pos 1) m (Err Refusal.Over)
       takes_outside h = over (ap (λ (y : ℕ). over_test (signed_size s y)) is_m ∙ h)
 
-      pub takes_inside : over_test (signed_size s m) ≡ Verdict.Through → TakesSize rule s (pos k -ℤ pos 1) m (Whole.Is (signed_size s m))
+      pub takes_inside : over_test (signed_size s m) ≡ passed → TakesSize rule s (pos k -ℤ pos 1) m (Ok (signed_size s m))
       unfolding TakesSize
       takes_inside h t v means counted =
           subst₂ (IsTakenWhole rule) (sym means) (exactly rule (signed_size s m))

@@ -1,18 +1,18 @@
 -- The value of a whole number: the nearest whole number is the number itself, and by either rule the number itself is taken out. Assumes nothing.
+use Rattle.std.specs.Prelude.{Ok}
+use Rattle.bounds.specs.Refusals.{passed}
 use mathlib.Core.Path.{◌≡◌, refl, sym, ap, ◌∙◌, subst}
 use mathlib.Core.Bool.{Bool, true, false}
 use Prim.Native.Nat.{ℕ, zero, suc, ◌*◌, ◌^◌}
 use borrow.Author.Tests.{eq-eqb}
 use lib.IntN.{ℤ, nat_abs}
 use lib.Pow.{pow_pos}
-use Rattle.bounds.specs.declared.refusal.Verdict.{Verdict}
 use Rattle.word.specs.Takum.{real}
 use Rattle.word.specs.Reads.{signed_size}
 use Rattle.word.proofs.Values.{absolute}
 use Rattle.write.specs.Writes.{is_negative}
 use Rattle.write.proofs.Moves.{rejoined}
 use Rattle.whole.specs.declared.taking.Taking.{Taking}
-use Rattle.whole.specs.declared.taking.Whole.{Whole}
 use Rattle.whole.specs.Wholes.{IsNearestWhole, over_test, IsTakenWhole}
 use Rattle.whole.specs.Parts.{by_rule}
 use Rattle.whole.proofs.NearestWholes.{itself, nearest_whole, its_sign}
@@ -37,11 +37,11 @@ pub exact_value : (z x : ℤ) → IsNearestWhole z x → nat_abs x * 2 ^ 307 ≡
 exact_value z x near q = sym (ap value_of (its_sign z x near) ∙ signed_value (is_negative z) (nat_abs x) ∙ ap (signed_size (is_negative z)) q ∙ rejoined z)
 
 -- where nothing is lost both rules answer alike
-pub exactly : (rule : Taking) (x : ℤ) → by_rule rule true x ≡ Whole.Is x
+pub exactly : (rule : Taking) (x : ℤ) → by_rule rule true x ≡ Ok x
 unfolding by_rule
 exactly Taking.Nearest x = refl
 exactly Taking.Strict x = refl
 
-pub taken_as_itself : (rule : Taking) (x : ℤ) → over_test x ≡ Verdict.Through → IsTakenWhole rule (real (value_of x)) (Whole.Is x)
+pub taken_as_itself : (rule : Taking) (x : ℤ) → over_test x ≡ passed → IsTakenWhole rule (real (value_of x)) (Ok x)
 unfolding value_of
 taken_as_itself rule x h = subst (IsTakenWhole rule (real (value_of x))) (exactly rule x) (taken_inside rule (value_of x) x true (is_its_nearest x) h (sym (eq-eqb (nat_abs x * 2 ^ 307) (nat_abs (value_of x)) (sym (absolute (is_negative x) (nat_abs x * 2 ^ 307))))))

@@ -1,11 +1,12 @@
 -- Serves private functions only: what the parts of taking out answer, from the whole number nearest to a size to what the rule makes of it; and the length
 -- of a word with its two reductions.
+use Rattle.std.specs.Prelude.{Ok, Err}
+use Rattle.bounds.specs.Refusals.{Answer}
 use Rattle.std.specs.Prelude.{◌≡◌, Bool, cond, ◌&&◌, ℕ, ◌+◌, ◌-◌, ◌*◌, ◌%◌, ◌^◌, ◌≤◌, ℤ, pos, ◌-ℤ◌}
 use Rattle.bounds.specs.declared.refusal.Refusal.{Refusal}
 use Rattle.word.specs.Takum.{Takum, real}
 use Rattle.word.specs.Reads.{IsSize, signed_size}
 use Rattle.whole.specs.declared.taking.Taking.{Taking}
-use Rattle.whole.specs.declared.taking.Whole.{Whole}
 use Rattle.whole.specs.Wholes.{IsTakenWhole}
 use Rattle.whole.specs.Lengths.{IsMax, UpTo, when, power_of_two, bits_are_power_of_two, Letters, corrected_length}
 
@@ -17,16 +18,16 @@ pub record NearestSize (u a i : ℕ) : Type 0 where
   pub tie_below : 2 * (i * u) ≡ 2 * a + u → i % 2 ≡ 0
 
 -- what the rule answers for the whole number x nearest to a value that is exactly x, or isn't
-unfoldable pub by_rule : Taking → Bool → ℤ → Whole
-by_rule Taking.Nearest exactly x = Whole.Is x
-by_rule Taking.Strict exactly x = cond exactly (Whole.Is x) (Whole.Refused Refusal.Inexact)
+unfoldable pub by_rule : Taking → Bool → ℤ → Answer ℤ
+by_rule Taking.Nearest exactly x = Ok x
+by_rule Taking.Strict exactly x = cond exactly (Ok x) (Err Refusal.Inexact)
 
 -- what is taken out of every word whose value has this sign and the size m * 2^(h - 63)
-unfoldable pub TakesSize : Taking → Bool → ℤ → ℕ → Whole → Type 0
+unfoldable pub TakesSize : Taking → Bool → ℤ → ℕ → Answer ℤ → Type 0
 TakesSize rule negative h m a = (t : Takum) (v : ℕ) → t ≡ real (signed_size negative v) → IsSize m (h -ℤ pos 63) v → IsTakenWhole rule t a
 
 -- the same, whichever the rule
-unfoldable pub TakesByEitherRule : Bool → ℤ → ℕ → Whole → Type 0
+unfoldable pub TakesByEitherRule : Bool → ℤ → ℕ → Answer ℤ → Type 0
 TakesByEitherRule negative h m a = (rule : Taking) → TakesSize rule negative h m a
 
 -- from 2^55 on the size m * 2^(h - 63) is a whole number, as that of every word is; it is counted in 2^-307, as in `IsSize`

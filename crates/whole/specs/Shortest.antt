@@ -1,7 +1,8 @@
 -- The shortest word for a count (paper 02, Wish 9), as a property of the width that is given.
+use Rattle.std.specs.Prelude.{Ok, Err}
+use Rattle.bounds.specs.Refusals.{Answer}
 use Rattle.std.specs.Prelude.{◌≡◌, ℕ, ◌*◌, ◌^◌, ◌≤◌, ◌<◌, ℤ, nat_abs}
 use Rattle.bounds.specs.declared.refusal.Refusal.{Refusal}
-use Rattle.bounds.specs.declared.width.Made.{Made}
 use Rattle.nearest.specs.Nearest.{HasValue}
 use Rattle.write.specs.Writes.{is_negative}
 
@@ -17,6 +18,6 @@ pub record IsShortest (x : ℤ) (n : ℕ) : Type 0 where
   pub none_shorter : (k : ℕ) → 2 ≤ k → k < n → HasWord k x → ⊥
 
 -- ---- what the call answers: that width, or INEXACT exactly where x has a word at no width from 2 to 64
-unfoldable pub GivesShortest : ℤ → Made → Type 0
-GivesShortest x (Made.Width width) = IsShortest x width.bits
-GivesShortest x (Made.Refused q) = (q ≡ Refusal.Inexact) × ((n : ℕ) → 2 ≤ n → n ≤ 64 → HasWord n x → ⊥)
+unfoldable pub GivesShortest : ℤ → Answer Width → Type 0
+GivesShortest x (Ok width) = IsShortest x width.bits
+GivesShortest x (Err q) = (q ≡ Refusal.Inexact) × ((n : ℕ) → 2 ≤ n → n ≤ 64 → HasWord n x → ⊥)

@@ -1,5 +1,6 @@
 -- A size has one exponent and one significand of a given length: m 2^k = m' 2^k' with m and m' both from 2^p up to 2^(p + 1) leaves m = m' and
 -- k = k'. So a reading is determined by what it means. Assumes nothing.
+use Rattle.std.specs.Prelude.{Err}
 use mathlib.Core.Path.{◌≡◌, refl, sym, ap, ap₂, ◌∙◌, subst}
 use mathlib.Core.Bool.{Bool, true, false}
 use Prim.Native.Nat.{ℕ, zero, suc, ◌+◌, ◌*◌, ◌^◌, ◌≤◌, ◌<◌}
@@ -143,16 +144,16 @@ module _ (t : Takum) (k : ℕ) where
   kind_one Kind.Zero Kind.Zero x y = refl
   kind_one Kind.Zero Kind.Nar x y = absurd (not_NaR (pos 0) (sym x ∙ y))
   kind_one Kind.Zero (Kind.Number s h m p) x y = absurd (number_not_zero s h m p y x)
-  kind_one Kind.Zero (Kind.Refused q) x y = absurd y
+  kind_one Kind.Zero (Err q) x y = absurd y
   kind_one Kind.Nar Kind.Zero x y = absurd (not_NaR (pos 0) (sym y ∙ x))
   kind_one Kind.Nar Kind.Nar x y = refl
   kind_one Kind.Nar (Kind.Number s h m p) x y = absurd (number_not_NaR s h m p y x)
-  kind_one Kind.Nar (Kind.Refused q) x y = absurd y
+  kind_one Kind.Nar (Err q) x y = absurd y
   kind_one (Kind.Number s h m p) Kind.Zero x y = absurd (number_not_zero s h m p x y)
   kind_one (Kind.Number s h m p) Kind.Nar x y = absurd (number_not_NaR s h m p x y)
   kind_one (Kind.Number s h m p) (Kind.Number s' h' m' p') x y = numbers_one s s' h h' m m' p p' x y
-  kind_one (Kind.Number s h m p) (Kind.Refused q) x y = absurd y
-  kind_one (Kind.Refused q) b x y = absurd x
+  kind_one (Kind.Number s h m p) (Err q) x y = absurd y
+  kind_one (Err q) b x y = absurd x
 
   -- two readings of one meaning, equally fine, are the same
   pub reading_one : (o : ℕ) (a b : Reading) → IsReading t k o a → IsReading t k o b → a ≡ b
@@ -169,4 +170,4 @@ unfolding IsKind
 meaning_one t u k l Kind.Zero x y = x ∙ sym y
 meaning_one t u k l Kind.Nar x y = x ∙ sym y
 meaning_one t u k l (Kind.Number s h m p) x y = x.means ∙ ap (λ (v : ℕ). real (signed_size s v)) (value_one m (h -ℤ pos p) x.v y.v x.size y.size) ∙ sym y.means
-meaning_one t u k l (Kind.Refused q) x y = absurd x
+meaning_one t u k l (Err q) x y = absurd x

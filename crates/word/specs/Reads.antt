@@ -1,5 +1,6 @@
 -- What reading a word answers: zero, NaR, or sign, exponent h and significand m with its fraction bit count p (paper 01), and how fine it is: the word's
 -- own fraction bits (paper 02, Wish 3).
+use Rattle.std.specs.Prelude.{Err}
 use Rattle.std.specs.Prelude.{◌≡◌, Bool, true, false, ℕ, suc, ◌+◌, ◌*◌, ◌^◌, ◌≤◌, ◌<◌, ℤ, pos, negsuc, neg_ℤ, ◌+ℤ◌, ◌-ℤ◌}
 use Rattle.word.specs.declared.reading.Kind.{Kind}
 use Rattle.word.specs.declared.reading.Reading.{Reading}
@@ -39,7 +40,7 @@ unfoldable pub IsKind : Takum → ℕ → Kind → Type 0
 IsKind meaning fraction_count Kind.Zero = meaning ≡ real (pos 0)
 IsKind meaning fraction_count Kind.Nar = meaning ≡ NaR
 IsKind meaning fraction_count (Kind.Number negative h m p) = IsNumber meaning fraction_count negative h m p
-IsKind meaning fraction_count (Kind.Refused q) = ⊥
+IsKind meaning fraction_count (Err q) = ⊥
 
 -- a reading, of whatever kind, has the word's own fraction bits
 pub record IsReading (meaning : Takum) (fraction_count own_bits : ℕ) (a : Reading) : Type 0 where
@@ -48,7 +49,7 @@ pub record IsReading (meaning : Takum) (fraction_count own_bits : ℕ) (a : Read
 
 -- a refusal, and nothing else
 abbrev pub refused_reading : Refusal → Reading
-refused_reading q = record { kind = Kind.Refused q; own = 0 }
+refused_reading q = record { kind = Err q; own = 0 }
 
 -- ---- what the call answers
 unfoldable pub Reads : ℕ → ℕ → Reading → Type 0

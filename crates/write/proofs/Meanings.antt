@@ -1,4 +1,6 @@
 -- What is written for the size of what a word means, and said of it, is what is written for its meaning, and the other way. Assumes nothing.
+use Rattle.bounds.specs.Refusals.{Answer}
+use Rattle.bounds.specs.Sayings.{written}
 use mathlib.Core.Path.{◌≡◌, sym, subst, subst₂}
 use mathlib.Core.Bool.{Bool, true, false}
 use Prim.Native.Nat.{ℕ, zero, suc, ◌*◌, ◌<◌}
@@ -8,7 +10,6 @@ use lib.IntN.{ℤ, pos, ◌+ℤ◌, ◌-ℤ◌}
 use lib.Pow.{pow_pos}
 use Rattle.word.specs.Takum.{Takum, real}
 use Rattle.word.specs.Reads.{num, den, IsSize, IsNumber, signed_size}
-use Rattle.bounds.specs.declared.answer.Answer.{Answer}
 use Rattle.bounds.specs.declared.saying.Saying.{Saying}
 use Rattle.word.proofs.Units.{unit_some}
 use Rattle.nearest.specs.Sayings.{Says}
@@ -25,7 +26,7 @@ size_some m zero e h q = absurd (omega (arith, q, zero-mul (den e), mul-pos h (u
 size_some m (suc i) e h q = omega arith
 
 -- what is written for the size of what a word means is what is written for its meaning, and the other way
-module _ (n : ℕ) (rule : Rule) (r : Answer) where
+module _ (n : ℕ) (rule : Rule) (r : Answer ℕ) where
   moved : (s : Bool) (v : ℕ) → 0 < v → IsWritten n rule s v 1 r → IsMoved n rule (real (signed_size s v)) r
   unfolding IsMoved is_negative signed_size
   moved false v h y = y

@@ -1,5 +1,7 @@
 -- What writing a value and moving a word say (paper 02, Wish 4): what is written is as in Writes.antt, and which way it went as in
 -- crates/nearest/specs/Sayings.antt.
+use Rattle.bounds.specs.Refusals.{Answer}
+use Rattle.bounds.specs.Sayings.{written}
 use Rattle.std.specs.Prelude.{◌≡◌, ℕ, ◌*◌, pos, nat_abs, ◌+ℤ◌}
 use Rattle.bounds.specs.declared.answer.Written.{Written}
 use Rattle.bounds.specs.declared.saying.Saying.{Saying}
@@ -18,8 +20,8 @@ SaysMoved n (real z) w s = Says n (is_negative z) (nat_abs z) 1 w s
 SaysMoved n NaR w s = s ≡ Exact
 
 -- ---- what the calls answer, and say
-unfoldable pub WritesAndSays : ℕ → Rule → Value → Written → Type 0
+unfoldable pub WritesAndSays : ℕ → Rule → Value → Answer Written → Type 0
 WritesAndSays n rule v r = AndSays (Writes n rule v) (Says n v.negative (v.m * num (v.k +ℤ pos 307)) (den (v.k +ℤ pos 307))) r
 
-unfoldable pub MovesAndSays : ℕ → ℕ → Rule → ℕ → Written → Type 0
+unfoldable pub MovesAndSays : ℕ → ℕ → Rule → ℕ → Answer Written → Type 0
 MovesAndSays n n' rule w r = AndSays (Moves n n' rule w) (SaysMoved n' (takum n w)) r

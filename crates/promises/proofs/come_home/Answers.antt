@@ -1,5 +1,7 @@
 -- `come_home` meets its contract. The invariant of its loop: whatever is answered for the rest of the widths is answered for all of them.
 -- The measure is the number of widths that are left. Assumes nothing.
+use Rattle.std.specs.Prelude.{Ok, Err}
+use Rattle.bounds.specs.Refusals.{Answer}
 use mathlib.Core.Path.{◌≡◌, refl, sym, ap, subst}
 use mathlib.Core.List.{List}
 use mathlib.Core.Logic.{inl, inr}
@@ -8,7 +10,6 @@ use native.Mathlib.Numerals.{add-one, add-one-le}
 use borrow.Author.Count.{falls}
 use lib.ListN.{length, get_or, drop, drop_of_length-le}
 use lib.Seq.{drop-cons}
-use Rattle.bounds.specs.declared.answer.Answer.{Answer}
 use Rattle.bounds.specs.declared.refusal.Refusal.{Refusal}
 use Rattle.round.specs.declared.value.Rule.{Rule}
 use Rattle.bounds.specs.Sayings.{plain}
@@ -19,17 +20,17 @@ use Rattle.promises.proofs.Writing.{goes_home}
 use Rattle.promises.proofs.come_home.Goals as goal
 
 -- one width further: the move is made, or is refused and ends the chain
-further : (home n w : ℕ) (ns : List ℕ) (i w' : ℕ) (a r : Answer) → i < length ns → Moves n (get_or ns i 0) Rule.Strict w a → a ≡ Answer.Word w' → Goes home (get_or ns i 0) w' (drop (i + 1) ns) r → Goes home n w (drop i ns) r
+further : (home n w : ℕ) (ns : List ℕ) (i w' : ℕ) (a r : Answer ℕ) → i < length ns → Moves n (get_or ns i 0) Rule.Strict w a → a ≡ Ok w' → Goes home (get_or ns i 0) w' (drop (i + 1) ns) r → Goes home n w (drop i ns) r
 unfolding Goes
 further home n w ns i w' a r l m q x =
     subst (λ (l : List ℕ). Goes home n w l r) (sym (drop-cons ns i 0 l))
     (inl (w', subst (Moves n (get_or ns i 0) Rule.Strict w) q m, subst (λ (j : ℕ). Goes home (get_or ns i 0) w' (drop j ns) r) (add-one i) x))
 
-stopped : (home n w : ℕ) (ns : List ℕ) (i : ℕ) (q : Refusal) (a : Answer) → i < length ns → Moves n (get_or ns i 0) Rule.Strict w a → a ≡ Answer.Refused q → Goes home n w (drop i ns) (Answer.Refused q)
+stopped : (home n w : ℕ) (ns : List ℕ) (i : ℕ) (q : Refusal) (a : Answer ℕ) → i < length ns → Moves n (get_or ns i 0) Rule.Strict w a → a ≡ Err q → Goes home n w (drop i ns) (Err q)
 unfolding Goes
-stopped home n w ns i q a l m e = subst (λ (l : List ℕ). Goes home n w l (Answer.Refused q)) (sym (drop-cons ns i 0 l)) (inr (q, subst (Moves n (get_or ns i 0) Rule.Strict w) e m, refl))
+stopped home n w ns i q a l m e = subst (λ (l : List ℕ). Goes home n w l (Err q)) (sym (drop-cons ns i 0 l)) (inr (q, subst (Moves n (get_or ns i 0) Rule.Strict w) e m, refl))
 
-ended : (home n w : ℕ) (ns : List ℕ) (i : ℕ) (r : Answer) → length ns ≤ i → Moves n home Rule.Strict w r → Goes home n w (drop i ns) r
+ended : (home n w : ℕ) (ns : List ℕ) (i : ℕ) (r : Answer ℕ) → length ns ≤ i → Moves n home Rule.Strict w r → Goes home n w (drop i ns) r
 unfolding Goes
 ended home n w ns i r l m = subst (λ (l : List ℕ). Goes home n w l r) (sym (drop_of_length-le ns l)) m
 

@@ -1,4 +1,6 @@
 -- `take_binary64` meets its contract: the refusals, zero and NaR, and the size of any other word with its exponent raised. Assumes nothing.
+use Rattle.std.specs.Prelude.{Err}
+use Rattle.bounds.specs.Refusals.{passed}
 use mathlib.Core.Path.{◌≡◌, refl, sym, ap, ap₂, ◌∙◌, subst, subst₂}
 use mathlib.Core.Bool.{Bool, true, false}
 use Prim.Native.Nat.{ℕ, ◌+◌, ◌*◌, ◌^◌, ◌≤◌}
@@ -14,7 +16,6 @@ use lib.Ieee.Nearest.{closest}
 use mir.Facts.{to_z-of_z}
 use mir.Syntax.{w32}
 use mir.Val.{SFits, to_z, of_z, bool_byte}
-use Rattle.bounds.specs.declared.refusal.Verdict.{Verdict}
 use Rattle.sizes.specs.declared.size.Size.{Size}
 use Rattle.sizes.specs.declared.size.WordSize.{WordSize}
 use Rattle.bounds.specs.Refusals.{word_test, through, refused}
@@ -35,12 +36,12 @@ use Rattle.binary64.proofs.taking.take_binary64.Goals as goal
 told : (n w : ℕ) (a b : WordSize) → ReadsSize n w a → a ≡ b → TellsWord n w b
 told n w a b e q = subst (TellsWord n w) q (tells n w a e)
 
-told_number : (n w : ℕ) (a : WordSize) (size : Size) → ReadsSize n w a → a ≡ WordSize.Number size → (word_test n w ≡ Verdict.Through) × IsNumber (takum n w) 63 size.negative size.h size.m 63
+told_number : (n w : ℕ) (a : WordSize) (size : Size) → ReadsSize n w a → a ≡ WordSize.Number size → (word_test n w ≡ passed) × IsNumber (takum n w) 63 size.negative size.h size.m 63
 unfolding TellsWord
 told_number n w a size e q = told n w a (WordSize.Number size) e q
 
 -- a number, its size, and its exponent as the machine raises it
-module _ (n w : ℕ) (size : Size) (word : (word_test n w ≡ Verdict.Through) × IsNumber (takum n w) 63 size.negative size.h size.m 63) where
+module _ (n w : ℕ) (size : Size) (word : (word_test n w ≡ passed) × IsNumber (takum n w) 63 size.negative size.h size.m 63) where
   small : mag size.h ≤ 254
   small = exponent_small n w (word_through n w word.0) size word.1
 
@@ -125,4 +126,4 @@ returns-in-Number c =
 
 pub returns-in-Refused : goal.returns-in-Refused
 unfolding TakesBinary64 TellsWord
-returns-in-Refused c = refused (told _ _ _ (WordSize.Refused c.in-Refused.q) c.read_size.ensures c.in-Refused.is) refl
+returns-in-Refused c = refused (told _ _ _ (Err c.in-Refused.q) c.read_size.ensures c.in-Refused.is) refl

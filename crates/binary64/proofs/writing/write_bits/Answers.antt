@@ -1,4 +1,5 @@
 -- `write_bits` meets its contract: the fields that it cuts out are those of the value. Assumes nothing.
+use Rattle.std.specs.Prelude.{Ok, Err}
 use mathlib.Core.Path.{◌≡◌, refl, sym, ap, ◌∙◌, subst}
 use mathlib.Core.Bool.{Bool, cond}
 use Prim.Native.Nat.{ℕ, ◌+◌, ◌/◌, ◌^◌, ◌<◌}
@@ -10,7 +11,6 @@ use mir.Facts.{to_z-of_z, to_z_pos}
 use mir.Syntax.{w32}
 use mir.Val.{SFits, to_z, of_z}
 use lib.Ieee.{binary64, of_bits}
-use Rattle.bounds.specs.declared.answer.Answer.{Answer}
 use Rattle.bounds.specs.declared.saying.Saying.TheVariants.{Exact}
 use Rattle.bounds.specs.Refusals.{width_test, Decided, through, refused}
 use Rattle.bounds.specs.Sayings.{exactly}
@@ -56,7 +56,7 @@ returns-then-exponent-eq2047 c = by c.nar.ensures
     unbounded : Unbounded (of_bits binary64 c.args.bits)
     unbounded = pattern_unbounded _ (omega arith)
 
-    by : Decided (width_test c.args.width.bits) (λ q. c.nar.result ≡ Answer.Refused q) (c.nar.result ≡ Answer.Word (nar_word c.args.width.bits)) → WritesBinary64AndSays c.args.width.bits c.args.rule (of_bits binary64 c.args.bits) c.exactly.result
+    by : Decided (width_test c.args.width.bits) (λ q. c.nar.result ≡ Err q) (c.nar.result ≡ Ok (nar_word c.args.width.bits)) → WritesBinary64AndSays c.args.width.bits c.args.rule (of_bits binary64 c.args.bits) c.exactly.result
     by (through h x) = subst (WritesBinary64AndSays c.args.width.bits c.args.rule (of_bits binary64 c.args.bits)) (sym (c.exactly.ensures ∙ ap exactly x)) (word_said _ Exact (through h (unbounded_written _ _ _ _ unbounded refl)) (unbounded_said _ _ _ unbounded))
     by (refused h x) = subst (WritesBinary64AndSays c.args.width.bits c.args.rule (of_bits binary64 c.args.bits)) (sym (c.exactly.ensures ∙ ap exactly x)) (refusal_said _ (refused h refl))
 

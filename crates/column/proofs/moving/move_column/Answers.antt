@@ -1,8 +1,9 @@
 -- `move_column` meets its contract: the tests are made in their order, then every word is tried, and only then is anything written. Assumes nothing.
+use Rattle.bounds.specs.Refusals.{passed}
+use Rattle.bounds.specs.Sayings.{written}
 use mathlib.Core.Path.{◌≡◌, refl}
 use Prim.Native.Nat.{ℕ, ◌≤◌}
 use native.Mathlib.Nat.{le_refl}
-use Rattle.bounds.specs.declared.refusal.Verdict.{Verdict}
 use Rattle.bounds.specs.Refusals.{width_test, ◌then◌, through, refused, room_test}
 use Rattle.bounds.proofs.Verdicts.{told_three, then_through}
 use Rattle.column.specs.Columns.{MovesColumn, Holds}
@@ -13,7 +14,7 @@ use Rattle.column.proofs.Walks.{all_tried}
 use Rattle.column.proofs.moving.move_column.Goals as goal
 
 -- what is known once the verdict has let the widths and the room through
-let_through : (n n' count room : ℕ) → width_test n then width_test n' then room_test count room ≡ Verdict.Through → (width_test n ≡ Verdict.Through) × (width_test n' ≡ Verdict.Through) × (count ≤ room)
+let_through : (n n' count room : ℕ) → width_test n then width_test n' then room_test count room ≡ passed → (width_test n ≡ passed) × (width_test n' ≡ passed) × (count ≤ room)
 let_through n n' count room h =
     let t = then_through (width_test n then width_test n') (room_test count room) h in
     let w = then_through (width_test n) (width_test n') t.0 in

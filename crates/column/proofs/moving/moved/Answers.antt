@@ -1,4 +1,5 @@
 -- `moved` meets its contract: a word that is moved to some word is not refused, and is exact where it means the same. Assumes nothing.
+use Rattle.bounds.specs.Refusals.{Answer}
 use mathlib.Core.Path.{sym, ap, ◌∙◌, subst}
 use Rattle.bounds.specs.declared.answer.Written.{Written}
 use Rattle.bounds.specs.declared.saying.Saying.{Saying}
@@ -13,7 +14,7 @@ use Rattle.column.proofs.moving.moved.Goals as goal
 
 pub returns-in-Word : goal.returns-in-Word
 unfolding MovesAndSays
-returns-in-Word c = let moves = subst (λ (r : Written). Moves c.args.from.bits c.args.to.bits c.args.rule c.args.word (plain r)) c.in-Word.is c.move_word.ensures.answers in
+returns-in-Word c = let moves = subst (λ (r : Answer Written). Moves c.args.from.bits c.args.to.bits c.args.rule c.args.word (plain r)) c.in-Word.is c.move_word.ensures.answers in
     let says = c.move_word.ensures.says _ _ c.in-Word.is in
     record {
       moves = moves;

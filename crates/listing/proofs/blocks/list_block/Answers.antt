@@ -1,14 +1,14 @@
 -- `list_block` meets its contract: what the test of the room refuses leaves the slice as it came, and else there is room for the text. Assumes nothing.
+use Rattle.bounds.specs.Refusals.{passed}
 use mathlib.Core.Path.{◌≡◌, refl, sym, ◌∙◌}
 use Prim.Native.Nat.{ℕ}
-use Rattle.bounds.specs.declared.refusal.Verdict.{Verdict}
 use Rattle.bounds.specs.Refusals.{room_test, through, refused}
 use Rattle.bounds.proofs.Rooms.{room_through}
 use Rattle.listing.specs.Listing.{most, text_room, ListsInto}
 use Rattle.listing.proofs.blocks.list_block.Goals as goal
 
 -- what is known once the test has let the slice through
-told : (v : Verdict) (room : ℕ) → v ≡ room_test 47616 room → v ≡ Verdict.Through → room_test text_room room ≡ Verdict.Through
+told : (v : Verdict) (room : ℕ) → v ≡ room_test 47616 room → v ≡ passed → room_test text_room room ≡ passed
 unfolding text_room
 told v room e h = sym e ∙ h
 

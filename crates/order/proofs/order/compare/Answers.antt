@@ -1,4 +1,5 @@
 -- `compare` meets its contract: a verdict that refuses is the answer, and one that lets both words through is followed by the order of their numbers. Assumes nothing.
+use Rattle.bounds.specs.Refusals.{passed}
 use mathlib.Core.Path.{◌≡◌, refl, sym, ap, ap₂, ◌∙◌}
 use Prim.Native.Nat.{ℕ}
 use borrow.Author.Rules.{rules, sfits_of}
@@ -6,10 +7,8 @@ use mir.Facts.{to_z-of_z}
 use mir.Syntax.{w32, w64}
 use Rattle.word.specs.Orders.{order}
 use Rattle.order.specs.Orders.{Compares}
-use Rattle.order.specs.declared.order.Comparison.{Comparison}
 use Rattle.bounds.specs.Refusals.{width_test, stray_test, word_test, ◌then◌, IsWord, through, refused}
 use Rattle.bounds.proofs.Verdicts.{once, told_two, words_through}
-use Rattle.bounds.specs.declared.refusal.Verdict.{Verdict}
 use Rattle.order.proofs.order.compare.Goals as goal
 
 -- the verdict as the tests in their order
@@ -17,7 +16,7 @@ told : (n x y : ℕ) {a b v u : Verdict} → a ≡ word_test n x → b ≡ word_
 told n x y e f g h = sym (once (width_test n) (stray_test n x) (stray_test n y)) ∙ told_two e f g h
 
 -- what is known once the verdict has let the words through
-words_in : (n x y : ℕ) {a b v : Verdict} → a ≡ word_test n x → b ≡ word_test n y → v ≡ a then b → v ≡ Verdict.Through → IsWord n x × IsWord n y
+words_in : (n x y : ℕ) {a b v : Verdict} → a ≡ word_test n x → b ≡ word_test n y → v ≡ a then b → v ≡ passed → IsWord n x × IsWord n y
 words_in n x y e f g h = words_through n x y (told n x y e f g h)
 
 pub returns-in-Refused : goal.returns-in-Refused

@@ -1,4 +1,7 @@
 -- `strictly` meets its contract: a word that is exact, one that isn't, and a refusal. Assumes nothing.
+use Rattle.std.specs.Prelude.{Err}
+use Rattle.bounds.specs.Refusals.{Answer}
+use Rattle.bounds.specs.Sayings.{written}
 use mathlib.Core.Bool.{Bool, true, false, cond}
 use mathlib.Core.Path.{◌≡◌, sym, ap, ◌∙◌}
 use Prim.Native.Nat.{ℕ}
@@ -11,9 +14,9 @@ use Rattle.round.specs.Offers.{settled}
 use Rattle.round.proofs.writing.strictly.Goals as goal
 
 -- what the strict rule makes of a word
-made : (found : Written) (w : ℕ) (t : Saying) (e : Bool) → found ≡ Written.Word w t → says_exact t ≡ e → cond e (Written.Word w t) (Written.Refused Refusal.Inexact) ≡ settled Rule.Strict found
+made : (found : Answer Written) (w : ℕ) (t : Saying) (e : Bool) → found ≡ written w t → says_exact t ≡ e → cond e (written w t) (Err Refusal.Inexact) ≡ settled Rule.Strict found
 unfolding settled
-made found w t e q r = sym (ap (settled Rule.Strict) q ∙ ap (λ (b : Bool). cond b (Written.Word w t) (Written.Refused Refusal.Inexact)) r)
+made found w t e q r = sym (ap (settled Rule.Strict) q ∙ ap (λ (b : Bool). cond b (written w t) (Err Refusal.Inexact)) r)
 
 pub returns-then-is_exact : goal.returns-then-is_exact
 returns-then-is_exact c = made _ _ _ true c.in-Word.is (sym c.is_exact.ensures ∙ c.if-is_exact.true)

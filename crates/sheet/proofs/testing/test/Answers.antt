@@ -1,7 +1,8 @@
 -- `test` meets its contract: the tests are made in the paper's order, and the first that the block fails refuses it. Assumes nothing.
+use Rattle.std.specs.Prelude.{Err}
+use Rattle.bounds.specs.Refusals.{passed}
 use Rattle.std.proofs.Common.{◌≡◌, ℕ, ◌<◌, ◌≤◌, Bool, List, sym, ap, ◌∙◌, eq-eqb, ne_eqb}
 use Rattle.bounds.specs.declared.refusal.Refusal.{Refusal}
-use Rattle.bounds.specs.declared.refusal.Verdict.{Verdict}
 use Rattle.bounds.specs.Refusals.{unless, room_test}
 use Rattle.sheet.specs.Layout.{mark, width, end, unused}
 use Rattle.sheet.specs.Sums.{total}
@@ -16,19 +17,19 @@ tested : (block : List ℕ) (w : ℕ) (b : Bool) → w ≡ width block → b ≡
 unfolding block_width_test
 tested block w b e h = ap (unless Refusal.Width) (sym (h ∙ ap is_block_width e))
 
-counted : (block : List ℕ) (e : ℕ) → e ≡ end block → e ≤ 504 → count_test block ≡ Verdict.Through
+counted : (block : List ℕ) (e : ℕ) → e ≡ end block → e ≤ 504 → count_test block ≡ passed
 unfolding count_test
 counted block e h most = sym (at_most Refusal.Count 504 h most)
 
-miscounted : (block : List ℕ) (e : ℕ) → e ≡ end block → 504 < e → count_test block ≡ Verdict.Refused Refusal.Count
+miscounted : (block : List ℕ) (e : ℕ) → e ≡ end block → 504 < e → count_test block ≡ Err Refusal.Count
 unfolding count_test
 miscounted block e h most = sym (past Refusal.Count 504 h most)
 
-filled : (block : List ℕ) (sum : ℕ) → sum ≡ total (unused block) → sum ≡ 0 → fill_test block ≡ Verdict.Through
+filled : (block : List ℕ) (sum : ℕ) → sum ≡ total (unused block) → sum ≡ 0 → fill_test block ≡ passed
 unfolding fill_test
 filled block sum h none = sym (holds Refusal.Fill (zero_when (unused block) ∙ eq-eqb (total (unused block)) 0 (sym h ∙ none)))
 
-unfilled : (block : List ℕ) (sum : ℕ) → sum ≡ total (unused block) → (sum ≡ 0 → ⊥) → fill_test block ≡ Verdict.Refused Refusal.Fill
+unfilled : (block : List ℕ) (sum : ℕ) → sum ≡ total (unused block) → (sum ≡ 0 → ⊥) → fill_test block ≡ Err Refusal.Fill
 unfolding fill_test
 unfilled block sum h some = sym (fails Refusal.Fill (zero_when (unused block) ∙ ne_eqb (total (unused block)) 0 (λ e. some (h ∙ e))))
 

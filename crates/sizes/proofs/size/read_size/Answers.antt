@@ -1,9 +1,9 @@
 -- `read_size` meets its contract: the refusals, zero and NaR, and the size of any other word's string. Assumes nothing.
+use Rattle.bounds.specs.Refusals.{passed}
 use mathlib.Core.Path.{◌≡◌, refl, sym, ap, ◌∙◌, subst}
 use Prim.Native.Nat.{ℕ}
 use native.Mathlib.Omega.{arith}
 use Rattle.bounds.specs.Refusals.{word_test, IsWord, through, refused}
-use Rattle.bounds.specs.declared.refusal.Verdict.{Verdict}
 use Rattle.bounds.proofs.Verdicts.{word_through}
 use Rattle.word.specs.Takum.{takum}
 use Rattle.sizes.specs.Sizes.{Sizes, IsWordSize, ReadsSize}
@@ -17,7 +17,7 @@ told : (n w : ℕ) {v u : Verdict} → v ≡ word_test n w → v ≡ u → word_
 told n w e h = sym e ∙ h
 
 -- a word that was let through
-is_word : (n w : ℕ) {v : Verdict} → v ≡ word_test n w → v ≡ Verdict.Through → IsWord n w
+is_word : (n w : ℕ) {v : Verdict} → v ≡ word_test n w → v ≡ passed → IsWord n w
 is_word n w e h = word_through n w (told n w e h)
 
 pub returns-in-Refused : goal.returns-in-Refused

@@ -1,4 +1,5 @@
 -- `shortest_width` meets its contract: zero has a word at width 2, and the words of every other number begin at its length. Assumes nothing.
+use Rattle.std.specs.Prelude.{Ok}
 use mathlib.Core.Path.{◌≡◌, sym, ap, ◌∙◌, subst}
 use Prim.Native.Nat.{ℕ, zero, ◌^◌, ◌<◌}
 use native.Mathlib.Omega.{arith}
@@ -6,7 +7,6 @@ use lib.IntN.{ℤ, pos, negsuc, nat_abs}
 use mir.Facts.{to_z-of_z}
 use mir.Syntax.{w64}
 use mir.Val.{SFits, to_z, of_z}
-use Rattle.bounds.specs.declared.width.Made.{Made}
 use Rattle.whole.specs.Shortest.{GivesShortest}
 use Rattle.whole.specs.Parts.{IsLength}
 use Rattle.whole.proofs.Lengths.{BeginsAt}
@@ -23,7 +23,7 @@ counted : (x : ℤ) (m l : ℕ) → SFits w64 x → m ≡ nat_abs (to_z w64 (of_
 counted x m l small q is = begins x l (fits x small) (subst (λ (m : ℕ). IsLength m l) (q ∙ ap nat_abs (to_z-of_z {w = w64} small)) is)
 
 pub returns-then-x-eq0 : goal.returns-then-x-eq0
-returns-then-x-eq0 c = subst (λ (x : ℤ). GivesShortest x (Made.Width (record { bits = 2 }))) (sym (sym (to_z-of_z {w = w64} c.ranges.x) ∙ ap (to_z w64) c.if-x-eq0.true)) given_for_zero
+returns-then-x-eq0 c = subst (λ (x : ℤ). GivesShortest x (Ok (record { bits = 2 }))) (sym (sym (to_z-of_z {w = w64} c.ranges.x) ∙ ap (to_z w64) c.if-x-eq0.true)) given_for_zero
 
 pub length-bits-requires : goal.length-bits-requires
 length-bits-requires c = subst (λ (m : ℕ). zero < m) (sym (c.size.ensures ∙ ap nat_abs (to_z-of_z {w = w64} c.ranges.x))) (has_size c.args.x (λ e. c.if-x-eq0.false (ap (of_z w64) e)))

@@ -1,4 +1,5 @@
 -- `take_far` meets its contract: from 2^63 on only -2^63 itself falls inside 64 bits. Assumes nothing.
+use Rattle.std.specs.Prelude.{Ok}
 use mathlib.Core.Path.{◌≡◌, sym, ap, ap₂, ◌∙◌, subst}
 use mathlib.Core.Bool.{Bool, true}
 use Prim.Native.Nat.{◌^◌}
@@ -6,7 +7,6 @@ use native.Mathlib.Omega.{arith}
 use lib.Arith.{lt_of_le-ne}
 use lib.IntN.{ℤ, pos, ◌-ℤ◌}
 use Rattle.word.specs.Reads.{signed_size}
-use Rattle.whole.specs.declared.taking.Whole.{Whole}
 use Rattle.whole.specs.Wholes.{over_test}
 use Rattle.whole.specs.Parts.{TakesSize, TakesByEitherRule}
 use Rattle.whole.proofs.Answers.{least_inside, outside, outside_above}
@@ -20,7 +20,7 @@ returns-then-k-gt64 c rule = takes_past rule c.args.negative c.args.m c.requires
 pub returns-then-m : goal.returns-then-m
 unfolding TakesByEitherRule signed_size
 returns-then-m c rule = let is : signed_size c.args.negative c.args.m ≡ signed_size true (2 ^ 63) = ap₂ signed_size c.if-negative.true c.if-m.true in
-    subst (λ (x : ℤ). TakesSize rule c.args.negative (pos c.args.k -ℤ pos 1) c.args.m (Whole.Is x)) is
+    subst (λ (x : ℤ). TakesSize rule c.args.negative (pos c.args.k -ℤ pos 1) c.args.m (Ok x)) is
     (takes_inside rule c.args.negative c.args.m c.requires.0 c.args.k c.requires.1 (omega arith) (ap over_test is ∙ least_inside))
 
 pub returns-then-negative : goal.returns-then-negative

@@ -1,4 +1,5 @@
 -- `take_number` meets its contract: what is below a half, and any other size with its exponent raised by one. Assumes nothing.
+use Rattle.bounds.specs.Refusals.{Answer}
 use mathlib.Core.Path.{◌≡◌, refl, sym, ap, ◌∙◌, subst, subst₂}
 use mathlib.Core.Bool.{Bool, true, false}
 use Prim.Native.Nat.{ℕ, zero, suc, ◌+◌, ◌^◌, ◌≤◌, ◌<◌}
@@ -12,7 +13,6 @@ use mir.Facts.{to_z-of_z}
 use mir.Syntax.{w32}
 use mir.Val.{Fits, SFits, to_z, of_z}
 use Rattle.word.proofs.Signed.{difference}
-use Rattle.whole.specs.declared.taking.Whole.{Whole}
 use Rattle.whole.specs.Parts.{TakesSize, WholeWhereLarge}
 use Rattle.whole.proofs.Takings.{takes_under_half}
 use Rattle.whole.proofs.taking.take_number.Goals as goal
@@ -63,7 +63,7 @@ returns-then-size-ltminus1 c =
     let below : lt_z (to_z w32 (of_z w32 c.args.size.h)) (negsuc 0) ≡ true = grind (arith, ints) in
     let x = under c.args.size.h (tested c.args.size.h c.requires.1 below) in
     let few : c.args.size.m < 2 ^ 64 = omega arith in
-    subst₂ (λ (z : ℤ) (a : Whole). TakesSize c.args.rule c.args.size.negative z c.args.size.m a) (sym x.1) (sym c.below_half.ensures)
+    subst₂ (λ (z : ℤ) (a : Answer ℤ). TakesSize c.args.rule c.args.size.negative z c.args.size.m a) (sym x.1) (sym c.below_half.ensures)
     (takes_under_half c.args.rule c.args.size.negative c.args.size.m c.requires.0 few x.0)
 
 pub overflow_add-size : goal.overflow_add-size

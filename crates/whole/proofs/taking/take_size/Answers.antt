@@ -1,4 +1,5 @@
 -- `take_size` meets its contract: what stands above the fraction's bits and the fraction are the size, counted in 2^-64. Assumes nothing.
+use Rattle.std.specs.Prelude.{Ok}
 use mathlib.Core.Path.{◌≡◌, sym, ap, ◌∙◌, subst}
 use mathlib.Core.Bool.{Bool, true}
 use Prim.Native.Nat.{ℕ, ◌+◌, ◌-◌, ◌*◌, ◌/◌, ◌%◌, ◌^◌, ◌≤◌, ◌<◌}
@@ -13,7 +14,6 @@ use mir.Facts.{to_z-of_z}
 use mir.Syntax.{w64}
 use Rattle.word.specs.Reads.{signed_size}
 use Rattle.whole.specs.declared.taking.Taking.{Taking}
-use Rattle.whole.specs.declared.taking.Whole.{Whole}
 use Rattle.whole.specs.Parts.{NearestSize, by_rule, TakesSize, TakesByEitherRule, WholeWhereLarge}
 use Rattle.whole.proofs.NearestWholes.{a_nearest, itself}
 use Rattle.whole.proofs.Takings.{takes_rounded, stays_below}
@@ -82,14 +82,14 @@ returns-then-fraction-eq0 c =
     let none : m * 2 ^ k % 2 ^ 64 ≡ 0 = omega arith in
     let exact : eqb (m * 2 ^ k % 2 ^ 64) 0 ≡ true = eq-eqb _ _ none in
     subst (TakesSize _ _ _ _)
-    (ap (λ (b : Bool). by_rule Taking.Strict b (signed_size c.args.negative i)) exact ∙ ap Whole.Is (sym (to_z-of_z {w = w64} {z = x.result} (sfits_of x.type_inv) ∙ x.ensures)))
+    (ap (λ (b : Bool). by_rule Taking.Strict b (signed_size c.args.negative i)) exact ∙ ap Ok (sym (to_z-of_z {w = w64} {z = x.result} (sfits_of x.type_inv) ∙ x.ensures)))
     (takes c.args.rule c.args.negative k m c.requires.0 c.ranges.m.fits c.requires.1 c.if-k-gt63.false Taking.Strict i c.in-Strict.is (all_whole c.args.rule c.args.negative k m c.requires.0 c.ranges.m.fits c.requires.1 c.if-k-gt63.false none))
 
 pub returns-in-Nearest : goal.returns-in-Nearest
 unfolding by_rule
 returns-in-Nearest c =
     let i = c.nearest.result in
-    subst (TakesSize _ _ _ _) (ap Whole.Is (sym (to_z-of_z {w = w64} {z = c.with_sign.result} (sfits_of c.with_sign.type_inv) ∙ c.with_sign.ensures)))
+    subst (TakesSize _ _ _ _) (ap Ok (sym (to_z-of_z {w = w64} {z = c.with_sign.result} (sfits_of c.with_sign.type_inv) ∙ c.with_sign.ensures)))
     (takes c.args.rule c.args.negative c.args.k c.args.m c.requires.0 c.ranges.m.fits c.requires.1 c.if-k-gt63.false Taking.Nearest i c.in-Nearest.is (rounded c.args.rule c.args.negative c.args.k c.args.m c.requires.0 c.ranges.m.fits c.requires.1 c.if-k-gt63.false i c.nearest.ensures))
 
 pub returns-else-fraction-eq0 : goal.returns-else-fraction-eq0

@@ -1,4 +1,5 @@
 -- `take_whole` meets its contract: the refusals, zero and NaR, and the whole number nearest to any other. Assumes nothing.
+use Rattle.std.specs.Prelude.{Ok, Err}
 use mathlib.Core.Path.{◌≡◌, refl, sym, subst}
 use Prim.Native.Nat.{ℕ}
 use lib.IntN.{pos}
@@ -11,7 +12,6 @@ use Rattle.sizes.specs.Sizes.{ReadsSize}
 use Rattle.bounds.proofs.Verdicts.{word_through}
 use Rattle.sizes.proofs.Normal.{TellsWord, tells, exponent_small}
 use Rattle.write.specs.Writes.{is_negative}
-use Rattle.whole.specs.declared.taking.Whole.{Whole}
 use Rattle.whole.specs.Wholes.{over_test, IsTakenWhole, TakesWhole}
 use Rattle.whole.specs.Parts.{TakesSize}
 use Rattle.whole.proofs.LimitLarge.{whole_where_large}
@@ -31,12 +31,12 @@ pub returns-in-Zero : goal.returns-in-Zero
 unfolding TakesWhole TellsWord value_of signed_size is_negative over_test
 returns-in-Zero c = let rule = c.args.rule in
     let x = told _ _ _ WordSize.Zero c.read_size.ensures c.in-Zero.is in
-    through x.0 (subst (λ (t : Takum). IsTakenWhole rule t (Whole.Is (pos 0))) (sym x.1) (taken_as_itself rule (pos 0) refl))
+    through x.0 (subst (λ (t : Takum). IsTakenWhole rule t (Ok (pos 0))) (sym x.1) (taken_as_itself rule (pos 0) refl))
 
 pub returns-in-Nar : goal.returns-in-Nar
 unfolding TakesWhole TellsWord IsTakenWhole
 returns-in-Nar c = let x = told _ _ _ WordSize.Nar c.read_size.ensures c.in-Nar.is in
-    through x.0 (subst (λ (t : Takum). IsTakenWhole c.args.rule t (Whole.Refused Refusal.Nar)) (sym x.1) refl)
+    through x.0 (subst (λ (t : Takum). IsTakenWhole c.args.rule t (Err Refusal.Nar)) (sym x.1) refl)
 
 pub returns-in-Number : goal.returns-in-Number
 unfolding TakesWhole TakesSize TellsWord
@@ -45,4 +45,4 @@ returns-in-Number c = let x = told _ _ _ (WordSize.Number c.in-Number.size) c.re
 
 pub returns-in-Refused : goal.returns-in-Refused
 unfolding TakesWhole TellsWord
-returns-in-Refused c = refused (told _ _ _ (WordSize.Refused c.in-Refused.q) c.read_size.ensures c.in-Refused.is) refl
+returns-in-Refused c = refused (told _ _ _ (Err c.in-Refused.q) c.read_size.ensures c.in-Refused.is) refl

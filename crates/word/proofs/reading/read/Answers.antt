@@ -1,4 +1,5 @@
 -- `read` meets its contract: zero and NaR by their words, every other word by the number of its padded string. Assumes nothing.
+use Rattle.bounds.specs.Refusals.{passed}
 use mathlib.Core.Path.{◌≡◌, refl, sym, ap, ap₂, ◌∙◌, subst₂}
 use Prim.Native.Nat.{ℕ, ◌+◌, ◌*◌, ◌-◌, ◌/◌, ◌%◌, ◌^◌, ◌≤◌, max}
 use native.Mathlib.Nat.{mul_assoc, mul-mod_left}
@@ -13,7 +14,6 @@ use Rattle.word.specs.Takum.{Takum, real, value, r, p, N, padded, takum, fractio
 use Rattle.bounds.proofs.Verdicts.{word_through}
 use Rattle.word.proofs.Words.{takum_zero, takum_NaR, takum_number}
 use Rattle.word.proofs.Own.{or_zero_lem, zero_has_none, NaR_has_none, number_has}
-use Rattle.bounds.specs.declared.refusal.Verdict.{Verdict}
 use Rattle.word.proofs.Top as top
 use Rattle.word.proofs.reading.read.Goals as goal
 
@@ -22,7 +22,7 @@ told : (n w : ℕ) {v u : Verdict} → v ≡ word_test n w → v ≡ u → word_
 told n w e h = sym e ∙ h
 
 -- what is known once the verdict has let the word through
-word_in : (n w : ℕ) {v : Verdict} → v ≡ word_test n w → v ≡ Verdict.Through → IsWord n w
+word_in : (n w : ℕ) {v : Verdict} → v ≡ word_test n w → v ≡ passed → IsWord n w
 word_in n w e h = word_through n w (told n w e h)
 
 -- the word at the top of 64 bits: its string, of m bits, stands there too, with zeros behind it

@@ -20,14 +20,14 @@ pub fn take_binary64(width: Width, word: u64) -> Binary64
     ensures { TakesBinary64 width.bits word result }
 {
     match read_size(width, word) {
-        WordSize::Zero => Binary64::Number(0.0),
-        WordSize::Nar => Binary64::Nar,
-        WordSize::Number(size) => {
+        Ok(WordSize::Zero) => Binary64::Number(0.0),
+        Ok(WordSize::Nar) => Binary64::Nar,
+        Ok(WordSize::Number(size)) => {
             // The lowest of 53 digits is 2^(h - 52).
             let j = (size.h + 971) as u64;
             Binary64::Number(number(size.negative as u64, to_53_digits(size.m), j))
         }
-        WordSize::Refused(q) => Binary64::Refused(q),
+        Err(q) => Binary64::Refused(q),
     }
 }
 

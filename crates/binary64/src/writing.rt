@@ -5,13 +5,14 @@ ghost use Rattle.std.specs.Float.Ieee.{of_bits, to_bits};
 ghost use Rattle.binary64.specs.Sayings.{WritesBinary64AndSays};
 
 use bounds::answer::Written;
+use bounds::refusal::Refusal;
 use bounds::width::Width;
 use round::value::Rule;
 use write::value::Value;
 use write::writing::write;
 
 // The word for a number, and which way it went: NaN and the infinities give NaR, everything else is written as its value.
-pub fn write_binary64(width: Width, rule: Rule, x: f64) -> Written
+pub fn write_binary64(width: Width, rule: Rule, x: f64) -> Result<Written, Refusal>
     ensures { WritesBinary64AndSays width.bits rule x result }
 {
     write_bits(width, rule, bits_of(x))
@@ -29,12 +30,12 @@ fn bits_of(x: f64) -> u64
 }
 
 // The word for the number of a bit pattern: its sign, its exponent and the digits below the leading one.
-fn write_bits(width: Width, rule: Rule, bits: u64) -> Written
+fn write_bits(width: Width, rule: Rule, bits: u64) -> Result<Written, Refusal>
     ensures { WritesBinary64AndSays width.bits rule (of_bits binary64 bits) result }
 {
     let exponent = (bits >> 52) & 0x7ff;
     if exponent == 0x7ff {
-        return width.nar().exactly();
+        return Ok(Written::exactly(width.nar()?));
     }
     let negative = bits >> 63 != 0;
     let digits = bits & 0xf_ffff_ffff_ffff;

@@ -1,30 +1,20 @@
 // Moving a column: every word is tried before any result is written, so that a refusal leaves the results as they came.
 ghost use Rattle.std.specs.Prelude.{◌≡◌, ◌≤◌, length};
-ghost use Rattle.bounds.specs.declared.refusal.Verdict.{Verdict};
-ghost use Rattle.bounds.specs.Refusals.{width_test};
+ghost use Rattle.bounds.specs.Refusals.{passed, width_test};
 ghost use Rattle.column.specs.Columns.{Movable, MovableUpTo, IsTried, AreMoved, MovesColumn};
 ghost use Rattle.column.specs.Counts.{Counts, KeepsTheMeaning, HoldsAndCounts};
 ghost use Rattle.column.specs.Trials.{TriesWord, MovesWord};
 
-use bounds::answer::Written;
-use bounds::refusal::{Refusal, Verdict};
+use bounds::refusal::{ListRefusal, Refusal};
 use bounds::room::test_room;
 use bounds::width::Width;
 use round::value::Rule;
 use write::moving::move_word;
 
-// How many words were moved, or why none was: a refusal of the whole column, or of the word at a position.
-#[derive(Clone, Copy)]
-pub enum Column {
-    Moved(usize),
-    Refused(Refusal),
-    RefusedAt { position: usize, refusal: Refusal },
-}
-
-// The answer, and how many of the words that were moved are exact: 0 where none was moved.
+// How many words were moved, and how many of them are exact.
 #[derive(Clone, Copy)]
 pub struct MovedColumn {
-    pub answer: Column,
+    pub moved: usize,
     pub exact: usize,
 }
 
@@ -42,61 +32,46 @@ pub fn move_column(
     rule: Rule,
     words: &[u64],
     results: &mut [u64],
-) -> MovedColumn
-    ensures moves_column { MovesColumn from.bits to.bits rule words.now (length results.old) result.answer }
+) -> Result<MovedColumn, ListRefusal>
+    ensures moves_column { MovesColumn from.bits to.bits rule words.now (length results.old) result }
     ensures holds_and_counts { HoldsAndCounts from.bits to.bits rule words.now results.old result results.new }
 {
-    let verdict = from
-        .test()
-        .then(to.test())
-        .then(test_room(words.len(), results.len()));
-    if let Verdict::Refused(q) = verdict {
-        return MovedColumn {
-            answer: Column::Refused(q),
-            exact: 0,
-        };
-    }
-    let tried = try_words(from, to, rule, words);
-    let Column::Moved(_) = tried else {
-        return MovedColumn {
-            answer: tried,
-            exact: 0,
-        };
-    };
-    let exact = write_words(from, to, rule, words, results);
-    MovedColumn {
-        answer: Column::Moved(words.len()),
-        exact,
-    }
+    from.test()?;
+    to.test()?;
+    test_room(words.len(), results.len())?;
+    try_words(from, to, rule, words)?;
+    Ok(MovedColumn {
+        moved: words.len(),
+        exact: write_words(from, to, rule, words, results),
+    })
 }
 
 // What the column's answer is, both widths and the room being good: the first word that is refused decides.
-fn try_words(from: Width, to: Width, rule: Rule, words: &[u64]) -> Column
-    requires { (width_test from.bits ≡ Verdict.Through) × (width_test to.bits ≡ Verdict.Through) }
+fn try_words(from: Width, to: Width, rule: Rule, words: &[u64]) -> Result<usize, ListRefusal>
+    requires { (width_test from.bits ≡ passed) × (width_test to.bits ≡ passed) }
     ensures { IsTried from.bits to.bits rule words.now result }
 {
     let mut position = 0;
     while position < words.len() {
-        let verdict = try_word(from, to, rule, words[position]);
-        if let Verdict::Refused(refusal) = verdict {
-            return Column::RefusedAt { position, refusal };
+        if let Err(refusal) = try_word(from, to, rule, words[position]) {
+            return Err(ListRefusal::At { position, refusal });
         }
         position += 1;
     }
-    Column::Moved(position)
+    Ok(position)
 }
 
 // Whether the word can be moved. Rounding gives every word of the width a word, so only a stray bit is refused there.
-fn try_word(from: Width, to: Width, rule: Rule, word: u64) -> Verdict
-    requires { (width_test from.bits ≡ Verdict.Through) × (width_test to.bits ≡ Verdict.Through) }
+fn try_word(from: Width, to: Width, rule: Rule, word: u64) -> Result<(), Refusal>
+    requires { (width_test from.bits ≡ passed) × (width_test to.bits ≡ passed) }
     ensures { TriesWord from.bits to.bits rule word result }
 {
     match rule {
         Rule::Rounded => from.test_word(word),
-        Rule::Strict => match move_word(from, to, rule, word) {
-            Written::Word { .. } => Verdict::Through,
-            Written::Refused(q) => Verdict::Refused(q),
-        },
+        Rule::Strict => {
+            move_word(from, to, rule, word)?;
+            Ok(())
+        }
     }
 }
 
@@ -124,11 +99,11 @@ fn moved(from: Width, to: Width, rule: Rule, word: u64) -> MovedWord
     ensures { MovesWord from.bits to.bits rule word result }
 {
     match move_word(from, to, rule, word) {
-        Written::Word { word, saying } => MovedWord {
-            word,
-            exact: saying.is_exact(),
+        Ok(written) => MovedWord {
+            word: written.word,
+            exact: written.saying.is_exact(),
         },
-        Written::Refused(_) => MovedWord {
+        Err(_) => MovedWord {
             word: 0,
             exact: false,
         },

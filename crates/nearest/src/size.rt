@@ -8,7 +8,7 @@ ghost use Rattle.nearest.specs.Sayings.{FindsAndSays};
 ghost use Rattle.nearest.specs.Parts.{TellsCharacteristic, Begins, StartsAbove, turned, first_bits, IsRaised, TellsHalf, TellsPowers, chosen_of, margin_of, ChoosesByCut, TellsEnd, TellsNothing, is_none, saying_of, IsNear, with_sign, signed_saying};
 
 use bounds::answer::Written;
-use bounds::refusal::Verdict;
+use bounds::refusal::Refusal;
 use bounds::saying::Saying;
 use bounds::width::Width;
 use word::fields::cut;
@@ -48,19 +48,16 @@ struct Near {
 }
 
 // The word nearest to plus or minus the size (m + below * 2^-64) * 2^(h - 63), the top bit of m being taken as set, and which way it went.
-pub fn nearest(width: Width, negative: bool, h: i64, m: u64, below: u64) -> Written
+pub fn nearest(width: Width, negative: bool, h: i64, m: u64, below: u64) -> Result<Written, Refusal>
     ensures { FindsAndSays width.bits negative h m below result }
 {
-    let verdict = width.test();
-    if let Verdict::Refused(q) = verdict {
-        return Written::Refused(q);
-    }
+    width.test()?;
     let full = (1 << 63) + m % (1 << 63);
     let near = nearest_word(width.bits, h, full, rest_of(below));
-    Written::Word {
+    Ok(Written {
         word: with_sign(width.bits, negative, near.word),
         saying: said(negative, near),
-    }
+    })
 }
 
 // A word's opposite lies as far above NaR as the word lies below it.

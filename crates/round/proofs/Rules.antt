@@ -82,7 +82,7 @@ refusal_settled Rule.Strict q = refl
 pub settles : (n : ℕ) (rule : Rule) (s : Bool) (h : ℤ) (m below : ℕ) (found : Answer Written) → 2 ^ 63 ≤ m → m < 2 ^ 64 → FindsAndSays n s h m below found → (rest : Rest) → IsRest below rest → (a b : ℕ) → 0 < a → 0 < b → IsOffered m rest (h -ℤ pos 63) a b
     → AndSays (λ (r : Answer ℕ). Decided (width_test n) (λ q. r ≡ Err q) (IsWritten n rule s a b r)) (Says n s a b) (settled rule found)
 unfolding FindsAndSays FindsNearest SaysFound SaysOffered IsSignedNearest GivesAWord word_of
-settles n rule s h m below (Ok (w,t)) full top finds rest is a b nonzero some offered = by finds.answers
+settles n rule s h m below (Ok (w, t)) full top finds rest is a b nonzero some offered = by finds.answers
   where
     same : 2 ^ 63 + m % 2 ^ 63 ≡ m
     same = omega (arith, full, top)

@@ -21,5 +21,5 @@ top_bits high low zeros = high * 2 ^ zeros + low / 2 ^ (64 - zeros)
 -- what the rule makes of the nearest word
 unfoldable pub settled : Rule → Answer Written → Answer Written
 settled Rule.Rounded found = found
-settled Rule.Strict (Ok (w,s)) = cond (says_exact s) (written w s) (Err Refusal.Inexact)
+settled Rule.Strict (Ok (w, s)) = cond (says_exact s) (written w s) (Err Refusal.Inexact)
 settled Rule.Strict (Err q) = Err q

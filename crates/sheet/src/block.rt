@@ -6,28 +6,27 @@ use crate::fields::{count_of, width_of, word_bytes};
 use crate::numbers::four_bytes;
 use crate::testing::test;
 use crate::words::unpack;
-use bounds::refusal::{Refusal, Verdict};
+use bounds::refusal::Refusal;
 
+// What a block that was read says of itself, beside its words.
 #[derive(Clone, Copy)]
-pub enum Block {
-    Read { width: u32, number: u32, count: u32 },
-    Refused(Refusal),
+pub struct Block {
+    pub width: u32,
+    pub number: u32,
+    pub count: u32,
 }
 
 // The block's words go into the results from their start, and the others stay; the answer is the block's width, number and count of words.
-pub fn read_block(block: &[u8], results: &mut [u64]) -> Block
+pub fn read_block(block: &[u8], results: &mut [u64]) -> Result<Block, Refusal>
     ensures reads_block { ReadsBlock block.now (length results.old) result }
     ensures fills_results { FillsResults block.now results.old results.new }
 {
-    let verdict = test(block, results.len());
-    if let Verdict::Refused(q) = verdict {
-        return Block::Refused(q);
-    }
+    test(block, results.len())?;
     let count = count_of(block);
     unpack(block, word_bytes(block), count as usize, results);
-    Block::Read {
+    Ok(Block {
         width: width_of(block),
         number: four_bytes(block, 4),
         count,
-    }
+    })
 }

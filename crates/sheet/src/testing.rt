@@ -9,29 +9,29 @@ ghost use Rattle.sheet.specs.Reads.{check_test, block_test};
 use crate::fields::{count_of, end_of, is_block_width, width_of};
 use crate::numbers::{four_bytes, one_byte};
 use crate::sums::sums_of;
-use bounds::refusal::{Refusal, Verdict};
+use bounds::refusal::Refusal;
 use bounds::room::test_room;
 
-pub(crate) fn test(block: &[u8], places: usize) -> Verdict
+pub(crate) fn test(block: &[u8], places: usize) -> Result<(), Refusal>
     ensures { result ≡ block_test block.now places }
 {
     if block.len() != 512 {
-        return Verdict::Refused(Refusal::Size);
+        return Err(Refusal::Size);
     }
     if block[0] != 0x54 {
-        return Verdict::Refused(Refusal::Mark);
+        return Err(Refusal::Mark);
     }
     if !sums_agree(block) {
-        return Verdict::Refused(Refusal::Check);
+        return Err(Refusal::Check);
     }
     if !is_block_width(width_of(block)) {
-        return Verdict::Refused(Refusal::Width);
+        return Err(Refusal::Width);
     }
     if end_of(block) > 504 {
-        return Verdict::Refused(Refusal::Count);
+        return Err(Refusal::Count);
     }
     if unused_sum(block) != 0 {
-        return Verdict::Refused(Refusal::Fill);
+        return Err(Refusal::Fill);
     }
     test_room(count_of(block) as usize, places)
 }

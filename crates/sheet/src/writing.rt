@@ -1,52 +1,49 @@
 // Writing a sheet block into a lent buffer: everything is tried before a byte is written, so that a refusal leaves the buffer as it came.
 ghost use Rattle.std.specs.Prelude.{◌≡◌, ◌≤◌, length};
-ghost use Rattle.bounds.specs.declared.refusal.Verdict.{Verdict};
+ghost use Rattle.bounds.specs.Refusals.{passed};
 ghost use Rattle.sheet.specs.Puts.{IsFirstStray};
 ghost use Rattle.sheet.specs.Writes.{IsBlockOf, content_test, FitUpTo, WritesBlock, FillsBuffer};
 
 use crate::fields::is_block_width;
 use crate::parts::{clear, pack, put_header, seal};
-use bounds::refusal::Refusal;
+use bounds::refusal::{ListRefusal, Refusal};
 use bounds::width::Width;
 
 // The width that no block is written with any more; old blocks of it are still read.
 pub const RETIRED: u32 = 8;
 
-// The block was written, or why not: a refusal of the whole, or of the word at a position.
-#[derive(Clone, Copy)]
-pub enum Writing {
-    Written,
-    Refused(Refusal),
-    RefusedAt { position: usize, refusal: Refusal },
-}
-
 // The buffer becomes the block that has this width, number and words; it stays as it came where the call is refused.
-pub fn write_block(width: Width, number: u32, words: &[u64], buffer: &mut [u8]) -> Writing
+pub fn write_block(
+    width: Width,
+    number: u32,
+    words: &[u64],
+    buffer: &mut [u8],
+) -> Result<(), ListRefusal>
     ensures writes_block { WritesBlock width.bits words.now buffer.old result }
     ensures fills_buffer { FillsBuffer width.bits number words.now buffer.old result buffer.new }
 {
     if !is_block_width(width.bits) {
-        return Writing::Refused(Refusal::Width);
+        return Err(ListRefusal::Whole(Refusal::Width));
     }
     if width.bits == RETIRED {
-        return Writing::Refused(Refusal::Retired);
+        return Err(ListRefusal::Whole(Refusal::Retired));
     }
     // a word has bits / 8 bytes, and 496 bytes are there for the words
     if words.len() > (496 / (width.bits / 8)) as usize {
-        return Writing::Refused(Refusal::Count);
+        return Err(ListRefusal::Whole(Refusal::Count));
     }
     if buffer.len() != 512 {
-        return Writing::Refused(Refusal::Size);
+        return Err(ListRefusal::Whole(Refusal::Size));
     }
     let position = first_stray(width.bits, words);
     if position < words.len() {
-        return Writing::RefusedAt {
+        return Err(ListRefusal::At {
             position,
             refusal: Refusal::Stray,
-        };
+        });
     }
     put_block(width.bits, number, words, buffer);
-    Writing::Written
+    Ok(())
 }
 
 // The position of the first word that is above all ones of n bits, or the number of words if none is.
@@ -67,7 +64,7 @@ fn first_stray(n: u32, words: &[u64]) -> usize
 
 // The block where it lies. A and B come last, since they are sums of all that stands before them.
 fn put_block(n: u32, number: u32, words: &[u64], buffer: &mut [u8])
-    requires passes { content_test n (length words.now) buffer.old ≡ Verdict.Through }
+    requires passes { content_test n (length words.now) buffer.old ≡ passed }
     requires fit_up_to { FitUpTo n words.now (length words.now) }
     ensures { IsBlockOf n number words.now buffer.new }
 {

@@ -2,7 +2,7 @@
 ghost use Rattle.std.specs.Prelude.{◌≡◌, ◌^◌};
 ghost use Rattle.sizes.specs.Sizes.{without_sign, Sizes, ReadsSize};
 
-use bounds::refusal::{Refusal, Verdict};
+use bounds::refusal::Refusal;
 use bounds::width::Width;
 use word::fields::cut;
 
@@ -19,25 +19,22 @@ pub enum WordSize {
     Zero,
     Nar,
     Number(Size),
-    Refused(Refusal),
 }
 
 // What a word of the width means, as a size in the normal form. It is what every call begins with that writes or takes out what a word means.
-pub fn read_size(width: Width, word: u64) -> WordSize
+pub fn read_size(width: Width, word: u64) -> Result<WordSize, Refusal>
     ensures { ReadsSize width.bits word result }
 {
-    let verdict = width.test_word(word);
-    if let Verdict::Refused(q) = verdict {
-        return WordSize::Refused(q);
-    }
+    let good = width.good()?;
+    good.test_word(word)?;
     if word == 0 {
-        return WordSize::Zero;
+        return Ok(WordSize::Zero);
     }
-    let string = word << (64 - width.bits);
+    let string = good.string(word);
     if string == 1 << 63 {
-        return WordSize::Nar;
+        return Ok(WordSize::Nar);
     }
-    WordSize::Number(size_of(string))
+    Ok(WordSize::Number(size_of(string)))
 }
 
 // The size of a string of 64 bits, as a word of any width is one with zero bits after it. Every string has one, also zero's and NaR's;
@@ -60,5 +57,5 @@ fn without_sign(t: u64) -> u64
     if t < 1 << 63 {
         return t;
     }
-    (0xffff_ffff_ffff_ffff - t) + 1
+    (u64::MAX - t) + 1
 }

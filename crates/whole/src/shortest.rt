@@ -6,20 +6,20 @@ ghost use Rattle.whole.specs.Parts.{IsFirstReduction, IsLastReduction, IsLength}
 
 use crate::writing::size;
 use bounds::refusal::Refusal;
-use bounds::width::{Made, Width};
+use bounds::width::Width;
 
 // The least width from 2 to 64 at which x has a word, or INEXACT where none has one.
-pub fn shortest_width(x: i64) -> Made
+pub fn shortest_width(x: i64) -> Result<Width, Refusal>
     ensures { GivesShortest x result }
 {
     if x == 0 {
-        return Made::Width(Width { bits: Width::LEAST });
+        return Ok(Width { bits: Width::LEAST });
     }
     let bits = length(size(x));
     if Width::GREATEST < bits {
-        return Made::Refused(Refusal::Inexact);
+        return Err(Refusal::Inexact);
     }
-    Made::Width(Width { bits })
+    Ok(Width { bits })
 }
 
 // How many bits the word of this size has without the zeros at its end: document 004, Proposition 4, in its letters, with the correction of paper 02.

@@ -16,26 +16,19 @@ pub enum Taking {
     Strict,
 }
 
-#[derive(Clone, Copy)]
-pub enum Whole {
-    Is(i64),
-    Refused(Refusal),
-}
-
 // The whole number nearest to the word's value, or strictly that value itself, where it falls inside signed 64 bits.
-pub fn take_whole(width: Width, rule: Taking, word: u64) -> Whole
+pub fn take_whole(width: Width, rule: Taking, word: u64) -> Result<i64, Refusal>
     ensures { TakesWhole width.bits rule word result }
 {
-    match read_size(width, word) {
-        WordSize::Zero => Whole::Is(0),
-        WordSize::Nar => Whole::Refused(Refusal::Nar),
+    match read_size(width, word)? {
+        WordSize::Zero => Ok(0),
+        WordSize::Nar => Err(Refusal::Nar),
         WordSize::Number(size) => take_number(rule, size),
-        WordSize::Refused(q) => Whole::Refused(q),
     }
 }
 
 // The whole number of a word's size with its sign.
-fn take_number(rule: Taking, size: Size) -> Whole
+fn take_number(rule: Taking, size: Size) -> Result<i64, Refusal>
     requires { (2 ^ 63 ≤ size.m) × (mag size.h ≤ 254) × WholeWhereLarge size.h size.m }
     ensures { TakesSize rule size.negative size.h size.m result }
 {
@@ -46,17 +39,17 @@ fn take_number(rule: Taking, size: Size) -> Whole
 }
 
 // Of a size below a half zero is the nearest, and something is left beside it.
-fn below_half(rule: Taking) -> Whole
+fn below_half(rule: Taking) -> Result<i64, Refusal>
     ensures { result ≡ by_rule rule false (pos 0) }
 {
     match rule {
-        Taking::Nearest => Whole::Is(0),
-        Taking::Strict => Whole::Refused(Refusal::Inexact),
+        Taking::Nearest => Ok(0),
+        Taking::Strict => Err(Refusal::Inexact),
     }
 }
 
 // From a half up: the whole number of m * 2^(k - 64) with its sign, m having its top bit set.
-fn take_size(rule: Taking, negative: bool, k: u32, m: u64) -> Whole
+fn take_size(rule: Taking, negative: bool, k: u32, m: u64) -> Result<i64, Refusal>
     requires { (2 ^ 63 ≤ m) × WholeWhereLarge (pos k -ℤ pos 1) m }
     ensures { TakesSize rule negative (pos k -ℤ pos 1) m result }
 {
@@ -67,31 +60,31 @@ fn take_size(rule: Taking, negative: bool, k: u32, m: u64) -> Whole
     let whole = (m >> 1) >> (63 - k);
     let fraction = m << k;
     match rule {
-        Taking::Nearest => Whole::Is(with_sign(negative, nearest(whole, fraction))),
+        Taking::Nearest => Ok(with_sign(negative, nearest(whole, fraction))),
         Taking::Strict => {
             if fraction == 0 {
-                return Whole::Is(with_sign(negative, whole));
+                return Ok(with_sign(negative, whole));
             }
-            Whole::Refused(Refusal::Inexact)
+            Err(Refusal::Inexact)
         }
     }
 }
 
 // From 2^63 on only -2^63 itself falls inside signed 64 bits. No fraction is left, so the rule doesn't matter.
-fn take_far(negative: bool, k: u32, m: u64) -> Whole
+fn take_far(negative: bool, k: u32, m: u64) -> Result<i64, Refusal>
     requires { (2 ^ 63 ≤ m) × (63 < k) }
     ensures { TakesByEitherRule negative (pos k -ℤ pos 1) m result }
 {
     if 64 < k {
-        return Whole::Refused(Refusal::Over);
+        return Err(Refusal::Over);
     }
     if negative {
         if m == 1 << 63 {
-            return Whole::Is(-0x8000_0000_0000_0000);
+            return Ok(-0x8000_0000_0000_0000);
         }
-        return Whole::Refused(Refusal::Over);
+        return Err(Refusal::Over);
     }
-    Whole::Refused(Refusal::Over)
+    Err(Refusal::Over)
 }
 
 // Whole or whole + 1, whichever is nearer to whole + fraction * 2^-64. An odd whole lowers the bound by one, so that it goes up at a half. One test decides,

@@ -3,13 +3,14 @@ ghost use Rattle.std.specs.Prelude.{◌≡◌, nat_abs};
 ghost use Rattle.whole.specs.Sayings.{WritesWholeAndSays};
 
 use bounds::answer::Written;
+use bounds::refusal::Refusal;
 use bounds::width::Width;
 use round::value::Rule;
 use write::value::Value;
 use write::writing::write;
 
 // The word for a whole number, the nearest, or exactly that number or INEXACT; and which way it went.
-pub fn write_whole(width: Width, rule: Rule, x: i64) -> Written
+pub fn write_whole(width: Width, rule: Rule, x: i64) -> Result<Written, Refusal>
     ensures { WritesWholeAndSays width.bits rule x result }
 {
     let value = Value {

@@ -7,7 +7,8 @@ ghost use Rattle.word.specs.Reads.{IsKind, Reads};
 
 use crate::bits::low_bits;
 use crate::fields::{cut, regime_of};
-use bounds::refusal::{Refusal, Verdict};
+use bounds::good::GoodWidth;
+use bounds::refusal::Refusal;
 use bounds::width::Width;
 
 // A number is its sign and the size m * 2^(h - p), with 2^p <= m < 2^(p + 1).
@@ -21,10 +22,9 @@ pub enum Kind {
         m: u64,
         p: u32,
     },
-    Refused(Refusal),
 }
 
-// What a word says, and how fine: how many fraction bits are its own. Zero and NaR have none, and a refusal comes with none.
+// What a word says, and how fine: how many fraction bits are its own. Zero and NaR have none.
 #[derive(Clone, Copy)]
 pub struct Reading {
     pub kind: Kind,
@@ -32,35 +32,28 @@ pub struct Reading {
 }
 
 // What a word of the width means.
-pub fn read(width: Width, word: u64) -> Reading
+pub fn read(width: Width, word: u64) -> Result<Reading, Refusal>
     ensures { Reads width.bits word result }
 {
-    let verdict = width.test_word(word);
-    if let Verdict::Refused(q) = verdict {
-        return Reading {
-            kind: Kind::Refused(q),
-            own: 0,
-        };
-    }
-    let n = width.bits;
+    let good = width.good()?;
+    good.test_word(word)?;
     if word == 0 {
-        return Reading {
+        return Ok(Reading {
             kind: Kind::Zero,
             own: 0,
-        };
+        });
     }
-    let string = word << (64 - n);
+    let string = good.string(word);
     if string == 1 << 63 {
-        return Reading {
+        return Ok(Reading {
             kind: Kind::Nar,
             own: 0,
-        };
+        });
     }
-    let length = string_length(n);
-    Reading {
-        kind: number(length, string),
-        own: own_bits(n, string),
-    }
+    Ok(Reading {
+        kind: number(string_length(good.bits), string),
+        own: own_bits(good.bits, string),
+    })
 }
 
 // How long a word's string is: below 12 bits zeros are appended.

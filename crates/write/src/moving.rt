@@ -2,29 +2,21 @@
 ghost use Rattle.write.specs.Sayings.{MovesAndSays};
 
 use bounds::answer::Written;
-use bounds::refusal::Verdict;
-use bounds::saying::Saying;
+use bounds::refusal::Refusal;
 use bounds::width::Width;
 use round::value::Rule;
 use round::writing::write_size;
 use sizes::size::{WordSize, read_size};
 
 // The word of the target width for what the word of the source width means, and which way it went; NaR gives NaR.
-pub fn move_word(from: Width, to: Width, rule: Rule, word: u64) -> Written
+pub fn move_word(from: Width, to: Width, rule: Rule, word: u64) -> Result<Written, Refusal>
     ensures { MovesAndSays from.bits to.bits rule word result }
 {
     // Both widths are refused alike, so the target's may be tested first.
-    let verdict = to.test();
-    if let Verdict::Refused(q) = verdict {
-        return Written::Refused(q);
-    }
-    match read_size(from, word) {
-        WordSize::Refused(q) => Written::Refused(q),
-        WordSize::Zero => Written::Word {
-            word: 0,
-            saying: Saying::Exact,
-        },
-        WordSize::Nar => to.nar().exactly(),
+    let good = to.good()?;
+    match read_size(from, word)? {
+        WordSize::Zero => Ok(Written::exactly(0)),
+        WordSize::Nar => Ok(Written::exactly(good.nar())),
         WordSize::Number(size) => write_size(to, rule, size),
     }
 }

@@ -9,11 +9,13 @@ use lib.Dec.{ltb}
 use lib.IntN.{ℤ, pos, negsuc, nat_abs, ◌+ℤ◌, ◌-ℤ◌, +ℤ_assoc, +ℤ_idr, +ℤ-neg_ℤ_cancel, pos-ne-negsuc}
 use lib.Pow.{pow-add}
 use lib.Signed.{mag, lt_z}
+use mir.Syntax.{w64}
+use mir.Val.{SFits}
 use Rattle.word.specs.Reads.{num, den}
 use Rattle.bounds.proofs.Powers.{pow_sum}
 use Rattle.word.proofs.Integers.{balance, sub_add}
 use Rattle.word.proofs.Signed.{difference}
-use Rattle.nearest.specs.Parts.{IsRaised, TellsCharacteristic}
+use Rattle.nearest.specs.Parts.{IsRaised}
 
 pub raise : (h : ℤ) → mag h ≤ 254 → (e : ℕ) × (h +ℤ pos 255 ≡ pos e) × (e < 510)
 raise (pos n) b = (n + 255, refl, omega (arith, b))
@@ -52,14 +54,18 @@ pub offset_down : (i : ℕ) → 244 ≤ i → negsuc i -ℤ pos 63 +ℤ pos 307 
 offset_down i h = sub_add (negsuc i) (pos 63) (pos 307) ∙ +ℤ_assoc (negsuc i) (pos 307) (negsuc 62) ∙ rw (lt-ltb 244 (suc i) (omega (arith, h))) (ap negsuc (omega (arith, h)))
 
 -- what the tests for the ends tell
-pub before_all : (h : ℤ) → lt_z h (negsuc 254) ≡ true → TellsCharacteristic h false
-unfolding TellsCharacteristic
+pub before_all : (h : ℤ) → lt_z h (negsuc 254) ≡ true → 254 < mag h
 before_all (pos i) t = absurd (true≢false (sym t))
 before_all (negsuc i) t = ltb-true 254 i t
 
-pub by_last : (h : ℤ) → lt_z h (negsuc 254) ≡ false → (b : Bool) → lt_z h (pos 255) ≡ b → TellsCharacteristic h b
-unfolding TellsCharacteristic
-by_last (pos i) s true t = omega (arith, ltb-true i 255 t)
-by_last (pos i) s false t = omega (arith, ltb-false i 255 t)
-by_last (negsuc i) s true t = ltb-false 254 i s
-by_last (negsuc i) s false t = absurd (true≢false t)
+pub by_last : (h : ℤ) → lt_z h (negsuc 254) ≡ false → lt_z h (pos 255) ≡ true → mag h ≤ 254
+by_last (pos i) s t = omega (arith, ltb-true i 255 t)
+by_last (negsuc i) s t = ltb-false 254 i s
+
+pub after_all : (h : ℤ) → lt_z h (pos 255) ≡ false → 254 < mag h
+after_all (pos i) t = omega (arith, ltb-false i 255 t)
+after_all (negsuc i) t = absurd (true≢false t)
+
+-- the machine holds one
+pub small_fits : (h : ℤ) → mag h ≤ 254 → SFits w64 h
+small_fits h small = record { sfits = omega (arith, small) }

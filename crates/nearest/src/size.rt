@@ -1,7 +1,6 @@
 // One normal size goes in with its sign, and the nearest word comes out with its saying: every number but zero that is written passes here.
 ghost use Rattle.std.specs.Prelude.{◌≡◌, ◌+◌, ◌-◌, ◌*◌, ◌^◌, ◌<◌};
 ghost use Rattle.word.specs.Takum as Takum;
-ghost use Rattle.nearest.specs.Offers.{IsRest};
 ghost use Rattle.nearest.specs.Sayings.{FindsAndSays};
 ghost use Rattle.nearest.specs.Parts.{IsRaised, chosen_of, saying_of, IsNear, beside, with_sign, signed_saying};
 
@@ -22,6 +21,24 @@ pub enum Rest {
     UnderHalf,
     Half,
     OverHalf,
+}
+
+// Of what lies below the last unit, counted in 2^-64 of it.
+impl From<u64> for Rest {
+    ghost use Rattle.nearest.specs.Offers.{IsRest};
+
+    ghost from_gives = { λ below rest. IsRest below rest };
+
+    fn from(below: u64) -> Rest {
+        if below == 0 {
+            return Rest::Nothing;
+        }
+        match below.cmp(&(1 << 63)) {
+            Ordering::Less => Rest::UnderHalf,
+            Ordering::Equal => Rest::Half,
+            Ordering::Greater => Rest::OverHalf,
+        }
+    }
 }
 
 // A positive word beside the size that it is nearest to.
@@ -46,7 +63,7 @@ pub fn nearest(width: Width, negative: bool, h: i64, m: u64, below: u64) -> Resu
     let good = width.good()?;
     let amount = Amount {
         m: (1 << 63) + m % (1 << 63),
-        rest: rest_of(below),
+        rest: Rest::from(below),
     };
     let near = nearest_word(good, h, amount);
     Ok(Written {
@@ -84,27 +101,11 @@ fn said(negative: bool, lies: Lies) -> Saying
     }
 }
 
-// What lies below the last unit, beside a half of it.
-fn rest_of(below: u64) -> Rest
-    ensures { IsRest below result }
-{
-    if below == 0 {
-        return Rest::Nothing;
-    }
-    if below < 1 << 63 {
-        return Rest::UnderHalf;
-    }
-    if below == 1 << 63 {
-        return Rest::Half;
-    }
-    Rest::OverHalf
-}
-
 // The positive word nearest to the size (m + rest) * 2^(h - 63): past either end the end word.
 fn nearest_word(width: GoodWidth, h: i64, amount: Amount) -> Near
     ensures { IsNear width.bits h amount.m amount.rest result }
 {
-    if let Some(c) = Characteristic::of(h) {
+    if let Some(c) = Characteristic::new(h) {
         return nearest_inside(width, c, amount);
     }
     if h < 0 {

@@ -14,14 +14,11 @@ pub(crate) struct Characteristic {
 impl Characteristic {
     ghost use Rattle.nearest.specs.Parts.{IsCharacteristic, IsRaised, Begins};
 
-    // The exponent, if it is one: both ends in one answer, which the machine has by one test.
-    pub fn of(h: i64) -> Option<Characteristic>
+    // The exponent, if it is one.
+    pub fn new(h: i64) -> Option<Characteristic>
         ensures { IsCharacteristic h result }
     {
-        if h < -255 {
-            return None;
-        }
-        if h < 255 {
+        if (-255..255).contains(&h) {
             return Some(Characteristic { c: h });
         }
         None

@@ -38,8 +38,8 @@ returns c =
     let good = good_through c.args.width.bits width c.in_ok-good.ensures in
     let full = 2 ^ 63 + c.args.m % 2 ^ 63 in
     let found = c.nearest_word-near.result in
-    let x = near n _ c.args.h full c.rest_of.result found (to_z-of_z c.ranges.h) c.nearest_word-near.ensures in
+    let x = near n _ c.args.h full c.from.result found (to_z-of_z c.ranges.h) c.nearest_word-near.ensures in
     subst₂ (λ (v : ℕ) (q : Saying). FindsAndSays c.args.width.bits c.args.negative c.args.h c.args.m c.args.below (written v q)) (sym c.with_sign.ensures) (sym c.said.ensures)
     (subst (λ (k : ℕ). FindsAndSays k c.args.negative c.args.h c.args.m c.args.below (written (with_sign n c.args.negative found.word) (signed_saying c.args.negative (saying_of found.lies)))) good.1
-    (word_said _ _ (through (subst (λ (k : ℕ). width_test k ≡ passed) (sym good.1) good.0) (with_sign n c.args.negative found.word, refl, c.rest_of.result, c.rest_of.ensures, class_signed _ width.least width.most _ _ _ _ x.is c.args.negative))
-    (λ rest is. subst (λ (rest : Rest). SaysOffered n c.args.negative c.args.h full rest (with_sign n c.args.negative found.word) (signed_saying c.args.negative (saying_of found.lies))) (rest_one c.args.below c.rest_of.result rest c.rest_of.ensures is) (class_said _ width.least width.most _ _ _ _ x.is c.args.negative _ x.lies))))
+    (word_said _ _ (through (subst (λ (k : ℕ). width_test k ≡ passed) (sym good.1) good.0) (with_sign n c.args.negative found.word, refl, c.from.result, c.from.ensures, class_signed _ width.least width.most _ _ _ _ x.is c.args.negative))
+    (λ rest is. subst (λ (rest : Rest). SaysOffered n c.args.negative c.args.h full rest (with_sign n c.args.negative found.word) (signed_saying c.args.negative (saying_of found.lies))) (rest_one c.args.below c.from.result rest c.from.ensures is) (class_said _ width.least width.most _ _ _ _ x.is c.args.negative _ x.lies))))

@@ -79,6 +79,12 @@ IsRaised h e = h +ℤ pos 255 ≡ pos e
 unfoldable pub TellsPowers : ℕ → ℕ → ℕ → ℕ → Rest → Ordering → Type 0
 TellsPowers i j e m rest side = (unit a : ℕ) → 0 < unit → Amounts m rest a unit → (y z : ℕ) → y * 2 ^ e ≡ 2 ^ (63 + i) * unit → z * 2 ^ e ≡ 2 ^ (63 + j) * unit → TellsSide side (2 * a) (y + z)
 
+abbrev pub is_none : Rest → Bool
+is_none Rest.Nothing = true
+is_none Rest.UnderHalf = false
+is_none Rest.Half = false
+is_none Rest.OverHalf = false
+
 -- whether a size ends with its first 64 bits, `bits`, and these with the word low: nothing is cut off, neither of the string nor of the significand, whose
 -- lowest 4 + r bits the string leaves out, and there is no rest
 unfoldable pub TellsEnd : ℕ → ℕ → ℕ → ℕ → ℕ → Rest → Bool → Type 0

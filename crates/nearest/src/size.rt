@@ -23,6 +23,16 @@ pub enum Rest {
     OverHalf,
 }
 
+impl Rest {
+    ghost use Rattle.nearest.specs.Parts.{is_none};
+
+    pub(crate) fn is_nothing(self) -> bool
+        ensures { result ≡ is_none self }
+    {
+        self == Rest::Nothing
+    }
+}
+
 // Of what lies below the last unit, counted in 2^-64 of it.
 impl From<u64> for Rest {
     ghost use Rattle.nearest.specs.Offers.{IsRest};

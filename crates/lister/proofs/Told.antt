@@ -1,5 +1,5 @@
 -- What the answer of a read tells. Assumes nothing.
-use Rattle.std.proofs.Common.{◌≡◌, ℕ, ◌≤◌, Result, Ok, Err, Option, Some, None, IfSome, subst, sym, arith}
+use Rattle.std.proofs.Common.{ℕ, ◌≤◌, Result, Ok, Err, Option, IfSome, subst, sym, arith}
 use Rattle.lister.specs.Told.{Tells}
 
 -- no more bytes came than there was room for

@@ -6,7 +6,7 @@ use native.Mathlib.Nat.{le_trans, le_of_lt, le-add_right, add_assoc, add-zero}
 use native.Mathlib.Numerals.{add-one}
 use native.Mathlib.Omega.{arith}
 use lib.ListN.{length, take, drop, set, get_or, length-append, length-drop, take-append-drop}
-use lib.Seq.{length-take-le, take-suc, append_snoc, set_split, set_at, take_at, drop-append-add, drop-drop, take-length, paste}
+use lib.Seq.{length-take-le, take-suc, append_snoc, set_split, set_at, take_at, drop-append-add, drop-drop}
 use Rattle.listing.specs.declared.text.Text.{Text}
 use Rattle.listing.specs.Puts.{Puts}
 use Rattle.listing.specs.Adds.{Adds}

@@ -1,5 +1,5 @@
 -- `cut_by` meets its contract. Assumes nothing.
-use Rattle.std.proofs.Common.{◌≡◌, sym, ap, ◌∙◌, true≢false, rules}
+use Rattle.std.proofs.Common.{sym, ap, ◌∙◌, true≢false, rules}
 use denote.Enum.Bare.{same_true, sameb}
 use Rattle.std.specs.contracts.io.ErrorKind.{the_type}
 use Rattle.std.specs.declared.io.ErrorKind.{ErrorKind}

@@ -1,5 +1,5 @@
 -- `list_all` is safe and ends: where the input or the output does, or after 2^60 bytes. The measure is the number of bytes left. Assumes nothing.
-use Rattle.std.proofs.Common.{◌≡◌, ℕ, ◌<◌, sym, refl, ◌∙◌, arith}
+use Rattle.std.proofs.Common.{ℕ, ◌<◌, arith}
 use lib.ListN.{length-replicate}
 use Rattle.lister.specs.Endings.{IsEnding, GoesOn}
 use Rattle.lister.proofs.pieces.list_all.Goals as goal

@@ -1,5 +1,5 @@
 -- `read_at` meets its contract. Assumes nothing.
-use Rattle.std.proofs.Common.{ℕ, ◌≤◌, rules}
+use Rattle.std.proofs.Common.{rules}
 use Rattle.std.proofs.lemmas.Option.{IfSome_then}
 use Rattle.lister.proofs.Told.{within}
 use Rattle.lister.proofs.reading.read_at.Goals as goal

@@ -1,15 +1,14 @@
 -- `put_blocks` meets its contract. Assumes nothing.
-use Rattle.std.proofs.Common.{◌≡◌, ℕ, ◌+◌, List, [], ◌++◌, length, take, drop, min, refl, sym, ap, ◌∙◌, subst, zero-le, arith, length-drop}
+use Rattle.std.proofs.Common.{ℕ, ◌+◌, List, ◌++◌, length, min, sym, ap, ◌∙◌, subst, arith, length-drop}
 use Rattle.std.specs.Slice.Iter.{chunks_rest}
 use Rattle.sheet.specs.Reads.{block_test}
 use Rattle.listing.specs.Listing.{most, text_room, ListsBlock, refusal_number}
 use Rattle.listing.specs.Puts.{PutsSome}
-use Rattle.listing.proofs.Placed as Placed
-use Rattle.listing.proofs.Placed.{nothing_put, joined}
+use Rattle.listing.proofs.Placed.{joined}
 use Rattle.lister.specs.Counts.{with_one_more}
 use Rattle.lister.proofs.Chunks.{next_piece, nothing}
 use Rattle.lister.proofs.Counted as Counted
-use Rattle.lister.proofs.Gathered.{SoFar, none_yet, one_more, all_of_them}
+use Rattle.lister.proofs.Gathered.{SoFar, one_more, all_of_them}
 use Rattle.lister.proofs.runs.put_blocks.Goals as goal
 
 pub put_block-at-requires : goal.put_block-at-requires

@@ -3,9 +3,8 @@ use Rattle.std.proofs.Common.{◌≡◌, ℕ, List, refl, sym, ap, ◌∙◌, su
 use Rattle.std.specs.Prelude.{Err}
 use Rattle.std.proofs.lemmas.Result.{err_from_is_err_and}
 use Rattle.bounds.specs.declared.refusal.Refusal.{Refusal}
-use Rattle.bounds.specs.Refusals.{Answer, through, refused}
+use Rattle.bounds.specs.Refusals.{through, refused}
 use Rattle.bounds.proofs.Rooms.{room_through}
-use Rattle.listing.specs.declared.blocks.Listed.{Listed}
 use Rattle.listing.specs.declared.text.Text.{Text}
 use Rattle.listing.specs.Adds.{AddsSome}
 use Rattle.listing.specs.Puts.{Puts, PutsSome}

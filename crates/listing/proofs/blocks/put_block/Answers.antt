@@ -1,6 +1,5 @@
 -- `put_block` meets its contract. Assumes nothing.
-use Rattle.std.proofs.Common.{ℕ, ◌≤◌, length, take, sym, subst, arith, length-take-le}
-use Rattle.sheet.specs.declared.block.Block.{Block}
+use Rattle.std.proofs.Common.{◌≤◌, length, sym, arith, length-take-le}
 use Rattle.listing.specs.Listing.{most, text_room}
 use Rattle.listing.proofs.ReadOut.{narrow, few, lines_listed, not_refused, refused_listed, is_why}
 use Rattle.listing.proofs.blocks.put_block.Goals.{In-Ok}

@@ -1,5 +1,5 @@
 -- `put_lines` meets its contract. Assumes nothing.
-use Rattle.std.proofs.Common.{[], ◌++◌, zero-le, arith, length-append, rules}
+use Rattle.std.proofs.Common.{[], ◌++◌, zero-le, arith, length-append}
 use Rattle.listing.specs.Listing.{most}
 use Rattle.listing.proofs.Placed.{nothing_added, joined_adds}
 use Rattle.listing.proofs.Listed.{none_yet, one_more, all_of_them}

@@ -1,5 +1,5 @@
 -- `fill_with_digits` meets its contract. Assumes nothing.
-use Rattle.std.proofs.Common.{ℕ, ◌/◌, ◌%◌, ◌-◌, List, set, ap, ap₂, ◌∙◌, arith}
+use Rattle.std.proofs.Common.{ℕ, ◌/◌, ◌%◌, ◌-◌, List, set, ap, ap₂, ◌∙◌}
 use Rattle.io.specs.Digits.{hex_digit_ascii}
 use Rattle.listing.proofs.Digits.{one_in_front, less_left}
 use Rattle.listing.proofs.text.fill_with_digits.Goals as goal

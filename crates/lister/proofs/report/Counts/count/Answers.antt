@@ -1,5 +1,5 @@
 -- `count` meets its contract. Assumes nothing.
-use Rattle.std.proofs.Common.{◌≡◌, ℕ, ◌+◌, ◌%◌, ◌^◌, List, Option, Some, None, MatchOption, set, ap, of_calls}
+use Rattle.std.proofs.Common.{◌≡◌, ℕ, ◌+◌, ◌%◌, ◌^◌, Option, Some, None, MatchOption, ap, of_calls}
 use Rattle.std.specs.Prelude.{slice_index, slice_set}
 use Rattle.bounds.specs.declared.refusal.Refusal.{Refusal}
 use Rattle.bounds.specs.Refusals.{number_of}

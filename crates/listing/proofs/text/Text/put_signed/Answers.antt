@@ -1,10 +1,10 @@
 -- `put_signed` meets its contract: a minus sign where the number is negative, and its size. Assumes nothing.
-use Rattle.std.proofs.Common.{◌≡◌, ℕ, suc, ◌+◌, true, false, List, ◌∷◌, ℤ, pos, negsuc, nat_abs, refl, sym, ap, ◌∙◌, subst, arith}
+use Rattle.std.proofs.Common.{◌≡◌, ℕ, true, false, List, ◌∷◌, ℤ, pos, negsuc, nat_abs, refl, ap, ◌∙◌, subst, arith}
 use borrow.Author.Tests.{ltb-true}
 use lib.Signed.{lt_z}
 use mir.Facts.{to_z-of_z}
 use Rattle.listing.specs.declared.text.Text.{Text}
-use Rattle.listing.specs.Adds.{Adds, AddsSome}
+use Rattle.listing.specs.Adds.{Adds}
 use Rattle.listing.specs.Text.{IsDecimal, IsSigned, minus}
 use Rattle.listing.proofs.Placed.{joined_adds}
 use Rattle.listing.proofs.text.Text.put_signed.Goals.{then-x-lt0, else-x-lt0}

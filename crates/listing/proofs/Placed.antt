@@ -1,4 +1,4 @@
--- Text at a place of a buffer: one byte, one text after another, and one digit in front of the digits that stand. Assumes nothing.
+-- Text at a place of a buffer: one after another, nothing at all, and one digit in front of the digits that stand. Assumes nothing.
 use mathlib.Core.Path.{◌≡◌, refl, sym, ap, ap₂, ◌∙◌, subst}
 use mathlib.Core.List.{List, [], ◌∷◌, ◌++◌, append_assoc, append-nil}
 use Prim.Native.Nat.{ℕ, suc, ◌+◌, ◌≤◌, ◌<◌}

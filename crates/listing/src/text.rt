@@ -61,9 +61,8 @@ impl Text<'_> {
     }
 }
 
-// As many of the last digits of a number as there are places, from the last one to the first. It is by hand, since `io::hex` puts more digits than it is
-// asked for where the number has more, and `write!` answers an error, which can't come here, for each piece. Of what an `iter_mut().rev()` writes a proof
-// would know nothing.
+// As many of the last digits of a number as there are places, from the last one to the first. They are put by hand: `io::hex` puts more where the number
+// has more, and `write!` answers an error for each piece, which can't come here.
 fn fill_with_digits(places: &mut [u8], n: u64, base: u64)
     requires { (1 < base) × (base ≤ 16) }
     ensures { places.new ≡ last_digits base (length places.old) n }

@@ -1,7 +1,7 @@
 -- How an answer is handed over to C and Rust: the refusal's number, 0 where nothing was refused, with the answer beside it, which is all zeros
 -- where it was refused, but for the position of a word that was refused in a column or a block. Nothing else is decided here.
 use Rattle.std.specs.Prelude.{◌≡◌, true, false, List, ℕ, ℤ, ⊤, zero, suc, pos, length, Ok, Err}
-use Rattle.std.specs.Ordering.{Ordering}
+use Rattle.std.specs.declared.cmp.Ordering.{Ordering}
 use Rattle.std.specs.Float.{nan, binary64}
 use Rattle.std.specs.Float.Ieee.{of_bits}
 use Rattle.bounds.specs.declared.refusal.ListRefusal.{ListRefusal}

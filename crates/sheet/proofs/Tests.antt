@@ -1,11 +1,10 @@
 -- What each test of a block finds. Assumes nothing.
 use Rattle.std.specs.Prelude.{Ok, Err}
-use Rattle.bounds.specs.Refusals.{passed}
 use Rattle.std.proofs.Common.{◌≡◌, ℕ, ◌<◌, ◌≤◌, Bool, true, false, ◌||◌, eqb, leb, ◌⊎◌, List, sym, refl, ap, ◌∙◌, subst, inl, inr, ⊎_elim, eq-eqb, ne_eqb, eqb-true, le-leb}
 use mathlib.Core.Bool.{false≢true}
 use borrow.Author.Tests.{lt-leb}
 use Rattle.bounds.specs.declared.refusal.Refusal.{Refusal}
-use Rattle.bounds.specs.Refusals.{unless}
+use Rattle.bounds.specs.Refusals.{Verdict, passed, unless}
 use Rattle.sheet.specs.Layout.{numbers, A, B}
 use Rattle.sheet.specs.Sums.{sum_a, sum_b}
 use Rattle.sheet.specs.Reads.{is_block_width, check_test}

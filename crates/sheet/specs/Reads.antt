@@ -44,8 +44,12 @@ module _ (block : List ℕ) where
   block_test places = size_test then mark_test then check_test then block_width_test then count_test then fill_test then room_test (count block) places
 
 -- ---- what the call answers, and what it leaves in the result slice
+-- a block of this width, number and count of words
+abbrev pub block_read : ℕ → ℕ → ℕ → Answer Block
+block_read w i n = Ok (record { width = w; number = i; count = n })
+
 unfoldable pub ReadsBlock : List ℕ → ℕ → Answer Block → Type 0
-ReadsBlock block places a = Decided (block_test block places) (λ q. a ≡ Err q) (a ≡ Ok (record { width = width block; number = block_number block; count = count block }))
+ReadsBlock block places a = Decided (block_test block places) (λ q. a ≡ Err q) (a ≡ block_read (width block) (block_number block) (count block))
 
 unfoldable pub FillsResults : List ℕ → List ℕ → List ℕ → Type 0
 FillsResults block before after = Decided (block_test block (length before)) (λ q. after ≡ before) (after ≡ words block ++ drop (count block) before)

@@ -195,5 +195,5 @@ sixty_five_bits_dont_jam jams = differ (jams 5 (lit≤ tt) (lit≤ tt) Rule.Roun
     rounded_down : Nearest 5 false ((2 ^ 64 + 1) * 2 ^ (62 + 307)) 1 14
     rounded_down = tie_nearest 5 (lit≤ tt) (lit≤ tt) 14 (2 ^ (63 + 307)) (2 ^ (127 + 307)) ((2 ^ 64 + 1) * 2 ^ (62 + 307)) 1 (lit< tt) (lit< tt) (lit< tt) lower upper refl
 
-    differ : Ok 15 ≡ Ok 14 → ⊥
+    differ : ◌≡◌ {A = Answer ℕ} (Ok 15) (Ok 14) → ⊥
     differ q = omega (arith, ap word_of q)

@@ -78,12 +78,31 @@ unfolding settled
 refusal_settled Rule.Rounded q = refl
 refusal_settled Rule.Strict q = refl
 
+-- and it is the width's
+pub found_refused : (n : ℕ) (s : Bool) (h : ℤ) (m below : ℕ) (q : Refusal) → FindsAndSays n s h m below (Err q) → width_test n ≡ Err q
+unfolding FindsAndSays FindsNearest GivesAWord
+found_refused n s h m below q finds = by finds.answers
+  where
+    refusal_of : Answer ℕ → Refusal
+    refusal_of (Ok w) = q
+    refusal_of (Err p) = p
+
+    by : FindsNearest n s h m below (Err q) → width_test n ≡ Err q
+    by (through e x) = absurd (subst GivesAWord (sym x.1) tt)
+    by (refused e x) = e ∙ ap Err (sym (ap refusal_of x))
+
 -- what is found for a normal size is settled for each size that is offered so
 pub settles : (n : ℕ) (rule : Rule) (s : Bool) (h : ℤ) (m below : ℕ) (found : Answer Written) → 2 ^ 63 ≤ m → m < 2 ^ 64 → FindsAndSays n s h m below found → (rest : Rest) → IsRest below rest → (a b : ℕ) → 0 < a → 0 < b → IsOffered m rest (h -ℤ pos 63) a b
     → AndSays (λ (r : Answer ℕ). Decided (width_test n) (λ q. r ≡ Err q) (IsWritten n rule s a b r)) (Says n s a b) (settled rule found)
 unfolding FindsAndSays FindsNearest SaysFound SaysOffered IsSignedNearest GivesAWord word_of
-settles n rule s h m below (Ok (w, t)) full top finds rest is a b nonzero some offered = by finds.answers
+settles n rule s h m below (Ok found) full top finds rest is a b nonzero some offered = by finds.answers
   where
+    w : ℕ
+    w = found.word
+
+    t : Saying
+    t = found.saying
+
     same : 2 ^ 63 + m % 2 ^ 63 ≡ m
     same = omega (arith, full, top)
 

@@ -1,5 +1,5 @@
 -- `write_long` meets its contract: one number or two. Assumes nothing.
-use mathlib.Core.Path.{◌≡◌, subst, subst₂}
+use mathlib.Core.Path.{◌≡◌, subst₂}
 use Prim.Native.Nat.{ℕ, ◌+◌, ◌*◌, ◌^◌}
 use native.Mathlib.Nat.{pos_of_ne-zero}
 use native.Mathlib.Omega.{arith}
@@ -21,10 +21,3 @@ returns-then-value-eq0 c = let v = c.args.value in
 
 pub write_full-requires : goal.write_full-requires
 write_full-requires c = pos_of_ne-zero c.if-value-eq0.false
-
-pub returns : goal.returns
-unfolding WritesLongAndSays
-returns c = let v = c.args.value in
-    let fits : SFits w32 v.k = search rules in
-    let held : to_z w32 (of_z w32 v.k) ≡ v.k = to_z-of_z fits in
-    subst (λ (z : ℤ). WritesShortAndSays c.args.width.bits c.args.rule v.negative (v.high * 2 ^ 64 + v.low) z c.write_full.result) held c.write_full.ensures

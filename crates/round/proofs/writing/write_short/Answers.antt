@@ -1,60 +1,12 @@
--- `write_short` meets its contract: zero, and any other significand with its top bit moved to 2^63. Assumes nothing.
-use mathlib.Core.Path.{◌≡◌, refl, sym, ap, ◌∙◌, subst}
-use Prim.Native.Nat.{ℕ, zero, ◌-◌, ◌*◌, ◌%◌, ◌^◌, ◌≤◌, ◌<◌}
-use native.Mathlib.Nat.{pos_of_ne-zero, zero-mul, lt_of_le_of_lt, mul-pos, mod-lt}
-use native.Mathlib.Omega.{arith}
-use lib.Dec.{lit<}
-use lib.Pow.{pow_pos}
-use lib.Count.{count_leading_zeros}
-use lib.IntN.{ℤ, pos, ◌+ℤ◌}
-use Rattle.word.specs.Reads.{num}
-use Rattle.word.proofs.Units.{unit_some}
-use Rattle.round.specs.Writes.{WritesShort}
+-- `write_short` meets its contract: the exponent in 64 bits. Assumes nothing.
+use mathlib.Core.Path.{subst}
+use lib.IntN.{ℤ}
 use Rattle.round.specs.Sayings.{WritesShortAndSays}
-use Rattle.nearest.specs.declared.size.Rest.{Rest}
-use Rattle.nearest.specs.Offers.{IsRest}
-use Rattle.nearest.specs.Sayings.{FindsAndSays}
-use Rattle.round.proofs.Normal.{zeros_le, shifted_full, shifted_offer}
-use Rattle.round.proofs.Rules.{zero_answered, settles}
-use Rattle.round.proofs.Held.{raised_fits, held_sum, wide}
+use Rattle.round.proofs.Held.{cast, cast_few}
 use Rattle.round.proofs.writing.write_short.Goals as goal
 
--- what is known of a significand that isn't zero
-module _ (m : ℕ) (other : m ≡ 0 → ⊥) (fits : m < 2 ^ 64) where
-  some : zero < m
-  some = pos_of_ne-zero other
-
-  few : count_leading_zeros 64 m ≤ 63
-  few = zeros_le m some fits
-
-  small : 63 - count_leading_zeros 64 m < 2 ^ 31
-  small = omega arith
-
-pub returns-then-m-eq0 : goal.returns-then-m-eq0
-unfolding WritesShortAndSays WritesShort
-returns-then-m-eq0 c = zero_answered _ _ _ _ _ _ (ap (λ (x : ℕ). x * num (c.args.k +ℤ pos 307)) c.if-m-eq0.true ∙ zero-mul (num (c.args.k +ℤ pos 307))) c.zero_word.ensures
-
-pub overflow_cast-h : goal.overflow_cast-h
-overflow_cast-h c = wide c.args.k c.ranges.k
-
-pub overflow_sub-h : goal.overflow_sub-h
-overflow_sub-h c = few c.args.m c.if-m-eq0.false c.ranges.m.fits
-
-pub overflow_add-h : goal.overflow_add-h
-overflow_add-h c = raised_fits c.args.k c.ranges.k (63 - count_leading_zeros 64 c.args.m) (small c.args.m c.if-m-eq0.false c.ranges.m.fits)
-
-pub overflow_cast-full : goal.overflow_cast-full
-overflow_cast-full c = record { fits = lt_of_le_of_lt (few c.args.m c.if-m-eq0.false c.ranges.m.fits) (lit< tt) }
-
-pub overflow_shl-full : goal.overflow_shl-full
-overflow_shl-full c = lt_of_le_of_lt (few c.args.m c.if-m-eq0.false c.ranges.m.fits) (lit< tt)
+pub write_at-requires : goal.write_at-requires
+write_at-requires c = cast_few c.args.k c.ranges.k
 
 pub returns : goal.returns
-unfolding WritesShortAndSays WritesShort IsRest
-returns c = let m = c.args.m in
-    let fits = c.ranges.m.fits in
-    let positive = some m c.if-m-eq0.false fits in
-    subst (WritesShortAndSays c.args.width.bits c.args.rule c.args.negative m c.args.k) (sym c.by_rule.ensures)
-    (settles _ c.args.rule c.args.negative _ _ _ _ (shifted_full _ positive fits) (mod-lt _ (pow_pos 64))
-    (subst (λ (z : ℤ). FindsAndSays c.args.width.bits c.args.negative z (m * 2 ^ count_leading_zeros 64 m % 2 ^ 64) 0 c.nearest-found.result) (held_sum c.args.k c.ranges.k (63 - count_leading_zeros 64 m) (small m c.if-m-eq0.false fits)) c.nearest-found.ensures)
-    Rest.Nothing refl _ _ (mul-pos positive (unit_some _).0) (unit_some _).1 (shifted_offer _ positive fits c.args.k))
+returns c = subst (λ (z : ℤ). WritesShortAndSays c.args.width.bits c.args.rule c.args.negative c.args.m z c.write_at.result) (cast c.args.k c.ranges.k) c.write_at.ensures

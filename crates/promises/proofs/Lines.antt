@@ -1,6 +1,6 @@
 -- How an answer follows the lines of the table: the tests of a contract, taken apart in their order. Assumes nothing.
 use Rattle.std.specs.Prelude.{Ok, Err}
-use Rattle.bounds.specs.Refusals.{passed, Answer}
+use Rattle.bounds.specs.Refusals.{passed, Answer, Verdict}
 use mathlib.Core.Path.{◌≡◌, refl, ap, ◌∙◌}
 use mathlib.Core.List.{List, [], ◌∷◌}
 use mathlib.Core.Logic.{◌⊎◌, inl, inr, ⊎_elim}
@@ -79,7 +79,7 @@ none_hold R R' a b (line number When ∷ lines) P p none (inl (h, x)) = absurd (
 none_hold R R' a b (line number When ∷ lines) P p none (inr (h, x)) = inr (h, none_hold R R' a b lines P p none x)
 
 -- a refusal that is handed on: the line that gave it holds
-pub handed_on : {A : Type 0} (R : Refusal → A) (q : Refusal) (lines : List Line) (P : Type 0) → Follows Err (Err q) lines → FollowsUpTo R (R q) lines P
+pub handed_on : {A : Type 0} (R : Refusal → A) (q : Refusal) (lines : List Line) (P : Type 0) → Follows {A = Answer ℕ} Err (Err q) lines → FollowsUpTo R (R q) lines P
 unfolding Follows FollowsUpTo
 handed_on R q [] P x = absurd (x q refl)
 handed_on R q (line number When ∷ lines) P (inl (h, x)) = inl (h, record { q = q; is = refl; known = let e = x.is in let same : q ≡ x.q = cc in ap number_of same ∙ x.known })

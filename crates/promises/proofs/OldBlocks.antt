@@ -3,7 +3,6 @@ use Rattle.std.specs.Prelude.{Err}
 use Rattle.bounds.specs.declared.refusal.ListRefusal.{ListRefusal}
 use Rattle.bounds.specs.Refusals.{passed, ListAnswer}
 use Rattle.std.specs.Prelude.{⊤}
-use Rattle.bounds.specs.Sayings.{written}
 use mathlib.Core.Path.{◌≡◌, refl, sym, ap, ap₂, ◌∙◌, subst}
 use mathlib.Core.Bool.{true, ◌&&◌}
 use mathlib.Core.List.{List, [], ◌∷◌, ◌++◌}

@@ -1,9 +1,7 @@
 -- The promises that specs/Sheets.antt states, from the laws of blocks and of columns. Assumes nothing.
-use Rattle.std.specs.Prelude.{Ok, Err}
+use Rattle.std.specs.Prelude.{⊤, Ok, Err}
 use Rattle.bounds.specs.declared.refusal.ListRefusal.{ListRefusal}
 use Rattle.bounds.specs.Refusals.{passed, ListAnswer}
-use Rattle.std.specs.Prelude.{⊤}
-use Rattle.bounds.specs.Sayings.{written}
 use mathlib.Core.Path.{◌≡◌, refl, sym, ap, ap₂, ◌∙◌, subst, subst₂}
 use mathlib.Core.List.{List, ◌++◌}
 use mathlib.Core.Logic.{◌⊎◌, inl, inr}
@@ -21,7 +19,7 @@ use Rattle.column.proofs.Positions.{every_word_counted, word_at}
 use Rattle.column.proofs.Strict.{column_comes_home, results_counted}
 use Rattle.sheet.specs.declared.block.Block.{Block}
 use Rattle.sheet.specs.Layout.{AreBytes, width, block_number, words}
-use Rattle.sheet.specs.Reads.{block_test}
+use Rattle.sheet.specs.Reads.{block_test, block_read}
 use Rattle.sheet.specs.Writes.{IsBlockOf, IsTried, WritesBlock, FillsBuffer}
 use Rattle.sheet.proofs.Contents.{Fitting, fitting}
 use Rattle.sheet.proofs.Passing.{was_read}
@@ -34,13 +32,13 @@ use Rattle.promises.specs.Sheets.{BlockIsWritten, BlockIsRead}
 
 pub a_refused_write_leaves_the_buffer : promise.ARefusedWriteLeavesTheBuffer
 unfolding promise.ARefusedWriteLeavesTheBuffer FillsBuffer
-a_refused_write_leaves_the_buffer n number words before after Ok tt x f = absurd (f refl)
+a_refused_write_leaves_the_buffer n number words before after (Ok _) x f = absurd (f refl)
 a_refused_write_leaves_the_buffer n number words before after (Err (ListRefusal.Whole q)) x f = x
 a_refused_write_leaves_the_buffer n number words before after (Err (ListRefusal.At position q)) x f = x
 
 -- ---- written, then read
 -- what the answer tells of the content
-let_through : (n : ℕ) (words buffer : List ℕ) → WritesBlock n words buffer Ok tt → Fitting n (length words) buffer
+let_through : (n : ℕ) (words buffer : List ℕ) → WritesBlock n words buffer (Ok tt) → Fitting n (length words) buffer
 unfolding WritesBlock
 let_through n words buffer (through h x) = fitting n (length words) buffer h
 let_through n words buffer (refused h e) = let z : ◌≡◌ {A = ℕ} 0 1 = cc in absurd (omega arith)
@@ -91,7 +89,7 @@ module _ (n n' : ℕ) (column before : List ℕ) (n_moved : ℕ) (moved : List �
   -- so a write of them that isn't refused as a whole is made
   is_made : (buffer : List ℕ) (w : ListAnswer ⊤) → length (take n_moved moved) ≡ n_moved → WritesBlock n' (take n_moved moved) buffer w → ((q : Refusal) → w ≡ Err (ListRefusal.Whole q) → ⊥) → w ≡ Ok tt
   unfolding WritesBlock IsTried
-  is_made buffer Ok tt counted z none = refl
+  is_made buffer (Ok _) counted z none = refl
   is_made buffer (Err (ListRefusal.Whole q)) counted z none = absurd (none q refl)
   is_made buffer (Err (ListRefusal.At p q)) counted (through h t) none = absurd (not_both (none_stray p (subst (λ (k : ℕ). p < k) counted t.0)) t.2)
   is_made buffer (Err (ListRefusal.At p q)) counted (refused {q = q'} h e) none = absurd (none q' e)
@@ -105,4 +103,4 @@ strict_columns_come_home_through_a_sheet n n' column before moved n_moved x y nu
     let back = a_written_block_reads_back n' number (take n_moved moved) buffer block written results read b (subst (λ (k : ℕ). k ≤ length results) (sym counted) room) r f in
     let same : take n_moved read ≡ take n_moved moved = ap₂ take (sym counted) back.1 ∙ take-append_seam (take n_moved moved) (drop (length (take n_moved moved)) results) in
     let home_again = column_comes_home n n' column before n_moved moved x y Rule.Strict before' room' a home (subst (λ (l : List ℕ). MovesColumn n' n Rule.Strict l (length before') a) same m) (subst (λ (l : List ℕ). Holds n' n Rule.Strict l before' a home) same h) in
-    (made, back.0 ∙ ap (Block.Read n' number) counted, home_again.0, home_again.1)
+    (made, back.0 ∙ ap (block_read n' number) counted, home_again.0, home_again.1)

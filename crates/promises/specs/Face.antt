@@ -44,7 +44,7 @@ FieldFollows refusal (line number When ∷ lines) Refused Then = (When × (refus
 
 -- where none holds, the field is 0 and the other fields are the answer
 abbrev pub Hands : ℕ → List Line → Type 0 → Type 0 → Type 0
-Hands refusal lines Zeros Answer = FieldFollows refusal lines Zeros ((refusal ≡ 0) × (Answer ℕ))
+Hands refusal lines Zeros Answer = FieldFollows refusal lines Zeros ((refusal ≡ 0) × Answer)
 
 -- none of the lines holds
 unfoldable pub NoneHolds : List Line → Type 0

@@ -16,7 +16,7 @@ use Rattle.bounds.specs.Widths.{nar_word, largest, smallest}
 use Rattle.word.specs.Reads.{IsKind, IsReading, Reads}
 use Rattle.order.specs.Orders.{order_number, Compares, Negates}
 use Rattle.order.proofs.Numbers.{order_number_is}
-use Rattle.word.specs.Orders.{order, negated}
+use Rattle.word.specs.Orders.{signed, order, negated}
 use Rattle.bounds.proofs.Powers.{twice}
 use Rattle.bounds.proofs.Verdicts.{word_passes, words_pass, answered}
 use Rattle.word.proofs.Words.{takum_NaR}
@@ -103,7 +103,7 @@ every_value_is_above_NaR n x y v a ix iy hx hy c = answered (words_pass n x y ix
 
 pub every_word_equals_itself : EveryWordEqualsItself
 unfolding EveryWordEqualsItself Compares
-every_word_equals_itself n w a i c = answered (words_pass n w w i i) c ∙ ap Ok (order_is _ _ Equal (order_same _))
+every_word_equals_itself n w a i c = answered (words_pass n w w i i) c ∙ ap Ok (order_is (signed n w) (signed n w) Equal (order_same (signed n w)))
 
 pub negation_negates_the_value : NegationNegates
 unfolding NegationNegates Negates

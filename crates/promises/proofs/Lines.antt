@@ -38,7 +38,7 @@ stray_tells n w = by (dec_lt w (2 ^ n))
 
 -- ---- a contract with tests in a row, taken apart
 pub parts : {v u : Verdict} {P : Refusal → Type 0} {Q : Type 0} → Decided (v then u) P Q → Decided v P (Decided u P Q)
-parts {v = passed} x = through refl x
+parts {v = Ok _} x = through refl x
 parts {v = Err q} (through h x) = let z : ◌≡◌ {A = ℕ} 0 1 = cc in absurd (omega arith)
 parts {v = Err q} (refused h x) = refused h x
 
@@ -49,7 +49,7 @@ follow q (fails e n) x f = inr (n, f e (answered e x))
 
 -- a call that answers with the verdict itself
 pub verdict_decided : {v a : Verdict} → a ≡ v → Decided v (λ q. a ≡ Err q) (a ≡ passed)
-verdict_decided {v = passed} x = through refl x
+verdict_decided {v = Ok _} x = through refl x
 verdict_decided {v = Err q} x = refused refl x
 
 -- a condition said otherwise

@@ -1,6 +1,7 @@
 -- The laws of moving that specs/Moving.antt states: a move hangs on what the word means, keeps order and sign, and a wider one keeps the meaning.
 -- Assumes nothing.
-use Rattle.std.specs.Prelude.{Ok, Err}
+use Rattle.std.specs.Prelude.{Ok, Err, IsErrAnd}
+use Rattle.std.proofs.lemmas.Result.{err_from_is_err_and}
 use Rattle.bounds.specs.Refusals.{Answer}
 use Rattle.std.specs.declared.cmp.Ordering.{Ordering}
 use Rattle.std.specs.declared.cmp.Ordering.TheVariants.{Less, Equal}
@@ -14,6 +15,7 @@ use native.Mathlib.Omega.{arith}
 use lib.IntN.{ℤ, pos, negsuc, neg_ℤ, nat_abs, pos-ne-negsuc}
 use lib.Signed.{lt_z}
 use Rattle.bounds.specs.declared.answer.Written.{Written}
+use Rattle.bounds.specs.declared.refusal.Refusal.{Refusal}
 use Rattle.bounds.specs.declared.saying.Saying.TheVariants.{Exact, Below, Above}
 use Rattle.bounds.specs.Refusals.{IsWord, through, refused}
 use Rattle.bounds.specs.Sayings.{plain}
@@ -45,6 +47,10 @@ use Rattle.promises.proofs.Settled.{size_at, is_positive, past_half, before_half
 use Rattle.promises.proofs.Tests.{size_of, is_word}
 use Rattle.promises.proofs.WordRefusals.{answer_none}
 use Rattle.promises.proofs.Writing.{target_tested}
+
+-- what a `?` hands on
+pub handed : {A : Type 0} (r : Answer A) (q : Refusal) → IsErrAnd r (λ e. e ≡ q) → r ≡ Err q
+handed r q e = let p = err_from_is_err_and r e in p.1 ∙ ap Err p.2
 
 -- ---- wider
 -- at a width that is at least as wide there is a word with the same meaning

@@ -28,13 +28,13 @@ use Rattle.promises.proofs.WordRefusals.{answer_none}
 
 pub a_refused_column_writes_nothing : promise.ARefusedColumnWritesNothing
 unfolding promise.ARefusedColumnWritesNothing Holds
-a_refused_column_writes_nothing n n' rule words before after (Ok count) x f = absurd (f count refl)
+a_refused_column_writes_nothing n n' rule words before after (Ok c) x f = absurd (f c refl)
 a_refused_column_writes_nothing n n' rule words before after (Err (ListRefusal.Whole q)) x f = x
 a_refused_column_writes_nothing n n' rule words before after (Err (ListRefusal.At position q)) x f = x
 
 pub each_word_of_a_column_is_moved : promise.EachWordOfAColumnIsMoved
 unfolding promise.EachWordOfAColumnIsMoved Holds
-each_word_of_a_column_is_moved n n' rule words before after count x y = (every_word_counted n n' rule words before count after x y, y.room, word_at n n' rule words before count after x y, others_unchanged n n' rule words before count after x y)
+each_word_of_a_column_is_moved n n' rule words before after c x y = (every_word_counted n n' rule words before c after x y, y.room, word_at n n' rule words before c after x y, others_unchanged n n' rule words before c after x y)
 
 pub the_first_refusal_is_given : promise.TheFirstRefusalIsGiven
 unfolding promise.TheFirstRefusalIsGiven
@@ -42,7 +42,7 @@ the_first_refusal_is_given n n' rule words room position q x = let t = first n n
 
 pub a_strict_column_keeps_every_value : promise.AStrictColumnKeepsEveryValue
 unfolding promise.AStrictColumnKeepsEveryValue
-a_strict_column_keeps_every_value n n' words before after count x y = strict_column_keeps n n' words before count after x y
+a_strict_column_keeps_every_value n n' words before after c x y = strict_column_keeps n n' words before c after x y
 
 pub each_word_of_a_block_is_read : promise.EachWordOfABlockIsRead
 unfolding promise.EachWordOfABlockIsRead ReadingIsTheDefinition

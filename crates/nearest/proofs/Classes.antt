@@ -68,7 +68,7 @@ module _ (n : ℕ) (lo : 2 ≤ n) (hi : n ≤ 64) (m : ℕ) (rest : Rest) (full 
         let g = given n lo hi h e m rest start is begins full top v v_is first room in
         let i = raise (c 64 (v * 2 ^ (64 - n))) (characteristic_of_string 64 (v * 2 ^ (64 - n))) in
         let j = raise (c 64 ((v + 1) * 2 ^ (64 - n))) (characteristic_of_string 64 ((v + 1) * 2 ^ (64 - n))) in
-        let t = powers_side i.0 j.0 e m rest (lower_lt n v e m start g short i.0 j.0 i.1 j.1) (gap_le n v e m start g short i.0 j.0 i.1 j.1) (under_upper n v e m start g short i.0 j.0 i.1 j.1) full top in
+        let t = powers_side i.0 j.0 e m rest full top (lower_lt n v e m start g short i.0 j.0 i.1 j.1) (gap_le n v e m start g short i.0 j.0 i.1 j.1) (under_upper n v e m start g short i.0 j.0 i.1 j.1) in
         (chosen_of v t.0, by_powers n lo hi h e m rest start is begins full top v v_is first room i.0 j.0 short i.1 j.1 (chosen_of v t.0) t.0 t.1 refl)
     between first room (no f) =
         let x = cut_chooses v (m * 2 ^ (n - start.r - 4) % 2 ^ 64) rest in

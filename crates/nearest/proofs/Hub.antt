@@ -13,7 +13,7 @@ use Rattle.bounds.proofs.Powers.{pow_sum, shl_below, shl_out, shr_none}
 use Rattle.word.proofs.Sizes.{size_above, size_below}
 use Rattle.word.proofs.Values.{grown, grown_suc}
 use Rattle.nearest.specs.declared.size.Rest.{Rest}
-use Rattle.nearest.specs.declared.size.Side.{Side}
+use Rattle.std.specs.declared.cmp.Ordering.{Ordering}
 use Rattle.nearest.specs.declared.size.Start.{Start}
 use Rattle.nearest.specs.Nearest.{HasValue, Nearest}
 use Rattle.nearest.specs.Offers.{Amounts, IsOffered, IsNearest}
@@ -133,34 +133,33 @@ module _ (n : ℕ) (lo : 2 ≤ n) (hi : n ≤ 64) where
     at_end q = λ a b some offered. place a b v (at_last (grown n) (2 ^ (n - 1)) a b (increasing n lo hi) some v (omega (arith, q, two n lo hi)) (omega (arith, q, two n lo hi)) (low a b some offered (omega (arith, q, two n lo hi))))
 
     module _ (first : zero < v) (room : suc v < 2 ^ (n - 1)) where
-      tells : (side : Side) → TellsMidpoint n v e m rest side → (a b : ℕ) → zero < b → IsOffered m rest (h -ℤ pos 63) a b → TellsSide side (2 * a) (grown n v * b + grown n (suc v) * b)
+      tells : (side : Ordering) → TellsMidpoint n v e m rest side → (a b : ℕ) → zero < b → IsOffered m rest (h -ℤ pos 63) a b → TellsSide side (2 * a) (grown n v * b + grown n (suc v) * b)
       unfolding TellsMidpoint word_of
       tells side t a b some offered =
           subst (TellsSide side (2 * a)) (add-mul (grown n v) (grown n (suc v)) b)
           (t h a b (grown n v) (grown n (suc v)) is some offered (has_value n lo hi false v first (omega (arith, room))) (subst (HasValue n false (grown n (suc v))) (sym (add-one v)) (has_value n lo hi false (suc v) (zero-lt-suc v) room)))
 
-      side_under : TellsMidpoint n v e m rest Side.Under → IsNearest n h m rest v
+      side_under : TellsMidpoint n v e m rest Ordering.Less → IsNearest n h m rest v
       unfolding IsNearest TellsSide
       side_under t = λ a b some offered.
-          place a b v (nearer_below (grown n) (2 ^ (n - 1)) a b (increasing n lo hi) some v first room (low a b some offered first) (high a b some offered room) (tells Side.Under t a b some offered))
+          place a b v (nearer_below (grown n) (2 ^ (n - 1)) a b (increasing n lo hi) some v first room (low a b some offered first) (high a b some offered room) (tells Ordering.Less t a b some offered))
 
-      side_midway : TellsMidpoint n v e m rest Side.Midway → IsNearest n h m rest (v + v % 2)
+      side_midway : TellsMidpoint n v e m rest Ordering.Equal → IsNearest n h m rest (v + v % 2)
       unfolding IsNearest TellsSide
       side_midway t = λ a b some offered.
-          place a b (v + v % 2) (midway (grown n) (2 ^ (n - 1)) a b (increasing n lo hi) some v first room (low a b some offered first) (high a b some offered room) (tells Side.Midway t a b some offered))
+          place a b (v + v % 2) (midway (grown n) (2 ^ (n - 1)) a b (increasing n lo hi) some v first room (low a b some offered first) (high a b some offered room) (tells Ordering.Equal t a b some offered))
 
-      side_over : TellsMidpoint n v e m rest Side.Over → IsNearest n h m rest (v + 1)
+      side_over : TellsMidpoint n v e m rest Ordering.Greater → IsNearest n h m rest (v + 1)
       unfolding IsNearest TellsSide
       side_over t = λ a b some offered.
           subst (Nearest n false a b) (sym (add-one v))
-          (place a b (suc v) (nearer_above (grown n) (2 ^ (n - 1)) a b (increasing n lo hi) some v first room (low a b some offered first) (high a b some offered room) (tells Side.Over t a b some offered)))
+          (place a b (suc v) (nearer_above (grown n) (2 ^ (n - 1)) a b (increasing n lo hi) some v first room (low a b some offered first) (high a b some offered room) (tells Ordering.Greater t a b some offered)))
 
       -- the word that the side chooses
-      pub by_side : (w : ℕ) (side : Side) → TellsMidpoint n v e m rest side → w ≡ chosen_of v side → IsNearest n h m rest w
-      unfolding chosen_of
-      by_side w Side.Under t q = subst (IsNearest n h m rest) (sym q) (side_under t)
-      by_side w Side.Midway t q = subst (IsNearest n h m rest) (sym q) (side_midway t)
-      by_side w Side.Over t q = subst (IsNearest n h m rest) (sym q) (side_over t)
+      pub by_side : (w : ℕ) (side : Ordering) → TellsMidpoint n v e m rest side → w ≡ chosen_of v side → IsNearest n h m rest w
+      by_side w Ordering.Less t q = subst (IsNearest n h m rest) (sym q) (side_under t)
+      by_side w Ordering.Equal t q = subst (IsNearest n h m rest) (sym q) (side_midway t)
+      by_side w Ordering.Greater t q = subst (IsNearest n h m rest) (sym q) (side_over t)
 
       -- the word with what the side is told by
       pub given : Given n v e m start
@@ -177,7 +176,7 @@ module _ (n : ℕ) (lo : 2 ≤ n) (hi : n ≤ 64) where
           }
 
       -- where the cut falls before the fraction
-      pub by_powers : (i j : ℕ) → n < 5 + start.r → IsRaised (c 64 (v * 2 ^ (64 - n))) i → IsRaised (c 64 ((v + 1) * 2 ^ (64 - n))) j → (w : ℕ) (side : Side) → TellsPowers i j e m rest side → w ≡ chosen_of v side → IsNearest n h m rest w
+      pub by_powers : (i j : ℕ) → n < 5 + start.r → IsRaised (c 64 (v * 2 ^ (64 - n))) i → IsRaised (c 64 ((v + 1) * 2 ^ (64 - n))) j → (w : ℕ) (side : Ordering) → TellsPowers i j e m rest side → w ≡ chosen_of v side → IsNearest n h m rest w
       by_powers i j short i_is j_is w side t q = by_side w side (coarse_tells n v e m start given short i j i_is j_is rest side t) q
 
       -- and where it falls in the fraction

@@ -1,33 +1,26 @@
 // One normal size goes in with its sign, and the nearest word comes out with its saying: every number but zero that is written passes here.
-ghost use Rattle.std.specs.Prelude.{true, false, not, ◌≡◌, ◌+◌, ◌-◌, ◌*◌, ◌^◌, ◌≤◌, ◌<◌, eqb};
+ghost use Rattle.std.specs.Prelude.{◌≡◌, ◌+◌, ◌-◌, ◌*◌, ◌^◌, ◌≤◌, ◌<◌};
 ghost use Rattle.std.specs.Int.Signed.{mag};
 ghost use Rattle.word.specs.Takum as Takum;
 ghost use Rattle.bounds.specs.Refusals.{IsWord};
 ghost use Rattle.nearest.specs.Offers.{IsRest};
 ghost use Rattle.nearest.specs.Sayings.{FindsAndSays};
-ghost use Rattle.nearest.specs.Parts.{TellsCharacteristic, Begins, StartsAbove, turned, first_bits, IsRaised, TellsHalf, TellsPowers, chosen_of, margin_of, ChoosesByCut, TellsEnd, TellsNothing, is_none, saying_of, IsNear, with_sign, signed_saying};
+ghost use Rattle.nearest.specs.Parts.{TellsCharacteristic, Begins, StartsAbove, turned, first_bits, IsRaised, TellsHalf, TellsPowers, chosen_of, margin_of, ChoosesByCut, TellsEnd, TellsNothing, saying_of, IsNear, beside, with_sign, signed_saying};
 
 use bounds::answer::Written;
 use bounds::refusal::Refusal;
 use bounds::saying::Saying;
 use bounds::width::Width;
+use std::cmp::Ordering;
 use word::fields::cut;
 
-// What lies below the last unit of a significand.
-#[derive(Clone, Copy)]
+// What lies below the last unit of a significand, from the least to the most.
+#[derive(Clone, Copy, PartialEq, Eq, PartialOrd, Ord)]
 pub enum Rest {
     Nothing,
     UnderHalf,
     Half,
     OverHalf,
-}
-
-// On which side of a midpoint a size lies.
-#[derive(Clone, Copy)]
-pub enum Side {
-    Under,
-    Midway,
-    Over,
 }
 
 // How every string of a characteristic begins after its sign: direction, regime and characteristic bits, and the regime.
@@ -37,14 +30,19 @@ struct Start {
     r: u32,
 }
 
-// A positive word beside the size that it is nearest to. `past`: the size lies past this end word, and the other two tell nothing. Else `exact`: the
-// word is the size. Else `up`: the word is above the size, or below it.
+// A positive word beside the size that it is nearest to.
 #[derive(Clone, Copy)]
 struct Near {
     word: u64,
-    past: bool,
-    exact: bool,
-    up: bool,
+    lies: Lies,
+}
+
+// Where the word lies from the size: the size is past this end word, or is the word, or else the word is above the size, or below it.
+#[derive(Clone, Copy)]
+enum Lies {
+    PastTheEnd,
+    Exact,
+    Off { above: bool },
 }
 
 // The word nearest to plus or minus the size (m + below * 2^-64) * 2^(h - 63), the top bit of m being taken as set, and which way it went.
@@ -56,7 +54,7 @@ pub fn nearest(width: Width, negative: bool, h: i64, m: u64, below: u64) -> Resu
     let near = nearest_word(width.bits, h, full, rest_of(below));
     Ok(Written {
         word: with_sign(width.bits, negative, near.word),
-        saying: said(negative, near),
+        saying: said(negative, near.lies),
     })
 }
 
@@ -72,23 +70,21 @@ fn with_sign(n: u32, negative: bool, word: u64) -> u64
     word
 }
 
-// Which way it went, with the sign: of two negative values the larger one in size is below. The two flags are compared as numbers, which the machine does
-// without a jump.
-fn said(negative: bool, near: Near) -> Saying
-    ensures { result ≡ signed_saying negative (saying_of near) }
+// Which way it went, with the sign: of two negative values the larger one in size is below. If the word came with a saying, and this took its opposite, writing
+// took 1.4 of the time, since the machine then jumps on a sign that nobody can foretell.
+fn said(negative: bool, lies: Lies) -> Saying
+    ensures { result ≡ signed_saying negative (saying_of lies) }
 {
-    if near.past {
-        return Saying::PastTheEnd;
+    match lies {
+        Lies::PastTheEnd => Saying::PastTheEnd,
+        Lies::Exact => Saying::Exact,
+        Lies::Off { above } => {
+            if above != negative {
+                return Saying::Above;
+            }
+            Saying::Below
+        }
     }
-    if near.exact {
-        return Saying::Exact;
-    }
-    let up = near.up as u32;
-    let turned = negative as u32;
-    if up != turned {
-        return Saying::Above;
-    }
-    Saying::Below
 }
 
 // What lies below the last unit, beside a half of it.
@@ -123,13 +119,11 @@ fn nearest_word(n: u32, h: i64, m: u64, rest: Rest) -> Near
 
 // An end word, where the size lies past it.
 fn end_word(word: u64) -> Near
-    ensures { result ≡ record { word = word; past = true; exact = false; up = false } }
+    ensures { result ≡ record { word = word; lies = Lies.PastTheEnd } }
 {
     Near {
         word,
-        past: true,
-        exact: false,
-        up: false,
+        lies: Lies::PastTheEnd,
     }
 }
 
@@ -175,13 +169,17 @@ fn nearest_inside(n: u32, h: i64, m: u64, rest: Rest) -> Near
 
 // The word that is nearest, low being the last one that is not above the size, and the size being exactly low or not.
 fn beside(low: u64, word: u64, exact: bool) -> Near
-    ensures { result ≡ record { word = word; past = false; exact = exact; up = not (eqb word low) } }
+    ensures { result ≡ beside low word exact }
 {
+    if exact {
+        return Near {
+            word,
+            lies: Lies::Exact,
+        };
+    }
     Near {
         word,
-        past: false,
-        exact,
-        up: word != low,
+        lies: Lies::Off { above: word != low },
     }
 }
 
@@ -190,45 +188,25 @@ fn ends_at(n: u32, low: u64, bits: u64, r: u32, m: u64, rest: Rest) -> bool
     requires { (2 ≤ n) × (n ≤ 64) × (low < 2 ^ (n - 1)) × (r ≤ 7) }
     ensures { TellsEnd n low bits r m rest result }
 {
-    if bits != low << (64 - n) {
-        return false;
-    }
-    if m << (60 - r) != 0 {
-        return false;
-    }
-    is_none(rest)
+    bits == low << (64 - n) && nothing_is_cut(m << (60 - r), rest)
 }
 
-// Whether nothing of the size was cut off behind the fraction.
+// Whether nothing of the size was cut off, neither these bits nor what lies below them.
 fn nothing_is_cut(cut: u64, rest: Rest) -> bool
     ensures { TellsNothing cut rest result }
 {
-    if cut != 0 {
-        return false;
-    }
-    is_none(rest)
-}
-
-fn is_none(rest: Rest) -> bool
-    ensures { result ≡ is_none rest }
-{
-    match rest {
-        Rest::Nothing => true,
-        Rest::UnderHalf => false,
-        Rest::Half => false,
-        Rest::OverHalf => false,
-    }
+    cut == 0 && rest == Rest::Nothing
 }
 
 // Low or low + 1, halfway the even one.
-fn chosen(low: u64, side: Side) -> u64
+fn chosen(low: u64, side: Ordering) -> u64
     requires { low + 1 < 2 ^ 63 }
     ensures { result ≡ chosen_of low side }
 {
     match side {
-        Side::Under => low,
-        Side::Midway => low + low % 2,
-        Side::Over => low + 1,
+        Ordering::Less => low,
+        Ordering::Equal => low + low % 2,
+        Ordering::Greater => low + 1,
     }
 }
 
@@ -248,12 +226,10 @@ fn chosen_by_cut(low: u64, cut: u64, rest: Rest) -> u64
 fn margin(low: u64, rest: Rest) -> u64
     ensures { result ≡ margin_of low rest }
 {
-    match rest {
-        Rest::Nothing => low % 2,
-        Rest::UnderHalf => 1,
-        Rest::Half => 1,
-        Rest::OverHalf => 1,
+    if rest == Rest::Nothing {
+        return low % 2;
     }
+    1
 }
 
 fn last_word(n: u32) -> u64
@@ -316,45 +292,26 @@ fn first_bits(start: Start, m: u64) -> u64
     (start.bits << (59 - start.r)) + ((m << 1) >> (5 + start.r))
 }
 
-// The midpoint of 2^i and 2^j is 2^(j - 1) + 2^(i - 1).
-fn side_of_powers(i: u32, j: u32, e: u32, m: u64, rest: Rest) -> Side
+// On which side of the midpoint of 2^i and 2^j the size lies: the midpoint is 2^(j - 1) + 2^(i - 1).
+fn side_of_powers(i: u32, j: u32, e: u32, m: u64, rest: Rest) -> Ordering
     requires { (i < j) × (j ≤ i + 64) × (e < j) × (j < 510) × (2 ^ 63 ≤ m) }
     ensures { TellsPowers i j e m rest result }
 {
     if e + 1 < j {
-        return Side::Under;
+        return Ordering::Less;
     }
     let gap = j - i;
     if gap < 64 {
         return against(m - (1 << 63), 1 << (63 - gap), rest);
     }
     // 64 binades apart, the midpoint lies half a unit past m = 2^63.
-    if m != 1 << 63 {
-        return Side::Over;
-    }
-    match rest {
-        Rest::Nothing => Side::Under,
-        Rest::UnderHalf => Side::Under,
-        Rest::Half => Side::Midway,
-        Rest::OverHalf => Side::Over,
-    }
+    m.cmp(&(1 << 63)).then(rest.cmp(&Rest::Half))
 }
 
-fn against(beyond: u64, half: u64, rest: Rest) -> Side
+fn against(beyond: u64, half: u64, rest: Rest) -> Ordering
     ensures { TellsHalf beyond half rest result }
 {
-    if beyond < half {
-        return Side::Under;
-    }
-    if half < beyond {
-        return Side::Over;
-    }
-    match rest {
-        Rest::Nothing => Side::Midway,
-        Rest::UnderHalf => Side::Over,
-        Rest::Half => Side::Over,
-        Rest::OverHalf => Side::Over,
-    }
+    beyond.cmp(&half).then(rest.cmp(&Rest::Nothing))
 }
 
 // The characteristic of a positive word, raised.

@@ -1,14 +1,14 @@
 -- `ends_at` meets its contract: the string, the significand behind it, and then the rest. Assumes nothing.
 use mathlib.Core.Bool.{Bool, true, false}
 use mathlib.Core.Logic.{inl, inr}
-use mathlib.Core.Path.{◌≡◌, sym, ap, ◌∙◌}
+use mathlib.Core.Path.{◌≡◌, sym, ap, ◌∙◌, subst}
 use Prim.Native.Nat.{ℕ, zero, ◌+◌, ◌-◌, ◌*◌, ◌%◌, ◌^◌, ◌≤◌, ◌<◌}
-use native.Mathlib.Nat.{pos_of_ne-zero, eq_of_mul-eq-mul_right, zero-mul}
+use native.Mathlib.Nat.{lt_irrefl, pos_of_ne-zero, eq_of_mul-eq-mul_right, zero-mul}
 use native.Mathlib.Omega.{arith}
+use Rattle.std.proofs.lemmas.Bool.{ne_eqb}
 use lib.Pow.{pow_pos, shl_exact}
 use Rattle.bounds.proofs.Powers.{shl_out}
-use Rattle.nearest.specs.Parts.{TellsEnd, is_none}
-use Rattle.nearest.proofs.Halves.{no_rest, some_rest}
+use Rattle.nearest.specs.Parts.{TellsEnd, TellsNothing}
 use Rattle.nearest.proofs.size.ends_at.Goals as goal
 
 -- low loses nothing at the top
@@ -23,21 +23,20 @@ module _ (m r : ℕ) (few : r ≤ 7) where
   none : m * 2 ^ (60 - r) % 2 ^ 64 ≡ 0 → m % 2 ^ (4 + r) ≡ 0
   none q = eq_of_mul-eq-mul_right (2 ^ (60 - r)) (pow_pos (60 - r)) _ 0 (sym left ∙ q ∙ sym (zero-mul (2 ^ (60 - r))))
 
-  some : (m * 2 ^ (60 - r) % 2 ^ 64 ≡ 0 → ⊥) → zero < m % 2 ^ (4 + r)
-  some f = pos_of_ne-zero (λ (q : m % 2 ^ (4 + r) ≡ 0). f (left ∙ ap (λ (x : ℕ). x * 2 ^ (60 - r)) q ∙ zero-mul (2 ^ (60 - r))))
+  some : zero < m * 2 ^ (60 - r) % 2 ^ 64 → zero < m % 2 ^ (4 + r)
+  some h = pos_of_ne-zero (λ (q : m % 2 ^ (4 + r) ≡ 0). lt_irrefl 0 (subst (λ (x : ℕ). zero < x) (left ∙ ap (λ (x : ℕ). x * 2 ^ (60 - r)) q ∙ zero-mul (2 ^ (60 - r))) h))
 
 pub returns-then-bits-low : goal.returns-then-bits-low
-unfolding TellsEnd
-returns-then-bits-low c = inl (λ q. c.if-bits-low.true (q ∙ sym (at c.args.n c.args.low c.requires.0 c.requires.1 c.requires.2)))
-
-pub returns-then-m-r-ne0 : goal.returns-then-m-r-ne0
-unfolding TellsEnd
-returns-then-m-r-ne0 c = inr (inl (some c.args.m c.args.r c.requires.3 c.if-m-r-ne0.true))
-
-pub returns : goal.returns
-unfolding TellsEnd
-returns c = by c.is_none.result c.is_none.ensures
+unfolding TellsEnd TellsNothing
+returns-then-bits-low c = by c.nothing_is_cut.result c.nothing_is_cut.ensures
   where
-    by : (b : Bool) → b ≡ is_none c.args.rest → TellsEnd c.args.n c.args.low c.args.bits c.args.r c.args.m c.args.rest b
-    by true q = (c.if-bits-low.false ∙ at c.args.n c.args.low c.requires.0 c.requires.1 c.requires.2, none c.args.m c.args.r c.requires.3 c.if-m-r-ne0.false, no_rest c.args.rest (sym q))
-    by false q = inr (inr (some_rest c.args.rest (sym q)))
+    by : (b : Bool) → TellsNothing (c.args.m * 2 ^ (60 - c.args.r) % 2 ^ 64) c.args.rest b → TellsEnd c.args.n c.args.low c.args.bits c.args.r c.args.m c.args.rest b
+    by true t = (c.if-bits-low.true ∙ at c.args.n c.args.low c.requires.0 c.requires.1 c.requires.2, none c.args.m c.args.r c.requires.3 t.0, t.1)
+    by false (inl h) = inr (inl (some c.args.m c.args.r c.requires.3 h))
+    by false (inr f) = inr (inr f)
+
+pub returns-else-bits-low : goal.returns-else-bits-low
+unfolding TellsEnd
+returns-else-bits-low c =
+    subst (TellsEnd c.args.n c.args.low c.args.bits c.args.r c.args.m c.args.rest) (sym (ne_eqb _ _ c.if-bits-low.false))
+    (inl (λ q. c.if-bits-low.false (q ∙ sym (at c.args.n c.args.low c.requires.0 c.requires.1 c.requires.2))))

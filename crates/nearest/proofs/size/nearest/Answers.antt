@@ -52,4 +52,4 @@ returns c =
     let x = near n _ c.args.h full c.rest_of.result c.nearest_word-near.result (to_z-of_z c.ranges.h) c.nearest_word-near.ensures in
     subst₂ (λ (v : ℕ) (q : Saying). FindsAndSays n c.args.negative c.args.h c.args.m c.args.below (written v q)) (sym c.with_sign.ensures) (sym c.said.ensures)
     (word_said _ _ (through through_is (with_sign n c.args.negative c.nearest_word-near.result.word, refl, c.rest_of.result, c.rest_of.ensures, class_signed _ b.0 b.1 _ _ _ _ x.is c.args.negative))
-    (λ rest is. subst (λ (rest : Rest). SaysOffered n c.args.negative c.args.h full rest (with_sign n c.args.negative c.nearest_word-near.result.word) (signed_saying c.args.negative (saying_of c.nearest_word-near.result))) (rest_one c.args.below c.rest_of.result rest c.rest_of.ensures is) (class_said _ b.0 b.1 _ _ _ _ x.is c.args.negative _ x.lies)))
+    (λ rest is. subst (λ (rest : Rest). SaysOffered n c.args.negative c.args.h full rest (with_sign n c.args.negative c.nearest_word-near.result.word) (signed_saying c.args.negative (saying_of c.nearest_word-near.result.lies))) (rest_one c.args.below c.rest_of.result rest c.rest_of.ensures is) (class_said _ b.0 b.1 _ _ _ _ x.is c.args.negative _ x.lies)))

@@ -1,25 +1,25 @@
 -- `nearest_inside` meets its contract: the cut of the first bits is the word at or below, and the side of the midpoint decides. Assumes nothing.
-use mathlib.Core.Bool.{Bool, true, false, not}
+use mathlib.Core.Bool.{Bool, true, false}
 use mathlib.Core.Path.{◌≡◌, sym, ap, ◌∙◌, subst}
 use Prim.Native.Nat.{ℕ, zero, ◌+◌, ◌-◌, ◌*◌, ◌/◌, ◌%◌, ◌^◌, ◌≤◌, ◌<◌}
 use native.Mathlib.Omega.{arith}
 use native.Mathlib.Nat.{lt_of_lt_of_le}
-use lib.Dec.{eqb}
 use lib.Pow.{pow_mono}
 use lib.IntN.{ℤ}
 use lib.Signed.{mag}
 use mir.Facts.{to_z-of_z}
 use Rattle.bounds.specs.Refusals.{IsWord}
 use Rattle.word.specs.Takum as Takum
+use Rattle.nearest.specs.declared.size.Lies.{Lies}
 use Rattle.nearest.specs.declared.size.Rest.{Rest}
-use Rattle.nearest.specs.declared.size.Side.{Side}
+use Rattle.std.specs.declared.cmp.Ordering.{Ordering}
 use Rattle.nearest.specs.declared.size.Start.{Start}
 use Rattle.nearest.proofs.Hub as Hub
 use Rattle.nearest.proofs.Hub.{two_shifts, start_lt, below_end, at_zero, at_end, by_powers, by_cut}
 use Rattle.nearest.proofs.Sayings.{LowTells, by_end, by_nothing, said_short, said_beyond, said_largest, said_beside}
 use Rattle.nearest.proofs.Sides.{Given, lower_lt, gap_le, upper_small, under_upper}
 use Rattle.nearest.proofs.Exponents.{raise, raised_inj}
-use Rattle.nearest.specs.Parts.{Begins, first_bits, IsRaised, TellsPowers, ChoosesByCut, TellsEnd, TellsNothing, chosen_of, saying_of, IsNear}
+use Rattle.nearest.specs.Parts.{Begins, first_bits, IsRaised, TellsPowers, ChoosesByCut, TellsEnd, TellsNothing, chosen_of, beside, IsNear}
 use Rattle.nearest.proofs.size.nearest_inside.Goals as goal
 
 -- what is known of the first bits
@@ -75,8 +75,7 @@ module _ (n : ℕ) (h : ℤ) (m : ℕ) (start : Start) (bits : ℕ) (k : Cut n h
   room f = omega (arith, f, ends)
 
   -- below the first word
-  short : low n bits ≡ 0 → IsNear n h m rest (record { word = 1; past = true; exact = false; up = false })
-  unfolding saying_of
+  short : low n bits ≡ 0 → IsNear n h m rest (record { word = 1; lies = Lies.PastTheEnd })
   short q =
       record {
         is = at_zero n k.lo k.hi h e m rest start raised_is k.begins k.full k.top (low n bits) is q;
@@ -89,16 +88,14 @@ module _ (n : ℕ) (h : ℤ) (m : ℕ) (start : Start) (bits : ℕ) (k : Cut n h
       by_end n k.lo k.hi h e m rest start raised_is k.begins k.full k.top (low n bits) is first b (subst (λ (F : ℕ). TellsEnd n (low n bits) F start.r m rest b) k.bits_is t)
 
   -- at the largest word
-  largest : zero < low n bits → low n bits ≡ 2 ^ (n - 1) - 1 → TellsEnd n (low n bits) bits start.r m rest true → IsNear n h m rest (record { word = low n bits; past = false; exact = true; up = not (eqb (low n bits) (low n bits)) })
-  unfolding saying_of
+  largest : zero < low n bits → low n bits ≡ 2 ^ (n - 1) - 1 → TellsEnd n (low n bits) bits start.r m rest true → IsNear n h m rest (beside (low n bits) (low n bits) true)
   largest first q t =
       record {
         is = at_end n k.lo k.hi h e m rest start raised_is k.begins k.full k.top (low n bits) is q;
         lies = said_largest n k.lo k.hi h e m rest start raised_is k.begins k.full k.top (low n bits) is q (told first true t);
       }
 
-  beyond : zero < low n bits → low n bits ≡ 2 ^ (n - 1) - 1 → TellsEnd n (low n bits) bits start.r m rest false → IsNear n h m rest (record { word = low n bits; past = true; exact = false; up = false })
-  unfolding saying_of
+  beyond : zero < low n bits → low n bits ≡ 2 ^ (n - 1) - 1 → TellsEnd n (low n bits) bits start.r m rest false → IsNear n h m rest (record { word = low n bits; lies = Lies.PastTheEnd })
   beyond first q t =
       record {
         is = at_end n k.lo k.hi h e m rest start raised_is k.begins k.full k.top (low n bits) is q;
@@ -112,12 +109,12 @@ module _ (n : ℕ) (h : ℤ) (m : ℕ) (start : Start) (bits : ℕ) (k : Cut n h
     given = Hub.given n k.lo k.hi h e m rest start raised_is k.begins k.full k.top (low n bits) is first (omega (arith, inner))
 
     -- where it falls in the regime or the characteristic
-    coarse : (i j : ℕ) → n < 5 + start.r → IsRaised (Takum.c 64 (low n bits * 2 ^ (64 - n))) i → IsRaised (Takum.c 64 ((low n bits + 1) * 2 ^ (64 - n))) j → (f : ℕ) → f ≡ e → (side : Side) → TellsPowers i j f m rest side → (w : ℕ) → w ≡ chosen_of (low n bits) side → (exact : Bool) → TellsEnd n (low n bits) bits start.r m rest exact → IsNear n h m rest (record { word = w; past = false; exact = exact; up = not (eqb w (low n bits)) })
+    coarse : (i j : ℕ) → n < 5 + start.r → IsRaised (Takum.c 64 (low n bits * 2 ^ (64 - n))) i → IsRaised (Takum.c 64 ((low n bits + 1) * 2 ^ (64 - n))) j → (f : ℕ) → f ≡ e → (side : Ordering) → TellsPowers i j f m rest side → (w : ℕ) → w ≡ chosen_of (low n bits) side → (exact : Bool) → TellsEnd n (low n bits) bits start.r m rest exact → IsNear n h m rest (beside (low n bits) w exact)
     coarse i j short i_is j_is f same side t w q exact x = let near = by_powers n k.lo k.hi h e m rest start raised_is k.begins k.full k.top (low n bits) is first (omega (arith, inner)) i j short i_is j_is w side (subst (λ (f : ℕ). TellsPowers i j f m rest side) same t) q in
         record { is = near; lies = said_beside n k.lo k.hi h e m rest start raised_is k.begins k.full k.top (low n bits) is first (omega (arith, inner)) w near exact (told first exact x) }
 
     -- where it falls in the fraction
-    fine : 5 + start.r ≤ n → (cut : ℕ) → cut ≡ m * 2 ^ (n - start.r - 4) % 2 ^ 64 → (w : ℕ) → ChoosesByCut (low n bits) cut rest w → (exact : Bool) → TellsNothing cut rest exact → IsNear n h m rest (record { word = w; past = false; exact = exact; up = not (eqb w (low n bits)) })
+    fine : 5 + start.r ≤ n → (cut : ℕ) → cut ≡ m * 2 ^ (n - start.r - 4) % 2 ^ 64 → (w : ℕ) → ChoosesByCut (low n bits) cut rest w → (exact : Bool) → TellsNothing cut rest exact → IsNear n h m rest (beside (low n bits) w exact)
     fine l cut same w t exact x = let near = by_cut n k.lo k.hi h e m rest start raised_is k.begins k.full k.top (low n bits) is first (omega (arith, inner)) l w (subst (λ (cut : ℕ). ChoosesByCut (low n bits) cut rest w) same t) in
         record {
           is = near;

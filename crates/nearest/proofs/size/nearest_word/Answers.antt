@@ -8,7 +8,7 @@ use mir.Syntax.{w64}
 use mir.Facts.{to_z-of_z}
 use Rattle.word.proofs.Casts.{not_negative, is_negative, tested}
 use Rattle.nearest.specs.Offers.{IsNearest}
-use Rattle.nearest.specs.Parts.{TellsCharacteristic, saying_of, IsNear}
+use Rattle.nearest.specs.Parts.{TellsCharacteristic, IsNear}
 use Rattle.nearest.proofs.Hub.{past_last, before_first}
 use Rattle.nearest.proofs.Sayings.{outside_said}
 use Rattle.nearest.proofs.size.nearest_word.Goals as goal
@@ -31,7 +31,6 @@ pub returns-then-is_characteristic : goal.returns-then-is_characteristic
 returns-then-is_characteristic c = subst (λ (z : ℤ). IsNear c.args.n z c.args.m c.args.rest c.nearest_inside.result) (to_z-of_z c.ranges.h) c.nearest_inside.ensures
 
 pub returns-then-h-lt0 : goal.returns-then-h-lt0
-unfolding saying_of
 returns-then-h-lt0 c = let far = outside c.args.h _ _ (to_z-of_z c.ranges.h) c.is_characteristic.ensures c.if-is_characteristic.false in
     let h = is_negative c.args.h (tested w64 tt c.ranges.h c.if-h-lt0.true) in
     subst (IsNear _ _ _ _) (sym c.end_word.ensures)
@@ -41,7 +40,6 @@ returns-then-h-lt0 c = let far = outside c.args.h _ _ (to_z-of_z c.ranges.h) c.i
     })
 
 pub returns : goal.returns
-unfolding saying_of
 returns c = let far = outside c.args.h _ _ (to_z-of_z c.ranges.h) c.is_characteristic.ensures c.if-is_characteristic.false in
     let h = not_negative c.args.h (tested w64 tt c.ranges.h c.if-h-lt0.false) in
     subst (IsNear _ _ _ _) (sym c.end_word-2.ensures)

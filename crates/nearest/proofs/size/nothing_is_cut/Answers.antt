@@ -1,20 +1,33 @@
 -- `nothing_is_cut` meets its contract: the bits cut off, and then the rest. Assumes nothing.
-use mathlib.Core.Bool.{Bool, true, false}
 use mathlib.Core.Logic.{inl, inr}
-use mathlib.Core.Path.{◌≡◌, sym}
+use mathlib.Core.Path.{◌≡◌, refl, sym, subst}
+use Prim.Native.Nat.{ℕ}
+use denote.Enum.Bare.{sameb}
+use Rattle.std.proofs.lemmas.Bool.{ne_eqb}
+use Rattle.nearest.specs.contracts.size.Rest.{the_type}
+use Rattle.nearest.specs.declared.size.Rest.{Rest}
 use native.Mathlib.Nat.{pos_of_ne-zero}
-use Rattle.nearest.specs.Parts.{TellsNothing, is_none}
-use Rattle.nearest.proofs.Halves.{no_rest, some_rest}
+use Rattle.nearest.specs.Parts.{TellsNothing}
 use Rattle.nearest.proofs.size.nothing_is_cut.Goals as goal
 
-pub returns-then-cut-ne0 : goal.returns-then-cut-ne0
-unfolding TellsNothing
-returns-then-cut-ne0 c = inl (pos_of_ne-zero c.if-cut-ne0.true)
+Some : Rest → Type 0
+Some Rest.Nothing = ⊥
+Some Rest.UnderHalf = Unit {0}
+Some Rest.Half = Unit {0}
+Some Rest.OverHalf = Unit {0}
 
-pub returns : goal.returns
+-- the test of the rest
+tells : (cut : ℕ) → cut ≡ 0 → (rest : Rest) → TellsNothing cut rest (sameb the_type rest Rest.Nothing)
+unfolding TellsNothing Some
+tells cut q Rest.Nothing = (q, refl)
+tells cut q Rest.UnderHalf = inr (λ e. subst Some e tt)
+tells cut q Rest.Half = inr (λ e. subst Some e tt)
+tells cut q Rest.OverHalf = inr (λ e. subst Some e tt)
+
+pub returns-then-cut-eq0 : goal.returns-then-cut-eq0
 unfolding TellsNothing
-returns c = by c.is_none.result c.is_none.ensures
-  where
-    by : (b : Bool) → b ≡ is_none c.args.rest → TellsNothing c.args.cut c.args.rest b
-    by true q = (c.if-cut-ne0.false, no_rest c.args.rest (sym q))
-    by false q = inr (some_rest c.args.rest (sym q))
+returns-then-cut-eq0 c = subst (TellsNothing c.args.cut c.args.rest) (sym c.eq.ensures) (tells c.args.cut c.if-cut-eq0.true c.args.rest)
+
+pub returns-else-cut-eq0 : goal.returns-else-cut-eq0
+unfolding TellsNothing
+returns-else-cut-eq0 c = subst (TellsNothing c.args.cut c.args.rest) (sym (ne_eqb _ _ c.if-cut-eq0.false)) (inl (pos_of_ne-zero c.if-cut-eq0.false))

@@ -4,7 +4,6 @@ use mathlib.Core.Path.{◌≡◌, sym, ap, ◌∙◌}
 use Rattle.std.specs.Prelude.{Ok, Err}
 use Rattle.bounds.specs.declared.answer.Written.{Written}
 use Rattle.bounds.specs.declared.refusal.Refusal.{Refusal}
-use Rattle.bounds.specs.Refusals.{Answer}
 use Rattle.bounds.specs.Sayings.{says_exact}
 use Rattle.round.specs.declared.value.Rule.{Rule}
 use Rattle.round.specs.Offers.{settled}

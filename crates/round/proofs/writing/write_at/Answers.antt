@@ -1,9 +1,8 @@
 -- `write_at` meets its contract: zero, and any other significand with its top bit moved to 2^63. Assumes nothing.
 use mathlib.Core.Path.{◌≡◌, refl, sym, ap, ◌∙◌, subst}
 use Prim.Native.Nat.{ℕ, zero, ◌-◌, ◌*◌, ◌%◌, ◌^◌, ◌≤◌, ◌<◌}
-use native.Mathlib.Nat.{pos_of_ne-zero, zero-mul, lt_of_le_of_lt, mul-pos, mod-lt}
+use native.Mathlib.Nat.{pos_of_ne-zero, zero-mul, mul-pos, mod-lt}
 use native.Mathlib.Omega.{arith}
-use lib.Dec.{lit<}
 use lib.Pow.{pow_pos}
 use lib.Count.{count_leading_zeros}
 use lib.IntN.{ℤ, pos, ◌+ℤ◌}

@@ -118,7 +118,7 @@ returns c = let v = c.args.value in
     let b = below v some_high fits in
     let t = some_rest b in
     subst (WritesLongAndSays n c.args.rule v) (sym c.by_rule.ensures)
-    (settles n c.args.rule v.negative (h v some_high fits) m b (Ok c.in_ok-found.found) (full v some_high fits m c.top_bits-m.ensures) c.top_bits-m.type_inv
+    (settles n c.args.rule v.negative (h v some_high fits) m b c.in_ok-found.found (full v some_high fits m c.top_bits-m.ensures) c.top_bits-m.type_inv
     (subst (λ (z : ℤ). FindsAndSays n v.negative z m b (Ok c.in_ok-found.found)) (h_held v.k fits.2 (127 - zeros v some_high fits) (small v some_high fits)) c.in_ok-found.ensures)
     t.0 t.1 _ _ (mul-pos (some v some_high fits) (unit_some _).0) (unit_some _).1
     (finer_offer m b t.0 (h v some_high fits) _ _ (unit_some _).1 (below_lt v some_high fits) t.1 (offered v some_high fits m c.top_bits-m.ensures)))

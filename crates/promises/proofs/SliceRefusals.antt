@@ -69,7 +69,7 @@ module _ (n n' : ℕ) (rule : Rule) (words : List ℕ) (places : ℕ) (i : ℕ) 
   tried (Err (ListRefusal.Whole q)) e e' before x = absurd x
   tried (Err (ListRefusal.At p q)) e e' before x = by (dec_lt p i) (dec_lt i p)
     where
-      by : Dec (p < i) → Dec (i < p) → Follows (λ q. Err (ListRefusal.At i q)) (Err (ListRefusal.At p q)) (move_lines n n' rule (get_or words i 0))
+      by : Dec (p < i) → Dec (i < p) → Follows {A = ListAnswer MovedColumn} (λ q. Err (ListRefusal.At i q)) (Err (ListRefusal.At p q)) (move_lines n n' rule (get_or words i 0))
       by (yes l) d = absurd (before p q l refl)
       by (no f) (yes l) = let (w', m) = x.lowest i l in at_position (Ok w') (Err (ListRefusal.At p q)) e e' (λ q' h. cc) (λ q' h. let same : p ≡ i = cc in absurd (omega (arith, same, l))) m
       by (no f) (no g) =

@@ -50,7 +50,7 @@ module _ (n : ℕ) (words buffer : List ℕ) where
     tried (Err (ListRefusal.Whole q)) before x = absurd x
     tried (Err (ListRefusal.At p q)) before x = by (dec_lt p i) (dec_lt i p)
       where
-        by : Dec (p < i) → Dec (i < p) → Follows (λ q. Err (ListRefusal.At i q)) (Err (ListRefusal.At p q)) (stray n (get_or words i 0) ∷ [])
+        by : Dec (p < i) → Dec (i < p) → Follows {A = ListAnswer ⊤} (λ q. Err (ListRefusal.At i q)) (Err (ListRefusal.At p q)) (stray n (get_or words i 0) ∷ [])
         by (yes l) d = absurd (before p q l refl)
         by (no f) (yes l) = at_position (Err (ListRefusal.At p q)) passed (sym (x.1 i l)) (λ q' h. cc) (λ q' h. let same : p ≡ i = cc in absurd (omega (arith, same, l)))
         by (no f) (no g) =

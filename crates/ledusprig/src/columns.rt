@@ -21,7 +21,13 @@ pub fn takum_move_column(
     ensures { HandsOver column_handed (MovesTheColumn from to (rule_of rule) words.now results.old results.new) result }
 {
     by_rule(rule, |rule| {
-        move_column(Width { bits: from }, Width { bits: to }, rule, words, results)
+        move_column(
+            Width { bits: from },
+            Width { bits: to },
+            rule,
+            words,
+            results,
+        )
     })
     .into()
 }

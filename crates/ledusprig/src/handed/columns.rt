@@ -22,11 +22,11 @@ impl From<Result<MovedColumn, ListRefusal>> for HandedColumn {
 
     fn from(answer: Result<MovedColumn, ListRefusal>) -> HandedColumn {
         match answer {
-            Ok(MovedColumn { moved, exact }) => HandedColumn {
+            Ok(column) => HandedColumn {
                 refusal: 0,
                 position: 0,
-                moved,
-                exact,
+                moved: column.moved,
+                exact: column.exact,
             },
             Err(ListRefusal::Whole(q)) => HandedColumn {
                 refusal: q.number(),
@@ -91,15 +91,11 @@ impl From<Result<Block, Refusal>> for HandedBlock {
 
     fn from(answer: Result<Block, Refusal>) -> HandedBlock {
         match answer {
-            Ok(Block {
-                width,
-                number,
-                count,
-            }) => HandedBlock {
+            Ok(block) => HandedBlock {
                 refusal: 0,
-                width,
-                number,
-                count,
+                width: block.width,
+                number: block.number,
+                count: block.count,
             },
             Err(q) => HandedBlock {
                 refusal: q.number(),

@@ -1,6 +1,7 @@
 // What one word's calls hand over: a word, alone or with its saying, a reading, an order. Calls of widths and numbers that give a word hand it over by
 // the same structs.
 ghost use Rattle.std.specs.Prelude.{◌≡◌};
+ghost use Rattle.ledusprig.specs.Handed.{kind_handed};
 
 use bounds::answer::Written;
 use bounds::refusal::Refusal;
@@ -46,10 +47,10 @@ impl From<Result<Written, Refusal>> for HandedSaying {
 
     fn from(answer: Result<Written, Refusal>) -> HandedSaying {
         match answer {
-            Ok(Written { word, saying }) => HandedSaying {
+            Ok(written) => HandedSaying {
                 refusal: 0,
-                saying: saying.number(),
-                word,
+                saying: written.saying.number(),
+                word: written.word,
             },
             Err(q) => HandedSaying {
                 refusal: q.number(),
@@ -81,35 +82,7 @@ impl From<Result<Reading, Refusal>> for HandedReading {
 
     fn from(answer: Result<Reading, Refusal>) -> HandedReading {
         match answer {
-            Ok(Reading { kind, own }) => match kind {
-                Kind::Zero => HandedReading {
-                    refusal: 0,
-                    kind: 0,
-                    negative: false,
-                    h: 0,
-                    m: 0,
-                    p: 0,
-                    own,
-                },
-                Kind::Nar => HandedReading {
-                    refusal: 0,
-                    kind: 1,
-                    negative: false,
-                    h: 0,
-                    m: 0,
-                    p: 0,
-                    own,
-                },
-                Kind::Number { negative, h, m, p } => HandedReading {
-                    refusal: 0,
-                    kind: 2,
-                    negative,
-                    h,
-                    m,
-                    p,
-                    own,
-                },
-            },
+            Ok(reading) => of_kind(reading.kind, reading.own),
             Err(q) => HandedReading {
                 refusal: q.number(),
                 kind: 0,
@@ -120,6 +93,40 @@ impl From<Result<Reading, Refusal>> for HandedReading {
                 own: 0,
             },
         }
+    }
+}
+
+fn of_kind(kind: Kind, own: u32) -> HandedReading
+    ensures { result ≡ kind_handed kind own }
+{
+    match kind {
+        Kind::Zero => HandedReading {
+            refusal: 0,
+            kind: 0,
+            negative: false,
+            h: 0,
+            m: 0,
+            p: 0,
+            own,
+        },
+        Kind::Nar => HandedReading {
+            refusal: 0,
+            kind: 1,
+            negative: false,
+            h: 0,
+            m: 0,
+            p: 0,
+            own,
+        },
+        Kind::Number { negative, h, m, p } => HandedReading {
+            refusal: 0,
+            kind: 2,
+            negative,
+            h,
+            m,
+            p,
+            own,
+        },
     }
 }
 

@@ -1,6 +1,5 @@
 -- `take_binary64` meets its contract: the refusals, zero and NaR, and the size of any other word with its exponent raised. Assumes nothing.
 use Rattle.std.specs.Prelude.{Err}
-use Rattle.bounds.specs.Refusals.{passed}
 use mathlib.Core.Path.{◌≡◌, refl, sym, ap, ap₂, ◌∙◌, subst, subst₂}
 use mathlib.Core.Bool.{Bool, true, false}
 use Prim.Native.Nat.{ℕ, ◌+◌, ◌*◌, ◌^◌, ◌≤◌}
@@ -18,7 +17,7 @@ use mir.Syntax.{w32}
 use mir.Val.{SFits, to_z, of_z, bool_byte}
 use Rattle.sizes.specs.declared.size.Size.{Size}
 use Rattle.sizes.specs.declared.size.WordSize.{WordSize}
-use Rattle.bounds.specs.Refusals.{word_test, through, refused}
+use Rattle.bounds.specs.Refusals.{passed, word_test, through, refused}
 use Rattle.word.specs.Takum.{Takum, takum}
 use Rattle.word.specs.Reads.{IsNumber}
 use Rattle.sizes.specs.Sizes.{ReadsSize}

@@ -26,10 +26,10 @@ pub returns-then-x-eq0 : goal.returns-then-x-eq0
 returns-then-x-eq0 c = subst (λ (x : ℤ). GivesShortest x (Ok (record { bits = 2 }))) (sym (sym (to_z-of_z {w = w64} c.ranges.x) ∙ ap (to_z w64) c.if-x-eq0.true)) given_for_zero
 
 pub length-bits-requires : goal.length-bits-requires
-length-bits-requires c = subst (λ (m : ℕ). zero < m) (sym (c.size.ensures ∙ ap nat_abs (to_z-of_z {w = w64} c.ranges.x))) (has_size c.args.x (λ e. c.if-x-eq0.false (ap (of_z w64) e)))
+length-bits-requires c = subst (λ (m : ℕ). zero < m) (sym (c.unsigned_abs.ensures.value ∙ ap nat_abs (to_z-of_z {w = w64} c.ranges.x))) (has_size c.args.x (λ e. c.if-x-eq0.false (ap (of_z w64) e)))
 
 pub returns-then-bits-gt-GREATEST : goal.returns-then-bits-gt-GREATEST
-returns-then-bits-gt-GREATEST c = refused_past _ _ (counted c.args.x _ _ c.ranges.x c.size.ensures c.length-bits.ensures) (omega arith)
+returns-then-bits-gt-GREATEST c = refused_past _ _ (counted c.args.x _ _ c.ranges.x c.unsigned_abs.ensures.value c.length-bits.ensures) (omega arith)
 
 pub returns : goal.returns
-returns c = given_at _ _ (counted c.args.x _ _ c.ranges.x c.size.ensures c.length-bits.ensures) (omega arith)
+returns c = given_at _ _ (counted c.args.x _ _ c.ranges.x c.unsigned_abs.ensures.value c.length-bits.ensures) (omega arith)

@@ -66,22 +66,22 @@ returns-then-size-ltminus1 c =
     subst₂ (λ (z : ℤ) (a : Answer ℤ). TakesSize c.args.rule c.args.size.negative z c.args.size.m a) (sym x.1) (sym c.below_half.ensures)
     (takes_under_half c.args.rule c.args.size.negative c.args.size.m c.requires.0 few x.0)
 
-pub overflow_add-size : goal.overflow_add-size
-overflow_add-size c =
+pub overflow_add-amount : goal.overflow_add-amount
+overflow_add-amount c =
     let left : lt_z (to_z w32 (of_z w32 c.args.size.h)) (negsuc 0) ≡ false = grind (arith, ints) in
     subst (λ (z : ℤ). SFits w32 z) (sym (sum c.args.size.h c.requires.1 left)) (sum_fits c.args.size.h c.requires.1 left)
 
-pub overflow_cast-size : goal.overflow_cast-size
-overflow_cast-size c =
+pub overflow_cast-amount : goal.overflow_cast-amount
+overflow_cast-amount c =
     let left : lt_z (to_z w32 (of_z w32 c.args.size.h)) (negsuc 0) ≡ false = grind (arith, ints) in
     subst (λ (z : ℤ). T (non_neg z) × Fits w32 (nat_abs z)) (sym (held c.args.size.h c.requires.1 left)) (tt, record { fits = omega (arith, (sum_fits c.args.size.h c.requires.1 left).sfits) })
 
-pub take_size-requires : goal.take_size-requires
-take_size-requires c =
+pub take-requires : goal.take-requires
+take-requires c =
     let left : lt_z (to_z w32 (of_z w32 c.args.size.h)) (negsuc 0) ≡ false = grind (arith, ints) in
-    (c.requires.0, subst (λ (z : ℤ). WholeWhereLarge z c.args.size.m) (sym (lowered c.args.size.h c.requires.1 left)) c.requires.2)
+    subst (λ (z : ℤ). WholeWhereLarge z c.args.size.m) (sym (lowered c.args.size.h c.requires.1 left)) c.requires.2
 
 pub returns : goal.returns
 returns c =
     let left : lt_z (to_z w32 (of_z w32 c.args.size.h)) (negsuc 0) ≡ false = grind (arith, ints) in
-    subst (λ (z : ℤ). TakesSize c.args.rule c.args.size.negative z c.args.size.m c.take_size.result) (lowered c.args.size.h c.requires.1 left) c.take_size.ensures
+    subst (λ (z : ℤ). TakesSize c.args.rule c.args.size.negative z c.args.size.m c.take.result) (lowered c.args.size.h c.requires.1 left) c.take.ensures

@@ -50,5 +50,5 @@ writes_block_one n words buffer = decided_one (λ q. Err (ListRefusal.Whole q)) 
 pub fills_buffer_one : (n number : ℕ) (words before : List ℕ) (answer : ListAnswer ⊤) (a b : List ℕ) → FillsBuffer n number words before answer a → FillsBuffer n number words before answer b → a ≡ b
 unfolding FillsBuffer
 fills_buffer_one n number words before (Ok _) a b x y = same_bytes n number words a b x y
-fills_buffer_one n number words before (Err (ListRefusal.Whole q)) a b x y = x ∙ sym y
-fills_buffer_one n number words before (Err (ListRefusal.At position q)) a b x y = x ∙ sym y
+fills_buffer_one n number _ before (Err (ListRefusal.Whole q)) a b x y = x ∙ sym y
+fills_buffer_one n number _ before (Err (ListRefusal.At position q)) a b x y = x ∙ sym y

@@ -1,8 +1,12 @@
 -- What puts into a buffer leave there, one after the other: what stands outside stays, and two parts beside each other are one number. Assumes nothing.
-use Rattle.std.proofs.Common.{◌≡◌, ℕ, ◌+◌, ◌*◌, ◌^◌, ◌<◌, ◌≤◌, ◌⊎◌, List, length, get_or, set, sym, refl, ap, ◌∙◌, subst, ap₂, inl, inr, ⊎_elim, le_antisymm, arith, length-set, get_or-set_other, get_or-set_same}
+use Rattle.std.proofs.Common.{◌≡◌, ℕ, ◌+◌, ◌-◌, ◌*◌, ◌^◌, ◌<◌, ◌≤◌, ◌⊎◌, List, length, get_or, take, drop, set, replicate, sym, refl, ap, ◌∙◌, subst, ap₂, inl, inr, ⊎_elim, le_antisymm, arith, rules, length-set, get_or-set_other, get_or-set_same}
+use borrow.Rule.Slice.PartMut.{put_mid}
 use native.Mathlib.Decide.{dec_lt}
+use Rattle.std.proofs.lemmas.Grind.{common_steps}
+use Rattle.std.proofs.lemmas.List.{length-replicate, places}
+use Rattle.std.proofs.lemmas.Slice.{between-put_mid}
 use Rattle.bounds.proofs.Powers.{not_more}
-use Rattle.sheet.specs.Layout.{number_at, mark, width, count, block_number, numbers, A, B}
+use Rattle.sheet.specs.Layout.{number, number_at, mark, width, count, block_number, numbers, A, B}
 use Rattle.sheet.specs.Puts.{Within, Puts, Packs, Clears, PutsHeader, Seals}
 use Rattle.sheet.specs.Sums.{sum_a, sum_b}
 use Rattle.sheet.proofs.LittleEndian.{number_at_one, number_at_split, number_same}
@@ -29,6 +33,17 @@ stored bytes i x = record { size = length-set bytes i x; outside = λ j o. get_o
 
 pub puts_one : (bytes : List ℕ) (i x : ℕ) → i < length bytes → Puts 1 i x bytes (set bytes i x)
 puts_one bytes i x h = record { within = stored bytes i x; is = number_at_one i (set bytes i x) (subst (λ (n : ℕ). i < n) (sym (length-set bytes i x)) h) ∙ get_or-set_same bytes i x 0 h }
+
+-- a part that was written
+module _ (a k : ℕ) (xs ys : List ℕ) (fits : a + k ≤ length xs) (long : length ys ≡ k) where
+  pub part_put : Within a (a + k) xs (put_mid a k xs ys)
+  part_put = record { size = grind (arith, common_steps); outside = λ j o. ⊎_elim (λ l. search (rules, places)) (λ h. search (rules, places)) o }
+
+pub puts_part : (k i x : ℕ) (xs ys : List ℕ) → i + k ≤ length xs → length ys ≡ k → number ys ≡ x → Puts k i x xs (put_mid i (i + k - i) xs ys)
+unfolding number_at
+puts_part k i x xs ys fits long e =
+    let same : k ≡ i + k - i = omega arith in
+    subst (λ (n : ℕ). Puts k i x xs (put_mid i n xs ys)) same (record { within = part_put i k xs ys fits long; is = ap number (ap (λ (n : ℕ). take n (drop i (put_mid i k xs ys))) same ∙ between-put_mid i k xs ys (i + k) (omega (arith, fits)) (long ∙ same)) ∙ e })
 
 -- two parts beside each other
 pub puts_two : (j k i lo hi x : ℕ) {before mid after : List ℕ} → i + j ≤ length before → Puts j i lo before mid → Puts k (i + j) hi mid after → lo + hi * 2 ^ (8 * j) ≡ x → Puts (j + k) i x before after
@@ -99,6 +114,18 @@ clears_more from at before mid l h c = record {
     by j lo up (no f) =
         let last : at ≡ j = omega (arith, up, not_more f) in
         subst (λ (n : ℕ). get_or (set mid at 0) n 0 ≡ 0) last (get_or-set_same mid at 0 0 h)
+
+pub clears_part : (from to : ℕ) (xs ys : List ℕ) → from ≤ to → to ≤ length xs → ys ≡ replicate (to - from) 0 → Clears from to xs (put_mid from (to - from) xs ys)
+clears_part from to xs ys lo fits e = record { within = within; zero = λ j l u. ap (λ (zs : List ℕ). get_or (put_mid from (to - from) xs zs) j 0) e ∙ search (rules, places) }
+  where
+    whole : from + (to - from) ≡ to
+    whole = omega (arith, lo)
+
+    long : length ys ≡ to - from
+    long = ap length e ∙ length-replicate (to - from) 0
+
+    within : Within from to xs (put_mid from (to - from) xs ys)
+    within = subst (λ (n : ℕ). Within from n xs (put_mid from (to - from) xs ys)) whole (part_put from (to - from) xs ys (omega (arith, whole, fits)) long)
 
 pub clears_all : (from at to : ℕ) (before after : List ℕ) → at ≤ to → to ≤ at → Clears from at before after → Clears from to before after
 clears_all from at to before after lo hi = subst (λ (k : ℕ). Clears from k before after) (le_antisymm lo hi)

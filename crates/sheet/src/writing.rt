@@ -4,8 +4,8 @@ ghost use Rattle.bounds.specs.Refusals.{passed};
 ghost use Rattle.sheet.specs.Puts.{IsFirstStray};
 ghost use Rattle.sheet.specs.Writes.{IsBlockOf, content_test, FitUpTo, WritesBlock, FillsBuffer};
 
-use crate::fields::is_block_width;
 use crate::parts::{clear, pack, put_header, seal};
+use crate::testing::is_block_width;
 use bounds::refusal::{ListRefusal, Refusal};
 use bounds::width::Width;
 
@@ -35,8 +35,7 @@ pub fn write_block(
     if buffer.len() != 512 {
         return Err(ListRefusal::Whole(Refusal::Size));
     }
-    let position = first_stray(width.bits, words);
-    if position < words.len() {
+    if let Some(position) = first_stray(width.bits, words) {
         return Err(ListRefusal::At {
             position,
             refusal: Refusal::Stray,
@@ -46,20 +45,13 @@ pub fn write_block(
     Ok(())
 }
 
-// The position of the first word that is above all ones of n bits, or the number of words if none is.
-fn first_stray(n: u32, words: &[u64]) -> usize
+// The position of the first word that is above all ones of n bits.
+fn first_stray(n: u32, words: &[u64]) -> Option<usize>
     requires { (2 ≤ n) × (n ≤ 64) }
     ensures { IsFirstStray n words.now result }
 {
-    let most = 0xffff_ffff_ffff_ffff >> (64 - n);
-    let mut position = 0;
-    while position < words.len() {
-        if words[position] > most {
-            return position;
-        }
-        position += 1;
-    }
-    position
+    let most = u64::MAX >> (64 - n);
+    words.iter().position(|word| *word > most)
 }
 
 // The block where it lies. A and B come last, since they are sums of all that stands before them.

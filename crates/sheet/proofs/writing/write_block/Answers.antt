@@ -43,26 +43,23 @@ returns-then-buffer-ne512 c =
       fills_buffer = refl;
     }
 
-pub first_stray-position-requires : goal.first_stray-position-requires
-first_stray-position-requires c = width_of_words _ (is_width _ (is_wide _ c.is_block_width.result c.is_block_width.ensures c.if-not-is_block_width.false))
+pub first_stray-requires : goal.first_stray-requires
+first_stray-requires c = width_of_words _ (is_width _ (is_wide _ c.is_block_width.result c.is_block_width.ensures c.if-not-is_block_width.false))
 
-pub returns-then-position-words : goal.returns-then-position-words
+pub returns-in-Some : goal.returns-in-Some
 unfolding WritesBlock FillsBuffer
-returns-then-position-words c =
+returns-in-Some c =
     let tried = content_passes c.args.width.bits (length c.args.words.now) c.args.buffer.now (is_wide _ c.is_block_width.result c.is_block_width.ensures c.if-not-is_block_width.false) (λ e. omega (arith, e)) (omega arith) (omega arith) in
-    record { writes_block = through tried (stray_refused _ _ _ c.first_stray-position.ensures c.if-position-words.true); fills_buffer = refl }
+    record { writes_block = through tried (stray_refused _ _ _ c.in-Some.ensures); fills_buffer = refl }
 
 pub put_block-requires : goal.put_block-requires
 put_block-requires c = record {
   passes = content_passes c.args.width.bits (length c.args.words.now) c.args.buffer.now (is_wide _ c.is_block_width.result c.is_block_width.ensures c.if-not-is_block_width.false) (λ e. omega (arith, e)) (omega arith) (omega arith);
-  fit_up_to = none_stray _ _ _ c.first_stray-position.ensures c.if-position-words.false;
+  fit_up_to = none_stray _ _ c.in_default.ensures;
 }
 
 pub returns : goal.returns
 unfolding WritesBlock FillsBuffer IsTried
 returns c =
     let told = content_passes c.args.width.bits (length c.args.words.now) c.args.buffer.now (is_wide _ c.is_block_width.result c.is_block_width.ensures c.if-not-is_block_width.false) (λ e. omega (arith, e)) (omega arith) (omega arith) in
-    record {
-      writes_block = through told (none_stray _ _ _ c.first_stray-position.ensures c.if-position-words.false);
-      fills_buffer = c.put_block.ensures;
-    }
+    record { writes_block = through told (none_stray _ _ c.in_default.ensures); fills_buffer = c.put_block.ensures }

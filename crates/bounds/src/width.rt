@@ -31,7 +31,7 @@ impl Width {
         Ok(())
     }
 
-    // The width as one that needs no more tests.
+    // The width as one that needs no more tests. Every call begins with `width.good()?`, which says more than a TryFrom would.
     pub fn good(self) -> Result<GoodWidth, Refusal>
         ensures { IsGood self.bits result }
     {
@@ -46,7 +46,7 @@ impl Width {
         self.good()?.test_word(word)
     }
 
-    // A width of a number.
+    // A width of a number: a constructor, whose name the wrong edit new_makes_one_width has, and no TryFrom.
     pub fn new(bits: u32) -> Result<Width, Refusal>
         ensures { Makes bits result }
     {

@@ -49,8 +49,5 @@ returns-then-word-nar c = to_z_pos w64 (small _ _ c.requires (below c)) ∙ sym 
 pub overflow_cast-result-2 : goal.overflow_cast-result-2
 overflow_cast-result-2 c = record { sfits = gap _ _ _ c.ones.ensures c.requires (from_half c) }
 
-pub overflow_sub-result-2 : goal.overflow_sub-result-2
-overflow_sub-result-2 c = high_fits _ _ _ c.ones.ensures c.requires (from_half c)
-
 pub returns : goal.returns
 returns c = high _ _ _ c.ones.ensures c.requires (from_half c)

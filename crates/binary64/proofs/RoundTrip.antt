@@ -1,7 +1,6 @@
 -- Up to width 57 a word taken out and written again, by either rule, is the first word. Assumes nothing.
 use Rattle.std.specs.Prelude.{Ok}
 use Rattle.bounds.specs.Refusals.{Answer, IsWord}
-use Rattle.bounds.specs.Sayings.{written}
 use mathlib.Core.Path.{◌≡◌, sym, ap, ◌∙◌}
 use mathlib.Core.Bool.{Bool}
 use Prim.Native.Nat.{ℕ, ◌*◌, ◌^◌, ◌≤◌}

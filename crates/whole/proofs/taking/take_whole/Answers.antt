@@ -1,27 +1,21 @@
 -- `take_whole` meets its contract: the refusals, zero and NaR, and the whole number nearest to any other. Assumes nothing.
 use Rattle.std.specs.Prelude.{Ok, Err}
-use mathlib.Core.Path.{◌≡◌, refl, sym, subst}
-use Prim.Native.Nat.{ℕ}
+use mathlib.Core.Path.{refl, sym, subst}
 use lib.IntN.{pos}
 use Rattle.bounds.specs.declared.refusal.Refusal.{Refusal}
-use Rattle.bounds.specs.Refusals.{passed, word_test, through}
-use Rattle.sizes.specs.declared.size.WordSize.{WordSize}
-use Rattle.word.specs.Takum.{Takum, takum}
+use Rattle.bounds.specs.Refusals.{through}
+use Rattle.word.specs.Takum.{Takum}
 use Rattle.word.specs.Reads.{signed_size}
 use Rattle.sizes.specs.Sizes.{IsWordSize, ReadsSize}
-use Rattle.bounds.proofs.Verdicts.{word_through, handed_on, ok_tells, err_tells}
+use Rattle.bounds.proofs.Verdicts.{word_through, handed_on, err_tells}
 use Rattle.sizes.proofs.Normal.{exponent_small}
 use Rattle.write.specs.Writes.{is_negative}
+use Rattle.write.proofs.Told.{told}
 use Rattle.whole.specs.Wholes.{over_test, IsTakenWhole, TakesWhole}
 use Rattle.whole.specs.Parts.{TakesSize}
 use Rattle.whole.proofs.LimitLarge.{whole_where_large}
 use Rattle.whole.proofs.WholeValues.{value_of, taken_as_itself}
 use Rattle.whole.proofs.taking.take_whole.Goals as goal
-
--- what the word's size tells
-told : (n w : ℕ) {a b : WordSize} → ReadsSize n w (Ok a) → a ≡ b → (word_test n w ≡ passed) × IsWordSize (takum n w) b
-unfolding ReadsSize
-told n w {a} h q = let t = ok_tells (IsWordSize (takum n w)) a h in (t.0, subst (IsWordSize (takum n w)) q t.1)
 
 pub take_number-requires : goal.take_number-requires
 unfolding IsWordSize

@@ -9,8 +9,7 @@ use Rattle.bounds.specs.Sayings.{plain}
 use Rattle.bounds.specs.Widths.{nar_word}
 use Rattle.bounds.proofs.Answers.{word_said, decided_said}
 use Rattle.bounds.proofs.Goods.{good_through, good_refused}
-use Rattle.bounds.proofs.Verdicts.{told_move, width_through, answered, handed_on, ok_tells, err_tells}
-use Rattle.sizes.specs.declared.size.WordSize.{WordSize}
+use Rattle.bounds.proofs.Verdicts.{told_move, width_through, answered, handed_on, err_tells}
 use Rattle.sizes.specs.Sizes.{IsWordSize, ReadsSize}
 use Rattle.word.specs.Reads.{IsNumber}
 use Rattle.word.specs.Takum.{Takum, takum}
@@ -20,13 +19,9 @@ use Rattle.round.specs.Sayings.{WritesShortAndSays, WritesSizeAndSays}
 use Rattle.round.proofs.Rules.{zero_value, zero_written}
 use Rattle.write.specs.Writes.{is_negative, IsMoved, Moves}
 use Rattle.write.specs.Sayings.{SaysMoved, MovesAndSays}
+use Rattle.write.proofs.Told.{told}
 use Rattle.write.proofs.Meanings.{number_moved, number_said}
 use Rattle.write.proofs.moving.move_word.Goals as goal
-
--- what the word's size tells
-told : (n w : ℕ) {a b : WordSize} → ReadsSize n w (Ok a) → a ≡ b → (word_test n w ≡ passed) × IsWordSize (takum n w) b
-unfolding ReadsSize
-told n w {a} h q = let t = ok_tells (IsWordSize (takum n w)) a h in (t.0, subst (IsWordSize (takum n w)) q t.1)
 
 -- both widths and the word, in the order of the paper
 tested : (n n' w : ℕ) → width_test n' ≡ passed → {v : Verdict} → word_test n w ≡ v → width_test n then width_test n' then stray_test n w ≡ v

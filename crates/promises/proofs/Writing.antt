@@ -1,6 +1,6 @@
 -- The demands that specs/Writing.antt states, from the laws of writing. Assumes nothing.
 use Rattle.std.specs.Prelude.{Ok, Err}
-use Rattle.bounds.specs.Refusals.{passed, Answer}
+use Rattle.bounds.specs.Refusals.{passed, Answer, Verdict}
 use mathlib.Core.Path.{◌≡◌, refl, sym, ap, ap₂, ◌∙◌, subst}
 use mathlib.Core.Bool.{Bool, true, false, not}
 use mathlib.Core.List.{List, [], ◌∷◌}

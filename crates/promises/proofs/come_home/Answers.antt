@@ -32,13 +32,20 @@ unfolding Goes
 ended home n w ns i r l m = subst (λ (l : List ℕ). Goes home n w l r) (sym (drop_of_length-le ns l)) m
 
 pub returns-in_err-carried : goal.returns-in_err-carried
-returns-in_err-carried c = ?
+unfolding MovesAndSays
+returns-in_err-carried c =
+    goes_home _ _ _ _ (c.loop-bits.invariant _ (subst (Goes _ _ _ _) (sym (handed _ _ c.from_residual.ensures.1)) (stopped _ _ _ _ _ _ c.loop-bits-test.true c.in_err-carried.ensures.answers)))
 
 pub loop-bits-preserved : goal.loop-bits-preserved
-loop-bits-preserved c = ?
+unfolding MovesAndSays
+loop-bits-preserved c =
+    λ r x. c.loop-bits.invariant r (further _ _ _ _ _ _ r c.loop-bits-test.true c.in_ok-carried.ensures.answers x)
 
 pub returns-in_err-move_word : goal.returns-in_err-move_word
-returns-in_err-move_word c = ?
+unfolding MovesAndSays
+returns-in_err-move_word c =
+    goes_home _ _ _ _ (c.loop-bits.invariant _ (ended _ _ _ _ _ _ c.loop-bits-test.false (subst (Moves _ _ Rule.Strict _) (sym (handed _ _ c.from_residual-in_err-move_word.ensures.1)) c.in_err-move_word.ensures.answers)))
 
 pub returns : goal.returns
-returns c = ?
+unfolding MovesAndSays
+returns c = goes_home _ _ _ _ (c.loop-bits.invariant _ (ended _ _ _ _ _ _ c.loop-bits-test.false c.in_ok-move_word.ensures.answers))

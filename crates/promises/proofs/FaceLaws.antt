@@ -109,7 +109,7 @@ is_strict_lem false e = absurd (rounded_strict e)
 
 pub takes_strictly : (strict : Bool) → taking_of (numbered strict) ≡ Taking.Strict → strict ≡ true
 takes_strictly true e = refl
-takes_strictly false e = let z : ◌≡◌ {A = ℕ} 0 1 = cc in absurd (omega arith)
+takes_strictly false e = absurd cc
 
 pub rule_retold : {A : Type 0} (R : Refusal → A) (a : A) (lines : List Line) (number : ℕ) (strict : Bool) (C : Type 0) → Follows R a (lines ++ line number ((rule_of (numbered strict) ≡ Rule.Strict) × C) ∷ []) → Follows R a (lines ++ line number ((strict ≡ true) × C) ∷ [])
 rule_retold R a lines number strict C = last_retold R a lines number _ _ (λ h. (is_strict_lem strict h.0, h.1)) (λ h. (ap (λ (b : Bool). rule_of (numbered b)) h.0, h.1))

@@ -1,5 +1,6 @@
 -- What the exported calls that write, move and take numbers hand over, from their contracts. Assumes nothing.
 use Rattle.std.specs.Prelude.{Ok, Err}
+use Rattle.bounds.specs.declared.width.Width.{Width}
 use Rattle.bounds.specs.Refusals.{passed, Answer}
 use mathlib.Core.Path.{◌≡◌, refl, sym, ap, ◌∙◌, subst}
 use mathlib.Core.Bool.{Bool, true, false, false≢true}

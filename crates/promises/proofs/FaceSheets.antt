@@ -37,7 +37,7 @@ module _ (n number : ℕ) (words before after : List ℕ) where
         inside = x.0;
         lowest = λ i l. none_at (get_or words i 0) (x.1 i l);
         is = handed_so (λ q. Err (ListRefusal.At p q)) (Err (ListRefusal.At p q)) (number_of q) (stray n (get_or words p 0) ∷ []) _ _ (λ q' h. (ap number_of (same q' h), y)) (λ none. none q refl)
-            (refusals_follow_the_table.write_position n words before (Err (ListRefusal.At p q)) z (λ q' h. let e : ◌≡◌ {A = ℕ} 0 1 = cc in omega arith) p x.0 (λ j q' l h. let e : p ≡ j = cc in omega (arith, l, e)));
+            (refusals_follow_the_table.write_position n words before (Err (ListRefusal.At p q)) z (λ q' h. cc) p x.0 (λ j q' l h. let e : p ≡ j = cc in omega (arith, l, e)));
       })
     where
       same : (q' : Refusal) → ◌≡◌ {A = ListAnswer ⊤} (Err (ListRefusal.At p q)) (Err (ListRefusal.At p q')) → q ≡ q'

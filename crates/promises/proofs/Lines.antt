@@ -39,7 +39,7 @@ stray_tells n w = by (dec_lt w (2 ^ n))
 -- ---- a contract with tests in a row, taken apart
 pub parts : {v u : Verdict} {P : Refusal → Type 0} {Q : Type 0} → Decided (v then u) P Q → Decided v P (Decided u P Q)
 parts {v = Ok _} x = through refl x
-parts {v = Err q} (through h x) = let z : ◌≡◌ {A = ℕ} 0 1 = cc in absurd (omega arith)
+parts {v = Err q} (through h x) = absurd cc
 parts {v = Err q} (refused h x) = refused h x
 
 -- one line, and what comes after it

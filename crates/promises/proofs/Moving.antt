@@ -171,12 +171,12 @@ not_reversed x y u v keeps keeps' = ⊎_elim (λ e. inl (order_is u v (int_cmp x
 answered_order : (n x y : ℕ) (o : Ordering) → Compares n x y (Ok o) → IsWord n x × IsWord n y × (int_cmp (signed n x) (signed n y) ≡ o)
 unfolding Compares
 answered_order n x y o (through h e) = let t = words_through n x y h in (t.0, t.1, cc)
-answered_order n x y o (refused h e) = let z : ◌≡◌ {A = ℕ} 0 1 = cc in absurd (omega arith)
+answered_order n x y o (refused h e) = absurd cc
 
 pub moving_never_reverses_the_order : promise.MovingNeverReversesTheOrder
 unfolding promise.MovingNeverReversesTheOrder GoesCompared
-moving_never_reverses_the_order a b x y before after p (stops q m e) = let z : ◌≡◌ {A = ℕ} 0 1 = cc in absurd (omega arith)
-moving_never_reverses_the_order a b x y before after p (goes_on u m (stops q m' e)) = let z : ◌≡◌ {A = ℕ} 0 1 = cc in absurd (omega arith)
+moving_never_reverses_the_order a b x y before after p (stops q m e) = absurd cc
+moving_never_reverses_the_order a b x y before after p (goes_on u m (stops q m' e)) = absurd cc
 moving_never_reverses_the_order a b x y before after p (goes_on u m (goes_on v m' q)) =
     subst₂ IsNotReversed (answered_order a x y before p).2 (answered_order b u v after q).2
     (not_reversed (signed a x) (signed a y) (signed b u) (signed b v) (still_not_greater a b x y u v m m') (still_not_greater a b y x v u m' m))
@@ -189,8 +189,8 @@ moved_real b z v (other h x) = (_, x.is.means)
 
 pub NaR_stays_below_every_other_word : promise.NaRStaysBelowEveryOtherWord
 unfolding promise.NaRStaysBelowEveryOtherWord GoesCompared IsMoved nar_word word_of
-NaR_stays_below_every_other_word a b x y z after p p' (stops q m e) = let z : ◌≡◌ {A = ℕ} 0 1 = cc in absurd (omega arith)
-NaR_stays_below_every_other_word a b x y z after p p' (goes_on u m (stops q m' e)) = let z : ◌≡◌ {A = ℕ} 0 1 = cc in absurd (omega arith)
+NaR_stays_below_every_other_word a b x y z after p p' (stops q m e) = absurd cc
+NaR_stays_below_every_other_word a b x y z after p p' (goes_on u m (stops q m' e)) = absurd cc
 NaR_stays_below_every_other_word a b x y z after p p' (goes_on u m (goes_on v m' q)) =
     let t = answered_order b u v after q in
     let nar = takum_NaR b u t.0.least t.0.most (ap word_of (subst (λ (s : Takum). IsMoved b Rule.Rounded s (Ok u)) p (moved_meaning a b x u m))) in

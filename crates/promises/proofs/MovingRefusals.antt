@@ -47,7 +47,7 @@ only_width a b w r i x = so_too Err r (width b ∷ []) _ _ (past Err r 2 _ [] (n
 opposite_word : (n w o : ℕ) → Negates n w (Ok o) → IsWord n o
 unfolding Negates word_of
 opposite_word n w o (through h e) = subst (IsWord n) (sym (ap word_of e)) (negated_word n w (word_through n w h))
-opposite_word n w o (refused h e) = let z : ◌≡◌ {A = ℕ} 0 1 = cc in absurd (omega arith)
+opposite_word n w o (refused h e) = absurd cc
 
 -- ---- the three functions
 pub out_and_back_follows : (a b c w : ℕ) (r : Answer ℕ) → GoesOutAndBack a b c Rule.Rounded w r → Follows Err r (width a ∷ width b ∷ stray a w ∷ width c ∷ [])

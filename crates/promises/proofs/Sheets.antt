@@ -42,7 +42,7 @@ a_refused_write_leaves_the_buffer n number words before after (Err (ListRefusal.
 let_through : (n : ℕ) (words buffer : List ℕ) → WritesBlock n words buffer (Ok tt) → Fitting n (length words) buffer
 unfolding WritesBlock
 let_through n words buffer (through h x) = fitting n (length words) buffer h
-let_through n words buffer (refused h e) = let z : ◌≡◌ {A = ℕ} 0 1 = cc in absurd (omega arith)
+let_through n words buffer (refused h e) = absurd cc
 
 pub a_written_block_reads_back : promise.AWrittenBlockReadsBack
 unfolding promise.AWrittenBlockReadsBack FillsBuffer

@@ -66,20 +66,20 @@ module _ {A : Type 0} {R : Refusal → A} {a : A} {Q : Type 0} where
 
 -- two constructors differ
 pub rounded_strict : Rule.Rounded ≡ Rule.Strict → ⊥
-rounded_strict e = let z : ◌≡◌ {A = ℕ} 0 1 = cc in omega arith
+rounded_strict e = cc
 
 pub answer_none : {A : Type 0} (x : A) (a : Answer A) → a ≡ Ok x → (q : Refusal) → a ≡ Err q → ⊥
-answer_none x a p q e = let z : ◌≡◌ {A = ℕ} 0 1 = cc in omega arith
+answer_none x a p q e = cc
 
 pub number_none : (t : Takum) (a : Binary64) → taken.IsTakenBinary64 t a → (q : Refusal) → a ≡ Binary64.Refused q → ⊥
 unfolding taken.IsTakenBinary64
-number_none (real z) a x q e = let z : ◌≡◌ {A = ℕ} 0 1 = cc in omega arith
-number_none NaR a x q e = let z : ◌≡◌ {A = ℕ} 0 1 = cc in omega arith
+number_none (real z) a x q e = cc
+number_none NaR a x q e = cc
 
 pub compare_follows : (n x y : ℕ) (a : Answer Ordering) → Compares n x y a → Follows Err a (width n ∷ stray n x ∷ stray n y ∷ [])
 unfolding Follows FollowsUpTo Compares
 compare_follows n x y a h =
-    follow Refusal.Width (width_tells n) (parts (parts h)) (λ e h. follow Refusal.Stray (stray_tells n x) h (λ e h. follow Refusal.Stray (stray_tells n y) h (λ e p q k. let z : ◌≡◌ {A = ℕ} 0 1 = cc in omega arith)))
+    follow Refusal.Width (width_tells n) (parts (parts h)) (λ e h. follow Refusal.Stray (stray_tells n x) h (λ e h. follow Refusal.Stray (stray_tells n y) h (λ e p q k. cc)))
 
 pub test_follows : (n : ℕ) (a : Verdict) → a ≡ width_test n → Follows Err a (width n ∷ [])
 test_follows n a x = of_width n (answer_none tt a) (verdict_decided x)
@@ -200,7 +200,7 @@ module _ (n w : ℕ) (i : IsWord n w) (z x : ℤ) (means : takum n w ≡ real z)
 
   inexact_tells : (rule : Taking) → Tells (inexact_test rule z x) Refusal.Inexact ((rule ≡ Taking.Strict) × ((y : ℤ) → IsWhole n y w → ⊥))
   unfolding inexact_test
-  inexact_tells Taking.Nearest = fails refl (λ h. let q = h.0 in let e : ◌≡◌ {A = ℕ} 0 1 = cc in omega arith)
+  inexact_tells Taking.Nearest = fails refl (λ h. let q = h.0 in cc)
   inexact_tells Taking.Strict = by (eqb (nat_abs x * 2 ^ 307) (nat_abs z)) refl
     where
       by : (b : Bool) → eqb (nat_abs x * 2 ^ 307) (nat_abs z) ≡ b → Tells (cond b passed (Err Refusal.Inexact)) Refusal.Inexact ((Taking.Strict ≡ Taking.Strict) × ((y : ℤ) → IsWhole n y w → ⊥))
@@ -215,11 +215,11 @@ take_whole_follows n rule w a x = follow Refusal.Width (width_tells n) (parts x)
     by NaR q i y = inl (q, record { q = Refusal.Nar; is = y; known = refl })
     by (real z) q i (x, near, d) = inr (
       λ h. not_NaR z (sym q ∙ h),
-      follow Refusal.Over (over_tells n w i z x q near) (parts d) (λ e y. follow Refusal.Inexact (inexact_tells n w i z x q near rule) y (λ e' h p k. let e : ◌≡◌ {A = ℕ} 0 1 = cc in omega arith)),
+      follow Refusal.Over (over_tells n w i z x q near) (parts d) (λ e y. follow Refusal.Inexact (inexact_tells n w i z x q near rule) y (λ e' h p k. cc)),
     )
 
 -- the shortest width has one line, which is the contract's own
 pub shortest_follows : (x : ℤ) (a : Answer Width) → GivesShortest x a → Follows Err a (no_width x ∷ [])
 unfolding Follows FollowsUpTo GivesShortest HasWord IsWhole
-shortest_follows x (Ok n) y = inr ((λ none. none n.bits y.has.0 y.least y.most y.has.1), λ q e. let z : ◌≡◌ {A = ℕ} 0 1 = cc in omega arith)
+shortest_follows x (Ok n) y = inr ((λ none. none n.bits y.has.0 y.least y.most y.has.1), λ q e. cc)
 shortest_follows x (Err q) y = inl ((λ n w lo hi v. y.1 n lo hi (w, v)), record { q = Refusal.Inexact; is = ap Err y.0; known = refl })

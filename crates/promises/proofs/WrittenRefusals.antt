@@ -65,4 +65,4 @@ module _ (n : ℕ) (words buffer : List ℕ) where
   pub position_inside : (i : ℕ) (q : Refusal) → WritesBlock n words buffer (Err (ListRefusal.At i q)) → i < length words
   unfolding WritesBlock IsTried
   position_inside i q (through h x) = x.0
-  position_inside i q (refused h e) = let z : ◌≡◌ {A = ℕ} 0 1 = cc in absurd (omega arith)
+  position_inside i q (refused h e) = absurd cc

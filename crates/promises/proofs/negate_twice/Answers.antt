@@ -22,11 +22,11 @@ back n w o a (through v h) x = through v (answered (word_passes n o word) x ∙ 
 
     word : IsWord n o
     word = subst (λ (y : ℕ). IsWord n y) (sym same) (negated_word n w (word_through n w v))
-back n w o a (refused v h) x = let z : ◌≡◌ {A = ℕ} 0 1 = cc in absurd (omega arith)
+back n w o a (refused v h) x = absurd cc
 
 refusal : (n w : ℕ) (q : Refusal) → Negates n w (Err q) → word_test n w ≡ Err q
 unfolding Negates
-refusal n w q (through v h) = let z : ◌≡◌ {A = ℕ} 0 1 = cc in absurd (omega arith)
+refusal n w q (through v h) = absurd cc
 refusal n w q (refused {q = p} v h) = let same : p ≡ q = cc in v ∙ ap Err same
 
 pub returns-in_err-opposite : goal.returns-in_err-opposite

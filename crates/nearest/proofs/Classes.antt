@@ -13,7 +13,7 @@ use Rattle.word.specs.Reads.{num, den}
 use Rattle.word.proofs.Units.{unit_some}
 use Rattle.word.proofs.Numbers.{characteristic_of_string}
 use Rattle.nearest.specs.declared.size.Rest.{Rest}
-use Rattle.nearest.specs.declared.size.Start.{Start}
+use Rattle.nearest.specs.declared.start.Start.{Start}
 use Rattle.nearest.specs.Offers.{Amounts, IsOffered, IsNearest}
 use Rattle.nearest.specs.Parts.{Begins, first_bits, IsRaised, chosen_of}
 use Rattle.nearest.proofs.Exponents.{raise}
@@ -61,7 +61,7 @@ some_size m rest k = (
 -- ---- and has a nearest word
 module _ (n : ℕ) (lo : 2 ≤ n) (hi : n ≤ 64) (m : ℕ) (rest : Rest) (full : 2 ^ 63 ≤ m) (top : m < 2 ^ 64) where
   -- ---- inside the range
-  module _ (h : ℤ) (e : ℕ) (start : Start) (is : IsRaised h e) (begins : Begins h start) (v : ℕ) (v_is : v ≡ first_bits start m / 2 ^ (64 - n)) where
+  module _ (h : ℤ) (e : ℕ) (start : Start) (is : IsRaised h e) (begins : Begins h start.bits start.r) (v : ℕ) (v_is : v ≡ first_bits start m / 2 ^ (64 - n)) where
     between : zero < v → suc v < 2 ^ (n - 1) → Dec (n < 5 + start.r) → (w : ℕ) × IsNearest n h m rest w
     unfolding IsRaised
     between first room (yes short) =

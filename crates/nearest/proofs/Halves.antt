@@ -1,6 +1,5 @@
 -- An exact size (m + rest) units, rest being below one unit, against a half and against the midpoint of two powers of two. Assumes nothing.
 use mathlib.Core.Path.{◌≡◌, refl, sym, ap, ◌∙◌, subst}
-use mathlib.Core.Bool.{true, false, true≢false}
 use Prim.Native.Nat.{ℕ, zero, ◌+◌, ◌-◌, ◌*◌, ◌^◌, ◌≤◌, ◌<◌}
 use native.Mathlib.Nat.{mul-le-mul_right, mul-lt-mul_of_pos_right, mul_right_comm, lt_of_mul-lt-mul_right, eq_of_mul-eq-mul_right, one-mul, mod-lt, le_antisymm}
 use native.Mathlib.Decide.{dec_lt}

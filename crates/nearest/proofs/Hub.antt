@@ -2,19 +2,19 @@
 use mathlib.Core.Path.{◌≡◌, refl, sym, ap, ◌∙◌, subst}
 use mathlib.Core.Bool.{false}
 use Prim.Native.Nat.{ℕ, zero, suc, ◌+◌, ◌-◌, ◌*◌, ◌/◌, ◌%◌, ◌^◌, ◌≤◌, ◌<◌}
-use native.Mathlib.Nat.{mul-one, add-mul, mul-le-mul_right, mul-le-mul, mul-lt-mul_of_pos_right, zero-mul, le_trans, le_of_eq, le_of_lt, lt_of_lt_of_le, lt_of_le_of_lt, lt_of_mul-lt-mul_right, zero-lt-suc, mul_assoc, mul_right_comm, mul-pos, one-mul, le-add_right}
+use native.Mathlib.Nat.{mul-one, add-mul, mul-le-mul_right, mul-le-mul, mul-lt-mul_of_pos_right, zero-mul, le_trans, le_of_eq, le_of_lt, lt_of_lt_of_le, lt_of_le_of_lt, lt_of_mul-lt-mul_right, zero-lt-suc, mul_assoc, mul_right_comm, mul-pos, one-mul}
 use native.Mathlib.Numerals.{add-one}
 use native.Mathlib.Omega.{arith}
 use lib.IntN.{ℤ, pos, negsuc, ◌-ℤ◌}
 use lib.Pow.{pow_pos, pow_mono, shr_lt, mod-mod-pow}
-use Rattle.word.specs.Takum.{S, c}
+use Rattle.word.specs.Takum.{c}
 use Rattle.word.specs.Reads.{num, den}
-use Rattle.bounds.proofs.Powers.{pow_sum, shl_below, shl_out, shr_none}
+use Rattle.bounds.proofs.Powers.{pow_sum, shl_below, shl_out}
 use Rattle.word.proofs.Sizes.{size_above, size_below}
 use Rattle.word.proofs.Values.{grown, grown_suc}
 use Rattle.nearest.specs.declared.size.Rest.{Rest}
 use Rattle.std.specs.declared.cmp.Ordering.{Ordering}
-use Rattle.nearest.specs.declared.size.Start.{Start}
+use Rattle.nearest.specs.declared.start.Start.{Start}
 use Rattle.nearest.specs.Nearest.{HasValue, Nearest}
 use Rattle.nearest.specs.Offers.{Amounts, IsOffered, IsNearest}
 use Rattle.nearest.specs.Parts.{Begins, first_bits, IsRaised, TellsSide, TellsPowers, chosen_of, ChoosesByCut}
@@ -27,12 +27,6 @@ use Rattle.nearest.proofs.Sides.{TellsMidpoint, floor_is, Given, fine_cut, coars
 use Rattle.nearest.proofs.Places.{increasing, two, word_of, has_value, to_word}
 
 -- a start leaves room for its sign
-pub start_lt : (h : ℤ) (start : Start) → Begins h start → start.bits < 2 ^ (4 + start.r)
-unfolding S
-start_lt h start begins =
-    lt_of_mul-lt-mul_right (2 ^ (59 - start.r))
-    (subst (λ (x : ℕ). start.bits * 2 ^ (59 - start.r) < x) (sym (pow_sum (4 + start.r) (59 - start.r) 63 (omega (arith, begins.regime)))) (lt_of_le_of_lt (le-add_right (start.bits * 2 ^ (59 - start.r)) 0) (shr_none 63 (start.bits * 2 ^ (59 - start.r) + 0) (begins.sign 0 (pow_pos (59 - start.r))))))
-
 -- a shift by one and one by k drop what one shift by both drops
 pub two_shifts : (m k j : ℕ) → k ≤ 64 → j ≡ 1 + k → m * 2 ^ 1 % 2 ^ 64 * 2 ^ k % 2 ^ 64 ≡ m * 2 ^ j % 2 ^ 64
 two_shifts m k j h q =
@@ -100,24 +94,24 @@ module _ (n : ℕ) (lo : 2 ≤ n) (hi : n ≤ 64) where
       place a b 1 (at_first (grown n) (2 ^ (n - 1)) a b (increasing n lo hi) some (omega (arith, two n lo hi)) (le_of_lt (before_all i m rest far full top a b some offered).1))
 
   -- ---- inside the range
-  module _ (h : ℤ) (e m : ℕ) (rest : Rest) (start : Start) (is : IsRaised h e) (begins : Begins h start) (full : 2 ^ 63 ≤ m) (top : m < 2 ^ 64) (v : ℕ) (v_is : v ≡ first_bits start m / 2 ^ (64 - n)) where
+  module _ (h : ℤ) (e m : ℕ) (rest : Rest) (start : Start) (is : IsRaised h e) (begins : Begins h start.bits start.r) (full : 2 ^ 63 ≤ m) (top : m < 2 ^ 64) (v : ℕ) (v_is : v ≡ first_bits start m / 2 ^ (64 - n)) where
     word : v ≡ floor_string start.bits (59 - start.r) m / 2 ^ (64 - n)
     word = v_is ∙ ap (λ (x : ℕ). x / 2 ^ (64 - n)) (floor_is start m begins.regime)
 
     module _ (a b : ℕ) (some : zero < b) (offered : IsOffered m rest (h -ℤ pos 63) a b) where
       low : zero < v → grown n v * b ≤ a
       low p =
-          let K = binade_of h e start is begins in
+          let K = binade_of h e start.bits start.r is begins in
           subst (λ (x : ℕ). grown n x * b ≤ a) (sym word) (word_low h e start.bits (59 - start.r) K.0 K.1 m full top rest a b some offered n lo hi (subst (λ (x : ℕ). zero < x) word p))
 
       high : suc v < 2 ^ (n - 1) → a ≤ grown n (suc v) * b
       high p =
-          let K = binade_of h e start is begins in
+          let K = binade_of h e start.bits start.r is begins in
           subst (λ (x : ℕ). a ≤ grown n (suc x) * b) (sym word) (le_of_lt (word_high h e start.bits (59 - start.r) K.0 K.1 m full top rest a b some offered n lo hi (subst (λ (x : ℕ). suc x < 2 ^ (n - 1)) word p)))
 
     pub below_end : v < 2 ^ (n - 1)
     below_end =
-        let K = binade_of h e start is begins in
+        let K = binade_of h e start.bits start.r is begins in
         subst (λ (x : ℕ). x < 2 ^ (n - 1)) (sym word) (shr_lt (n - 1) (64 - n) (subst (λ (x : ℕ). floor_string start.bits (59 - start.r) m < 2 ^ x) length (floor_lt h e start.bits (59 - start.r) K.0 K.1 m full top)))
       where
         length : 63 ≡ n - 1 + (64 - n)
@@ -172,7 +166,7 @@ module _ (n : ℕ) (lo : 2 ≤ n) (hi : n ≤ 64) where
             full = full;
             top = top;
             is = v_is;
-            begins = λ h' q. subst (λ (z : ℤ). Begins z start) (raised_same h h' e is q) begins;
+            begins = λ h' q. subst (λ (z : ℤ). Begins z start.bits start.r) (raised_same h h' e is q) begins;
           }
 
       -- where the cut falls before the fraction

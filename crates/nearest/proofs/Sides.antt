@@ -19,7 +19,7 @@ use Rattle.word.proofs.Sizes.{size, size_lt}
 use Rattle.word.proofs.Values.{grown, grown_suc, grown_lt}
 use Rattle.nearest.specs.declared.size.Rest.{Rest}
 use Rattle.std.specs.declared.cmp.Ordering.{Ordering}
-use Rattle.nearest.specs.declared.size.Start.{Start}
+use Rattle.nearest.specs.declared.start.Start.{Start}
 use Rattle.nearest.specs.Nearest.{HasValue}
 use Rattle.nearest.specs.Offers.{IsOffered}
 use Rattle.nearest.specs.Parts.{Begins, first_bits, IsRaised, TellsSide, TellsHalf, TellsPowers, chosen_of, ChoosesByCut}
@@ -56,7 +56,7 @@ pub record Given (n low e m : ℕ) (start : Start) : Type 0 where
   pub full : 2 ^ 63 ≤ m
   pub top : m < 2 ^ 64
   pub is : low ≡ first_bits start m / 2 ^ (64 - n)
-  pub begins : (h : ℤ) → IsRaised h e → Begins h start
+  pub begins : (h : ℤ) → IsRaised h e → Begins h start.bits start.r
 
 module _ (n low e m : ℕ) (start : Start) (given : Given n low e m start) where
   pub seven : start.r ≤ 7
@@ -77,7 +77,7 @@ module _ (n low e m : ℕ) (start : Start) (given : Given n low e m start) where
   pub fine_tells : (rest : Rest) (side : Ordering) → 5 + start.r ≤ n → TellsHalf (m % 2 ^ (64 - (n - start.r - 4))) (2 ^ (63 - (n - start.r - 4))) rest side → TellsMidpoint n low e m rest side
   unfolding TellsMidpoint
   fine_tells rest side fine t = λ h a b z z' is some offered hz hz'.
-      let K = binade_of h e start is (given.begins h is) in
+      let K = binade_of h e start.bits start.r is (given.begins h is) in
       subst (λ (x : ℕ). TellsSide side (2 * a) (x * b)) (sym (sizes z z' hz hz' ∙ ap (λ (x : ℕ). grown n x + grown n (suc x)) word))
       (fine_side h e start.bits (59 - start.r) K.0 K.1 m given.full given.top rest a b some offered n given.lo given.hi (omega (arith, fine, seven, given.hi))
       (subst (λ (x : ℕ). suc x < 2 ^ (n - 1)) word next_room) (subst (λ (x : ℕ). zero < x) word given.first) side
@@ -100,7 +100,7 @@ module _ (n low e m : ℕ) (start : Start) (given : Given n low e m start) where
     string = floor_string start.bits (59 - start.r) m
 
     binade : (K : ℕ) × Binade (pos e -ℤ pos 255) e start.bits (59 - start.r) K
-    binade = binade_of (pos e -ℤ pos 255) e start (lowered e) (given.begins (pos e -ℤ pos 255) (lowered e))
+    binade = binade_of (pos e -ℤ pos 255) e start.bits start.r (lowered e) (given.begins (pos e -ℤ pos 255) (lowered e))
 
     -- the word from the string's head, which has the regime of the start
     word_of_head : low ≡ string / 2 ^ 52 / 2 ^ (12 - n)

@@ -1,6 +1,6 @@
 -- What the parts of `nearest` answer: how strings begin, on which side of a midpoint a size lies, and which word is chosen so. All serve private
 -- functions.
-use Rattle.std.specs.Prelude.{◌≡◌, Bool, true, false, not, cond, eqb, ◌⊎◌, ℕ, suc, ◌+◌, ◌-◌, ◌*◌, ◌/◌, ◌%◌, ◌^◌, ◌≤◌, ◌<◌, ℤ, pos, ◌+ℤ◌}
+use Rattle.std.specs.Prelude.{◌≡◌, Option, Some, None, Bool, true, false, not, cond, eqb, ◌⊎◌, ℕ, suc, ◌+◌, ◌-◌, ◌*◌, ◌/◌, ◌%◌, ◌^◌, ◌≤◌, ◌<◌, ℤ, pos, ◌+ℤ◌}
 use Rattle.std.specs.Int.Signed.{mag}
 use Rattle.std.specs.declared.cmp.Ordering.{Ordering}
 use Rattle.std.specs.declared.cmp.Ordering.TheVariants.{Less, Equal, Greater}
@@ -12,21 +12,22 @@ use Rattle.word.specs.Takum as Takum
 use Rattle.nearest.specs.declared.size.Lies.{Lies}
 use Rattle.nearest.specs.declared.size.Near.{Near}
 use Rattle.nearest.specs.declared.size.Rest.{Rest}
-use Rattle.nearest.specs.declared.size.Start.{Start}
+use Rattle.nearest.specs.declared.start.Characteristic.{Characteristic}
+use Rattle.nearest.specs.declared.start.Start.{Start}
 use Rattle.nearest.specs.Offers.{Amounts, IsNearest}
 use Rattle.nearest.specs.Sayings.{SaysOffered}
 
 -- whether h is a characteristic, from -255 to 254
-unfoldable pub TellsCharacteristic : ℤ → Bool → Type 0
-TellsCharacteristic h true = mag h ≤ 254
-TellsCharacteristic h false = 254 < mag h
+unfoldable pub IsCharacteristic : ℤ → Option Characteristic → Type 0
+IsCharacteristic h (Some c) = c.c ≡ h
+IsCharacteristic h None = 254 < mag h
 
 -- every string of 64 bits that begins with sign 0 and these bits has this regime and the characteristic c
-pub record Begins (c : ℤ) (start : Start) : Type 0 where
-  pub regime : start.r ≤ 7
-  pub sign : (f : ℕ) → f < 2 ^ (59 - start.r) → Takum.S 64 (start.bits * 2 ^ (59 - start.r) + f) ≡ 0
-  pub has_regime : (f : ℕ) → f < 2 ^ (59 - start.r) → Takum.r 64 (start.bits * 2 ^ (59 - start.r) + f) ≡ start.r
-  pub has_characteristic : (f : ℕ) → f < 2 ^ (59 - start.r) → Takum.c 64 (start.bits * 2 ^ (59 - start.r) + f) ≡ c
+pub record Begins (c : ℤ) (bits r : ℕ) : Type 0 where
+  pub regime : r ≤ 7
+  pub sign : (f : ℕ) → f < 2 ^ (59 - r) → Takum.S 64 (bits * 2 ^ (59 - r) + f) ≡ 0
+  pub has_regime : (f : ℕ) → f < 2 ^ (59 - r) → Takum.r 64 (bits * 2 ^ (59 - r) + f) ≡ r
+  pub has_characteristic : (f : ℕ) → f < 2 ^ (59 - r) → Takum.c 64 (bits * 2 ^ (59 - r) + f) ≡ c
 
 -- the start of the characteristic size - 1, its regime being floor(log2 size)
 pub record StartsAbove (size : ℕ) (start : Start) : Type 0 where
@@ -35,8 +36,9 @@ pub record StartsAbove (size : ℕ) (start : Start) : Type 0 where
   pub bits : start.bits ≡ (7 + start.r) * 2 ^ start.r + size
 
 -- the start with every bit turned
-unfoldable pub turned : Start → Start
-turned start = record { bits = 2 ^ (4 + start.r) - 1 - start.bits; r = start.r }
+pub record IsTurned (start turned : Start) : Type 0 where
+  pub bits : turned.bits ≡ 2 ^ (4 + start.r) - 1 - start.bits
+  pub r : turned.r ≡ start.r
 
 -- the first 64 bits of the string of a size with significand m
 unfoldable pub first_bits : Start → ℕ → ℕ

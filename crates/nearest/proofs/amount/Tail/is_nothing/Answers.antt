@@ -1,4 +1,4 @@
--- `nothing_is_cut` meets its contract: the bits cut off, and then the rest. Assumes nothing.
+-- `Tail::is_nothing` meets its contract: the bits cut off, and then the rest. Assumes nothing.
 use mathlib.Core.Logic.{inl, inr}
 use mathlib.Core.Path.{◌≡◌, refl, sym, subst}
 use Prim.Native.Nat.{ℕ}
@@ -8,7 +8,7 @@ use Rattle.nearest.specs.contracts.size.Rest.{the_type}
 use Rattle.nearest.specs.declared.size.Rest.{Rest}
 use native.Mathlib.Nat.{pos_of_ne-zero}
 use Rattle.nearest.specs.Parts.{TellsNothing}
-use Rattle.nearest.proofs.size.nothing_is_cut.Goals as goal
+use Rattle.nearest.proofs.amount.Tail.is_nothing.Goals as goal
 
 Some : Rest → Type 0
 Some Rest.Nothing = ⊥
@@ -24,10 +24,10 @@ tells cut q Rest.UnderHalf = inr (λ e. subst Some e tt)
 tells cut q Rest.Half = inr (λ e. subst Some e tt)
 tells cut q Rest.OverHalf = inr (λ e. subst Some e tt)
 
-pub returns-then-cut-eq0 : goal.returns-then-cut-eq0
+pub returns-then-self-eq0 : goal.returns-then-self-eq0
 unfolding TellsNothing
-returns-then-cut-eq0 c = subst (TellsNothing c.args.cut c.args.rest) (sym c.eq.ensures) (tells c.args.cut c.if-cut-eq0.true c.args.rest)
+returns-then-self-eq0 c = subst (TellsNothing c.args.self.bits c.args.self.rest) (sym c.eq.ensures) (tells c.args.self.bits c.if-self-eq0.true c.args.self.rest)
 
-pub returns-else-cut-eq0 : goal.returns-else-cut-eq0
+pub returns-else-self-eq0 : goal.returns-else-self-eq0
 unfolding TellsNothing
-returns-else-cut-eq0 c = subst (TellsNothing c.args.cut c.args.rest) (sym (ne_eqb _ _ c.if-cut-eq0.false)) (inl (pos_of_ne-zero c.if-cut-eq0.false))
+returns-else-self-eq0 c = subst (TellsNothing c.args.self.bits c.args.self.rest) (sym (ne_eqb _ _ c.if-self-eq0.false)) (inl (pos_of_ne-zero c.if-self-eq0.false))

@@ -5,7 +5,7 @@ use Rattle.std.proofs.lemmas.Cmp.{ranked}
 use Rattle.std.specs.Ordering.{ordering_then}
 use Rattle.nearest.specs.Parts.{TellsHalf}
 use Rattle.nearest.proofs.Halves.{some_side, half_then}
-use Rattle.nearest.proofs.size.against.Goals as goal
+use Rattle.nearest.proofs.amount.against.Goals as goal
 
 pub returns : goal.returns
 returns c =

@@ -1,13 +1,14 @@
--- `first_bits` meets its contract: the shifts lose nothing but the leading one. Assumes nothing.
+-- `Start::first_bits` meets its contract: the shifts lose nothing but the leading one. Assumes nothing.
 use mathlib.Core.Path.{◌≡◌, sym, ap, ap₂, ◌∙◌}
 use Prim.Native.Nat.{ℕ, ◌+◌, ◌-◌, ◌*◌, ◌/◌, ◌%◌, ◌^◌, ◌≤◌, ◌<◌}
+use Rattle.std.proofs.Common.{rules}
 use native.Mathlib.Nat.{lt_of_le_of_lt}
 use native.Mathlib.Omega.{arith}
 use lib.Pow.{shl_exact, shr_le, shr-shr, shl-shr}
-use Rattle.nearest.specs.declared.size.Start.{Start}
+use Rattle.nearest.specs.declared.start.Start.{Start}
 use Rattle.bounds.proofs.Powers.{shl_below}
 use Rattle.nearest.specs.Parts.{first_bits}
-use Rattle.nearest.proofs.size.first_bits.Goals as goal
+use Rattle.nearest.proofs.start.Start.first_bits.Goals as goal
 
 moved : (s : Start) → s.r ≤ 7 → s.bits < 2 ^ (4 + s.r) → s.bits * 2 ^ (59 - s.r) % 2 ^ 64 ≡ s.bits * 2 ^ (59 - s.r)
 moved s seven b = shl_exact (4 + s.r) (59 - s.r) 64 b (omega arith)
@@ -29,8 +30,10 @@ fraction_lt : (r m : ℕ) → r ≤ 7 → m < 2 ^ 64 → (m - 2 ^ 63) / 2 ^ (4 +
 fraction_lt r m seven top = lt_of_le_of_lt (shr_le (m - 2 ^ 63) (4 + r)) (omega arith)
 
 pub overflow_add-result-2 : goal.overflow_add-result-2
-overflow_add-result-2 c = record { fits = omega (arith, moved _ c.requires.0 c.requires.1, moved_lt _ c.requires.0 c.requires.1, fraction _ _ c.requires.0 c.requires.2 c.ranges.m.fits, fraction_lt _ _ c.requires.0 c.ranges.m.fits) }
+overflow_add-result-2 c = let top : c.args.amount.m < 2 ^ 64 = search rules in
+    record { fits = omega (arith, moved c.args.self c.args.self.seven c.args.self.room, moved_lt c.args.self c.args.self.seven c.args.self.room, fraction _ _ c.args.self.seven c.args.amount.normal top, fraction_lt _ _ c.args.self.seven top) }
 
 pub returns : goal.returns
 unfolding first_bits
-returns c = ap₂ (λ (x y : ℕ). x + y) (moved _ c.requires.0 c.requires.1) (fraction _ _ c.requires.0 c.requires.2 c.ranges.m.fits)
+returns c = let top : c.args.amount.m < 2 ^ 64 = search rules in
+    ap₂ (λ (x y : ℕ). x + y) (moved c.args.self c.args.self.seven c.args.self.room) (fraction _ _ c.args.self.seven c.args.amount.normal top)

@@ -1,4 +1,4 @@
--- `raised` meets its contract: no step leaves its bits. Assumes nothing.
+-- `Characteristic::raised` meets its contract: no step leaves its bits. Assumes nothing.
 use mathlib.Core.Path.{◌≡◌, sym, ap, ◌∙◌, subst}
 use Prim.Native.Nat.{ℕ, ◌≤◌}
 use native.Mathlib.Omega.{arith}
@@ -8,11 +8,14 @@ use lib.Signed.{mag, non_neg}
 use mir.Syntax.{w32, w64}
 use mir.Val.{Fits, SFits, to_z, of_z}
 use mir.Facts.{to_z-of_z}
-use Rattle.nearest.proofs.Exponents.{raise}
+use Rattle.nearest.proofs.Exponents.{raise, small_fits}
 use Rattle.nearest.specs.Parts.{IsRaised}
-use Rattle.nearest.proofs.size.raised.Goals as goal
+use Rattle.nearest.proofs.start.Characteristic.raised.Goals as goal
 
-module _ {h : ℤ} (fits : SFits w64 h) (small : mag h ≤ 254) where
+module _ (h : ℤ) (small : mag h ≤ 254) where
+  fits : SFits w64 h
+  fits = small_fits h small
+
   e : ℕ
   e = (raise h small).0
 
@@ -32,11 +35,11 @@ module _ {h : ℤ} (fits : SFits w64 h) (small : mag h ≤ 254) where
   sum = (raise h small).1 ∙ ap (λ (z : ℤ). pos (nat_abs z)) (sym is)
 
 pub overflow_add-result : goal.overflow_add-result
-overflow_add-result c = sum_fits c.ranges.h c.requires
+overflow_add-result c = sum_fits c.args.self.c c.args.self.inside
 
 pub overflow_cast-result : goal.overflow_cast-result
 unfolding e
-overflow_cast-result c = subst (λ (z : ℤ). T (non_neg z) × Fits w32 (nat_abs z)) (sym (is c.ranges.h c.requires)) (tt, record { fits = omega (arith, (raise c.args.h c.requires).2) })
+overflow_cast-result c = subst (λ (z : ℤ). T (non_neg z) × Fits w32 (nat_abs z)) (sym (is c.args.self.c c.args.self.inside)) (tt, record { fits = omega (arith, (raise c.args.self.c c.args.self.inside).2) })
 
 pub returns : goal.returns
-returns c = sum c.ranges.h c.requires
+returns c = sum c.args.self.c c.args.self.inside

@@ -23,9 +23,6 @@ module _ (k : ℤ) (few : mag k ≤ 2 ^ 32) where
     sum_fits : SFits w64 (k +ℤ pos j)
     sum_fits = record { sfits = omega (arith, add_mag k (pos j), few, small) }
 
-    pub raised_fits : SFits w64 (to_z w64 (of_z w64 k) +ℤ to_z w64 j)
-    raised_fits = subst (λ (z : ℤ). SFits w64 z) (sym sum) sum_fits
-
     pub held_sum : to_z w64 (of_z w64 (to_z w64 (of_z w64 k) +ℤ to_z w64 j)) ≡ k +ℤ pos j
     held_sum = ap (λ (z : ℤ). to_z w64 (of_z w64 z)) sum ∙ to_z-of_z sum_fits
 
@@ -37,14 +34,11 @@ module _ (k : ℤ) (fits : SFits w32 k) where
   pub short : mag (to_z w32 (of_z w32 k)) ≤ 2 ^ 32
   short = subst (λ (z : ℤ). mag z ≤ 2 ^ 32) (sym plain) (omega (arith, fits.sfits))
 
-  pub wide : SFits w64 (to_z w32 (of_z w32 k))
+  wide : SFits w64 (to_z w32 (of_z w32 k))
   wide = record { sfits = omega (arith, short) }
 
-  pub cast : to_z w64 (of_z w64 (to_z w32 (of_z w32 k))) ≡ k
+  cast : to_z w64 (of_z w64 (to_z w32 (of_z w32 k))) ≡ k
   cast = to_z-of_z wide ∙ plain
-
-  pub cast_few : mag (to_z w64 (of_z w64 (to_z w32 (of_z w32 k)))) ≤ 2 ^ 32
-  cast_few = subst (λ (z : ℤ). mag z ≤ 2 ^ 32) (sym cast) (omega (arith, fits.sfits))
 
   -- and as it takes 63 away
   lowered : to_z w64 (of_z w64 (to_z w32 (of_z w32 k))) -ℤ pos 63 ≡ k -ℤ pos 63
@@ -55,6 +49,3 @@ module _ (k : ℤ) (fits : SFits w32 k) where
 
   pub held_difference : to_z w64 (of_z w64 (to_z w64 (of_z w64 (to_z w32 (of_z w32 k))) -ℤ pos 63)) ≡ k -ℤ pos 63
   held_difference = ap (λ (z : ℤ). to_z w64 (of_z w64 z)) lowered ∙ to_z-of_z {w = w64} (record { sfits = omega (arith, small) })
-
-  pub difference_few : mag (to_z w64 (of_z w64 (to_z w64 (of_z w64 (to_z w32 (of_z w32 k))) -ℤ pos 63))) ≤ 2 ^ 32
-  difference_few = subst (λ (z : ℤ). mag z ≤ 2 ^ 32) (sym held_difference) small

@@ -32,18 +32,24 @@ pub fn write_short(
 ) -> Result<Written, Refusal>
     ensures { WritesShortAndSays width.bits rule negative m k result }
 {
-    write_at(width, rule, negative, m, k as i64)
+    write_scaled(width, rule, negative, m, k as i64)
 }
 
 // The same of a size as a word is read in, m * 2^(h - 63) with its sign, also where the top bit of m isn't set.
 pub fn write_size(width: Width, rule: Rule, size: Size) -> Result<Written, Refusal>
     ensures { WritesSizeAndSays width.bits rule size result }
 {
-    write_at(width, rule, size.negative, size.m, size.h as i64 - 63)
+    write_scaled(width, rule, size.negative, size.m, size.h as i64 - 63)
 }
 
 // The same of m * 2^k with its sign, k having room for what moves the top bit of m to 2^63.
-fn write_at(width: Width, rule: Rule, negative: bool, m: u64, k: i64) -> Result<Written, Refusal>
+fn write_scaled(
+    width: Width,
+    rule: Rule,
+    negative: bool,
+    m: u64,
+    k: i64,
+) -> Result<Written, Refusal>
     requires { mag k ≤ 2 ^ 32 }
     ensures { WritesShortAndSays width.bits rule negative m k result }
 {

@@ -1,12 +1,7 @@
 -- `number` meets its contract: the cast and the scaling are exact. Assumes nothing.
-use lib.Dec.{le→leb}
-use lib.Ieee.{in_float, of_int}
+use lib.Ieee.{of_int}
 use Rattle.binary64.proofs.Scaling.{scaling_exact}
 use Rattle.binary64.proofs.taking.number.Goals as goal
-
-pub int_to_float-result : goal.int_to_float-result
-unfolding in_float
-int_to_float-result c = le→leb _ _ c.requires.0
 
 pub returns : goal.returns
 unfolding of_int

@@ -4,7 +4,7 @@ use mathlib.Core.Bool.{Bool, true, false, not}
 use Prim.Native.Nat.{ℕ, ◌+◌, ◌*◌, ◌%◌, ◌^◌, ◌≤◌, ◌<◌}
 use native.Mathlib.Omega.{arith}
 use borrow.Author.Tests.{le-ltb}
-use lib.Dec.{T, lit≤}
+use lib.Dec.{T}
 use mir.Val.{bool_byte}
 use lib.Ieee.{binary64, of_bits, nan_bits}
 use lib.Ieee.Bits.{nan_bits_above}
@@ -19,13 +19,6 @@ no_nan b h = subst (λ (t : Bool). T (not t)) (sym (nan_bits_above binary64 b �
 shifted : (negative : Bool) (j : ℕ) → j < 2047 → signed negative (j * 2 ^ 52) ≡ bool_byte negative * 2 ^ 63 % 2 ^ 64 + j * 2 ^ 52 % 2 ^ 64
 shifted false j h = omega (arith, h)
 shifted true j h = omega (arith, h)
-
-sign_small : (negative : Bool) → bool_byte negative ≤ 1
-sign_small true = lit≤ tt
-sign_small false = lit≤ tt
-
-pub overflow_add-result : goal.overflow_add-result
-overflow_add-result c = record { fits = omega (arith, sign_small c.args.negative, c.requires.1) }
 
 pub float_from_bits-result : goal.float_from_bits-result
 float_from_bits-result c = no_nan _ (omega (arith, c.requires.1))

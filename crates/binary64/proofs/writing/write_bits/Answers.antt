@@ -36,9 +36,6 @@ module _ (b : ℕ) where
   field_fits : field b < 2 ^ 11
   field_fits = mask_lt (b / 2 ^ 52) 11
 
-  digits_fit : digits b < 2 ^ 52
-  digits_fit = mask_lt b 52
-
   difference : to_z w32 (field b) -ℤ pos 1075 ≡ pos (field b) -ℤ pos 1075
   difference = ap (λ (z : ℤ). z -ℤ pos 1075) (to_z_pos w32 small)
     where
@@ -75,15 +72,6 @@ returns-then-exponent-eq0 c =
       answers = decided_as (λ q h. h) (written_without_lead _ _ _ b bounded none) c.write.ensures.answers;
       says = λ w q is. said_without_lead _ w q b bounded none (c.write.ensures.says w q is);
     }
-
-pub overflow_add-m : goal.overflow_add-m
-overflow_add-m c = record { fits = omega (arith, digits_fit c.args.bits) }
-
-pub overflow_cast-k : goal.overflow_cast-k
-overflow_cast-k c = record { sfits = omega (arith, field_fits c.args.bits) }
-
-pub overflow_sub-k : goal.overflow_sub-k
-overflow_sub-k c = subst (λ (z : ℤ). SFits w32 z) (sym (difference c.args.bits)) (difference_fits c.args.bits)
 
 pub returns : goal.returns
 unfolding WritesBinary64AndSays WritesBinary64 WritesAndSays Writes

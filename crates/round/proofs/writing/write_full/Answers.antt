@@ -1,10 +1,9 @@
 -- `write_full` meets its contract: the first 64 bits, and what lies below them. Assumes nothing.
 use mathlib.Core.Path.{◌≡◌, sym, ap, ◌∙◌, subst}
 use Prim.Native.Nat.{ℕ, ◌+◌, ◌-◌, ◌*◌, ◌%◌, ◌^◌, ◌≤◌, ◌<◌}
-use native.Mathlib.Nat.{lt_of_le_of_lt, mul-pos, mod-lt}
+use native.Mathlib.Nat.{mul-pos, mod-lt}
 use native.Mathlib.Omega.{arith}
 use borrow.Author.Rules.{rules}
-use lib.Dec.{lit<}
 use lib.Count.{count_leading_zeros}
 use lib.IntN.{ℤ, pos, ◌+ℤ◌, ◌-ℤ◌}
 use lib.Pow.{pow_pos}
@@ -23,7 +22,7 @@ use Rattle.round.specs.Offers.{top_bits}
 use Rattle.round.specs.Writes.{WritesShort}
 use Rattle.round.specs.Sayings.{WritesShortAndSays, WritesLongAndSays}
 use Rattle.round.proofs.Rules.{found_refused, settles}
-use Rattle.round.proofs.Held.{raised_fits, held_sum, short, plain, wide}
+use Rattle.round.proofs.Held.{held_sum, short, plain}
 use Rattle.round.proofs.Long.{few_zeros, high_shifted, top_full, long_offer, some_rest, finer_offer}
 use Rattle.round.proofs.writing.write_full.Goals as goal
 
@@ -38,9 +37,6 @@ module _ (v : LongValue) (some_high : 0 < v.high) (fits : Fits v) where
   few : zeros ≤ 63
   unfolding Fits
   few = few_zeros v.high v.low some_high fits.0 fits.1
-
-  small : 127 - zeros < 2 ^ 31
-  small = omega arith
 
   abbrev h : ℤ
   h = v.k +ℤ pos (127 - zeros)
@@ -68,41 +64,16 @@ module _ (v : LongValue) (some_high : 0 < v.high) (fits : Fits v) where
   unfolding Fits
   full m q = subst (λ (m : ℕ). 2 ^ 63 ≤ m) (sym q) (top_full v.high v.low some_high fits.0 fits.1)
 
--- the exponent, as the machine has it
-module _ (k : ℤ) (fits : SFits w32 k) (j : ℕ) (small : j < 2 ^ 31) where
-  h_fits : SFits w64 (to_z w64 (of_z w64 (to_z w32 (of_z w32 k))) +ℤ to_z w64 j)
-  h_fits = raised_fits (to_z w32 (of_z w32 k)) (short k fits) j small
-
-  h_held : to_z w64 (of_z w64 (to_z w64 (of_z w64 (to_z w32 (of_z w32 k))) +ℤ to_z w64 j)) ≡ k +ℤ pos j
-  h_held = held_sum (to_z w32 (of_z w32 k)) (short k fits) j small ∙ ap (λ (z : ℤ). z +ℤ pos j) (plain k fits)
-
-pub overflow_cast-h : goal.overflow_cast-h
-overflow_cast-h c = let fits : SFits w32 c.args.value.k = search rules in wide c.args.value.k fits
-
-pub overflow_sub-h : goal.overflow_sub-h
-unfolding Fits
-overflow_sub-h c = let fits : Fits c.args.value = (search rules, search rules, search rules) in omega (arith, few c.args.value c.requires fits)
-
-pub overflow_add-h : goal.overflow_add-h
-unfolding Fits
-overflow_add-h c = let fits : Fits c.args.value = (search rules, search rules, search rules) in
-    h_fits c.args.value.k fits.2 (127 - zeros c.args.value c.requires fits) (small c.args.value c.requires fits)
+  -- the exponent, as the machine has it
+  held : to_z w64 (of_z w64 (to_z w64 (of_z w64 (to_z w32 (of_z w32 v.k))) +ℤ to_z w64 (127 - zeros))) ≡ h
+  unfolding Fits
+  held = held_sum (to_z w32 (of_z w32 v.k)) (short v.k fits.2) (127 - zeros) (omega arith) ∙ ap (λ (z : ℤ). z +ℤ pos (127 - zeros)) (plain v.k fits.2)
 
 pub top_bits-m-requires : goal.top_bits-m-requires
 unfolding Fits
 top_bits-m-requires c = let v = c.args.value in
     let fits : Fits v = (search rules, search rules, search rules) in
     (few v c.requires fits, high_shifted v.high v.low c.requires fits.0 fits.1)
-
-pub overflow_cast-below : goal.overflow_cast-below
-unfolding Fits
-overflow_cast-below c = let fits : Fits c.args.value = (search rules, search rules, search rules) in
-    record { fits = lt_of_le_of_lt (few c.args.value c.requires fits) (lit< tt) }
-
-pub overflow_shl-below : goal.overflow_shl-below
-unfolding Fits
-overflow_shl-below c = let fits : Fits c.args.value = (search rules, search rules, search rules) in
-    lt_of_le_of_lt (few c.args.value c.requires fits) (lit< tt)
 
 pub returns-in_err-found : goal.returns-in_err-found
 unfolding WritesLongAndSays WritesShortAndSays WritesShort
@@ -119,6 +90,6 @@ returns c = let v = c.args.value in
     let t = some_rest b in
     subst (WritesLongAndSays n c.args.rule v) (sym c.by_rule.ensures)
     (settles n c.args.rule v.negative (h v some_high fits) m b c.in_ok-found.found (full v some_high fits m c.top_bits-m.ensures) c.top_bits-m.type_inv
-    (subst (λ (z : ℤ). FindsAndSays n v.negative z m b (Ok c.in_ok-found.found)) (h_held v.k fits.2 (127 - zeros v some_high fits) (small v some_high fits)) c.in_ok-found.ensures)
+    (subst (λ (z : ℤ). FindsAndSays n v.negative z m b (Ok c.in_ok-found.found)) (held v some_high fits) c.in_ok-found.ensures)
     t.0 t.1 _ _ (mul-pos (some v some_high fits) (unit_some _).0) (unit_some _).1
     (finer_offer m b t.0 (h v some_high fits) _ _ (unit_some _).1 (below_lt v some_high fits) t.1 (offered v some_high fits m c.top_bits-m.ensures)))

@@ -1,7 +1,6 @@
 -- `write_long` meets its contract: one number or two. Assumes nothing.
 use mathlib.Core.Path.{◌≡◌, subst₂}
 use Prim.Native.Nat.{ℕ, ◌+◌, ◌*◌, ◌^◌}
-use native.Mathlib.Nat.{pos_of_ne-zero}
 use native.Mathlib.Omega.{arith}
 use lib.IntN.{ℤ}
 use mir.Facts.{to_z-of_z}
@@ -18,6 +17,3 @@ returns-then-value-eq0 c = let v = c.args.value in
     let held : to_z w32 (of_z w32 v.k) ≡ v.k = to_z-of_z fits in
     let all : v.low ≡ v.high * 2 ^ 64 + v.low = omega (arith, c.if-value-eq0.true) in
     subst₂ (λ (x : ℕ) (z : ℤ). WritesShortAndSays c.args.width.bits c.args.rule v.negative x z c.write_short.result) all held c.write_short.ensures
-
-pub write_full-requires : goal.write_full-requires
-write_full-requires c = pos_of_ne-zero c.if-value-eq0.false

@@ -5,13 +5,10 @@ use mir.Val.{SFits}
 use mir.Syntax.{w32}
 use borrow.Author.Rules.{rules}
 use Rattle.round.specs.Sayings.{WritesShortAndSays, WritesSizeAndSays}
-use Rattle.round.proofs.Held.{held_difference, difference_few}
+use Rattle.round.proofs.Held.{held_difference}
 use Rattle.round.proofs.writing.write_size.Goals as goal
-
-pub write_at-requires : goal.write_at-requires
-write_at-requires c = let fits : SFits w32 c.args.size.h = search rules in difference_few c.args.size.h fits
 
 pub returns : goal.returns
 unfolding WritesSizeAndSays
 returns c = let fits : SFits w32 c.args.size.h = search rules in
-    subst (λ (z : ℤ). WritesShortAndSays c.args.width.bits c.args.rule c.args.size.negative c.args.size.m z c.write_at.result) (held_difference c.args.size.h fits) c.write_at.ensures
+    subst (λ (z : ℤ). WritesShortAndSays c.args.width.bits c.args.rule c.args.size.negative c.args.size.m z c.write_scaled.result) (held_difference c.args.size.h fits) c.write_scaled.ensures

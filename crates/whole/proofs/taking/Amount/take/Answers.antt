@@ -62,17 +62,11 @@ pub returns-then-self-gt63 : goal.returns-then-self-gt63
 unfolding TakesByEitherRule
 returns-then-self-gt63 c = c.take_far.ensures c.args.rule
 
-pub nearest-requires : goal.nearest-requires
-nearest-requires c = let fits : c.args.self.m < 2 ^ 64 = search rules in few _ _ fits
-
 pub with_sign-requires : goal.with_sign-requires
 with_sign-requires c =
     let a = c.args.self in
     let fits : c.args.self.m < 2 ^ 64 = search rules in
     below c.args.rule a fits c.requires c.if-self-gt63.false c.nearest.result (rounded c.args.rule a fits c.requires c.if-self-gt63.false c.nearest.result c.nearest.ensures)
-
-pub with_sign-requires-then-fraction-eq0 : goal.with_sign-requires-then-fraction-eq0
-with_sign-requires-then-fraction-eq0 c = let fits : c.args.self.m < 2 ^ 64 = search rules in few _ _ fits
 
 pub returns-then-fraction-eq0 : goal.returns-then-fraction-eq0
 unfolding by_rule

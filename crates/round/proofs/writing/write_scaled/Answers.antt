@@ -1,6 +1,6 @@
--- `write_at` meets its contract: zero, and any other significand with its top bit moved to 2^63. Assumes nothing.
-use mathlib.Core.Path.{◌≡◌, refl, sym, ap, ◌∙◌, subst}
-use Prim.Native.Nat.{ℕ, zero, ◌-◌, ◌*◌, ◌%◌, ◌^◌, ◌≤◌, ◌<◌}
+-- `write_scaled` meets its contract: zero, and any other significand with its top bit moved to 2^63. Assumes nothing.
+use mathlib.Core.Path.{refl, sym, ap, ◌∙◌, subst}
+use Prim.Native.Nat.{ℕ, ◌-◌, ◌*◌, ◌%◌, ◌^◌, ◌<◌}
 use native.Mathlib.Nat.{pos_of_ne-zero, zero-mul, mul-pos, mod-lt}
 use native.Mathlib.Omega.{arith}
 use lib.Pow.{pow_pos}
@@ -16,31 +16,14 @@ use Rattle.round.specs.Sayings.{WritesShortAndSays}
 use Rattle.nearest.specs.declared.size.Rest.{Rest}
 use Rattle.nearest.specs.Offers.{IsRest}
 use Rattle.nearest.specs.Sayings.{FindsAndSays}
-use Rattle.round.proofs.Normal.{zeros_le, shifted_full, shifted_offer}
+use Rattle.round.proofs.Normal.{shifted_full, shifted_offer}
 use Rattle.round.proofs.Rules.{zero_answered, found_refused, settles}
-use Rattle.round.proofs.Held.{raised_fits, held_sum}
-use Rattle.round.proofs.writing.write_at.Goals as goal
-
--- what is known of a significand that isn't zero
-module _ (m : ℕ) (other : m ≡ 0 → ⊥) (fits : m < 2 ^ 64) where
-  some : zero < m
-  some = pos_of_ne-zero other
-
-  few : count_leading_zeros 64 m ≤ 63
-  few = zeros_le m some fits
-
-  small : 63 - count_leading_zeros 64 m < 2 ^ 31
-  small = omega arith
+use Rattle.round.proofs.Held.{held_sum}
+use Rattle.round.proofs.writing.write_scaled.Goals as goal
 
 pub returns-then-m-eq0 : goal.returns-then-m-eq0
 unfolding WritesShortAndSays WritesShort
 returns-then-m-eq0 c = zero_answered _ _ _ _ _ _ (ap (λ (x : ℕ). x * num (c.args.k +ℤ pos 307)) c.if-m-eq0.true ∙ zero-mul (num (c.args.k +ℤ pos 307))) c.zero_word.ensures
-
-pub overflow_sub-h : goal.overflow_sub-h
-overflow_sub-h c = few c.args.m c.if-m-eq0.false c.ranges.m.fits
-
-pub overflow_add-h : goal.overflow_add-h
-overflow_add-h c = raised_fits c.args.k c.requires (63 - count_leading_zeros 64 c.args.m) (small c.args.m c.if-m-eq0.false c.ranges.m.fits)
 
 pub returns-in_err-found : goal.returns-in_err-found
 unfolding WritesShortAndSays WritesShort
@@ -50,8 +33,9 @@ pub returns : goal.returns
 unfolding WritesShortAndSays WritesShort IsRest
 returns c = let m = c.args.m in
     let fits = c.ranges.m.fits in
-    let positive = some m c.if-m-eq0.false fits in
+    let positive = pos_of_ne-zero c.if-m-eq0.false in
+    let small : 63 - count_leading_zeros 64 c.args.m < 2 ^ 31 = omega arith in
     subst (WritesShortAndSays c.args.width.bits c.args.rule c.args.negative m c.args.k) (sym c.by_rule.ensures)
     (settles _ c.args.rule c.args.negative _ _ _ _ (shifted_full _ positive fits) (mod-lt _ (pow_pos 64))
-    (subst (λ (z : ℤ). FindsAndSays c.args.width.bits c.args.negative z (m * 2 ^ count_leading_zeros 64 m % 2 ^ 64) 0 (Ok c.in_ok-found.found)) (held_sum c.args.k c.requires (63 - count_leading_zeros 64 m) (small m c.if-m-eq0.false fits)) c.in_ok-found.ensures)
+    (subst (λ (z : ℤ). FindsAndSays c.args.width.bits c.args.negative z (m * 2 ^ count_leading_zeros 64 m % 2 ^ 64) 0 (Ok c.in_ok-found.found)) (held_sum c.args.k c.requires (63 - count_leading_zeros 64 m) small) c.in_ok-found.ensures)
     Rest.Nothing refl _ _ (mul-pos positive (unit_some _).0) (unit_some _).1 (shifted_offer _ positive fits c.args.k))

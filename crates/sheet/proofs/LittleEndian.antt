@@ -1,6 +1,6 @@
 -- Little-endian numbers: a longer one is made of two shorter ones, each is below the power of two that its bytes allow, and none has the bytes of another.
 -- Assumes nothing.
-use Rattle.std.proofs.Common.{◌≡◌, ℕ, zero, suc, ◌+◌, ◌-◌, ◌*◌, ◌%◌, ◌^◌, ◌<◌, ◌≤◌, List, [], ◌∷◌, ◌++◌, length, get_or, take, drop, sym, refl, ap, ◌∙◌, subst, ap₂, ⊎_elim, le_refl, eq-or-lt_of_le, arith, length-drop, length-take-le, get_or-drop, drop-cons, drop-drop, take-add, pow_pos, pow-add, shl_exact, mod-eq_of_lt, lt_of_lt_of_le, take_all, take-append-drop, get_or-take, lit<}
+use Rattle.std.proofs.Common.{◌≡◌, ℕ, zero, suc, ◌+◌, ◌-◌, ◌*◌, ◌%◌, ◌^◌, ◌<◌, ◌≤◌, List, [], ◌∷◌, ◌++◌, length, get_or, take, drop, sym, refl, ap, ◌∙◌, subst, ap₂, ⊎_elim, le_refl, eq-or-lt_of_le, arith, length-drop, length-take-le, get_or-drop, drop-cons, drop-drop, take-add, pow_pos, pow-add, mod-eq_of_lt, lt_of_lt_of_le, take_all, take-append-drop, get_or-take, lit<}
 use lib.ListN.{get_or-eq_default}
 use lib.Pow.{pow_mono}
 use lib.Seq.{take-nil}
@@ -36,10 +36,6 @@ module _ (j k i : ℕ) (bytes : List ℕ) (fits : i + j ≤ length bytes) where
       ∙ number_append (take j (drop i bytes)) (take k (drop (i + j) bytes))
       ∙ ap (λ (n : ℕ). number (take j (drop i bytes)) + number (take k (drop (i + j) bytes)) * 2 ^ (8 * n)) first_length
 
-  -- the low part beside the high part, shifted up in w bits
-  pub two_parts : (w lo hi : ℕ) → lo ≡ number_at j i bytes → hi ≡ number_at k (i + j) bytes → hi < 2 ^ (8 * k) → 8 * k + 8 * j ≤ w → lo + hi * 2 ^ (8 * j) % 2 ^ w ≡ number_at (j + k) i bytes
-  two_parts w lo hi el eh h room = ap₂ (λ (x y : ℕ). x + y) el (shl_exact (8 * k) (8 * j) w h room ∙ ap (λ (x : ℕ). x * 2 ^ (8 * j)) eh) ∙ sym number_at_split
-
 pub number_at_one : (i : ℕ) (bytes : List ℕ) → i < length bytes → number_at 1 i bytes ≡ get_or bytes i 0
 unfolding number_at number
 number_at_one i bytes h = ap (λ (l : List ℕ). number (take 1 l)) (drop-cons bytes i 0 h) ∙ omega arith
@@ -58,10 +54,6 @@ bytes_left i bytes small j = subst (λ (x : ℕ). x < 256) (sym (get_or-drop i b
 pub number_at_below : (k i : ℕ) (bytes : List ℕ) → AreBytes bytes → number_at k i bytes < 2 ^ (8 * k)
 unfolding number_at
 number_at_below k i bytes small = below k (drop i bytes) (bytes_left i bytes small)
-
--- a number of n bytes, where n is known to be k
-pub of_size : (k n i : ℕ) (bytes : List ℕ) {x : ℕ} → n ≡ k → x ≡ number_at k i bytes → x ≡ number_at n i bytes
-of_size k n i bytes q e = e ∙ ap (λ (j : ℕ). number_at j i bytes) (sym q)
 
 -- ---- byte by byte
 pub number_at_suc : (k i : ℕ) (bytes : List ℕ) → number_at (suc k) i bytes ≡ get_or bytes i 0 + 256 * number_at k (suc i) bytes

@@ -22,7 +22,7 @@ use Rattle.sheet.proofs.Tests.{not_both}
 use Rattle.listing.specs.declared.blocks.Listed.{Listed}
 use Rattle.listing.specs.Listing.{ListsBlock, IsListed, ListsInto}
 use Rattle.listing.specs.Puts.{PutsSome}
-use Rattle.listing.specs.Text.{minus, space, newline, nar, over, old, old_text, refusal_text, block_text, refused_text, hex_of, IsDecimal, IsSigned, IsShown, IsField, IsWholeText, IsOwnText, IsLine, AreLines, IsRefusedLine}
+use Rattle.listing.specs.Text.{minus, space, newline, nar, over, old, old_text, refusal_text, block_text, refused_text, hex_of, own_of, IsDecimal, IsSigned, IsShown, IsField, IsWholeText, IsOwnText, IsLine, AreLines, IsRefusedLine}
 use Rattle.listing.proofs.Old.{is_old, isn't_old}
 use Rattle.promises.specs.OldLines as promise
 use Rattle.promises.specs.OldLines.{IsUnbroken, EachLine, none, more, EndsInOld}
@@ -106,7 +106,7 @@ module _ (P : List ℕ → Type 0) where
     unfolding IsLine IsOwnText hex_of space newline
     line position w t (b, p, x, o, hb, hp, hx, (a, d, y, hd, eo), e) =
         let f = b ++ p ++ hex_of n w ++ x ++ (space ∷ []) in
-        (f ++ d ++ old_text n, simp (joined, field_passes number b hb, field_passes position p hp, digits_pass, whole_passes n w x hx, decimal_passes a.own d hd, old_passes), so f d a.own hd, cc (append_snoc (b ++ p ++ hex_of n w ++ x) space d))
+        (f ++ d ++ old_text n, simp (joined, field_passes number b hb, field_passes position p hp, digits_pass, whole_passes n w x hx, decimal_passes (own_of a) d hd, old_passes), so f d (own_of a) hd, cc (append_snoc (b ++ p ++ hex_of n w ++ x) space d))
 
     lines : (position : ℕ) (ws t : List ℕ) → AreLines number n position ws t → EachLine P (length ws) t
     unfolding AreLines

@@ -57,7 +57,7 @@ impl Tail {
     pub fn is_nothing(self) -> bool
         ensures { TellsNothing self.bits self.rest result }
     {
-        self.bits == 0 && self.rest == Rest::Nothing
+        self.bits == 0 && self.rest.is_nothing()
     }
 
     // Low or low + 1, halfway the even one. One test decides, since nobody can foretell which way it goes.
@@ -75,7 +75,7 @@ impl Tail {
     fn margin(self, low: u64) -> u64
         ensures { result ≡ margin_of low self.rest }
     {
-        if self.rest == Rest::Nothing {
+        if self.rest.is_nothing() {
             return low % 2;
         }
         1

@@ -1,18 +1,18 @@
 -- `take_binary64` meets its contract: the refusals, zero and NaR, and the size of any other word with its exponent raised. Assumes nothing.
-use mathlib.Core.Path.{◌≡◌, refl, sym, ap, ap₂, ◌∙◌, subst}
+use mathlib.Core.Path.{◌≡◌, refl, sym, ap₂, subst}
 use Prim.Native.Nat.{ℕ, ◌+◌, ◌*◌, ◌^◌, ◌≤◌}
 use native.Mathlib.Nat.{le_trans}
 use native.Mathlib.Omega.{arith}
+use borrow.Author.Differences.{ints}
 use lib.Dec.{T, lit≤}
-use lib.IntN.{ℤ, pos, nat_abs, ◌+ℤ◌}
+use lib.IntN.{pos, nat_abs, ◌+ℤ◌}
 use lib.Pow.{pow_pos}
-use lib.Signed.{non_neg, mag}
+use lib.Signed.{mag}
 use lib.Ieee.{Float, binary64, fits}
 use lib.Ieee.Exact.{HasValue}
 use lib.Ieee.Nearest.{closest}
-use mir.Facts.{to_z-of_z}
 use mir.Syntax.{w32}
-use mir.Val.{SFits, to_z, of_z}
+use mir.Val.{to_z, of_z}
 use Rattle.sizes.specs.declared.size.Size.{Size}
 use Rattle.bounds.specs.Refusals.{passed, word_test, through, refused}
 use Rattle.word.specs.Takum.{Takum, takum}
@@ -37,20 +37,8 @@ module _ (n w : ℕ) (size : Size) (word : (word_test n w ≡ passed) × IsNumbe
   up : (j : ℕ) × (size.h +ℤ pos 971 ≡ pos (j + 11)) × (size.h +ℤ pos 1023 ≡ pos (j + 63)) × (704 ≤ j) × (j ≤ 1215)
   up = raise_less size.h (le_trans small (lit≤ tt))
 
-  h_fits : SFits w32 size.h
-  h_fits = record { sfits = omega (arith, small) }
-
-  sum : to_z w32 (of_z w32 size.h) +ℤ pos 971 ≡ pos (up.0 + 11)
-  sum = ap (λ (z : ℤ). z +ℤ pos 971) (to_z-of_z {w = w32} h_fits) ∙ up.1
-
-  sum_fits : SFits w32 (pos (up.0 + 11))
-  sum_fits = record { sfits = omega (arith, up.4) }
-
-  held : to_z w32 (of_z w32 (to_z w32 (of_z w32 size.h) +ℤ pos 971)) ≡ pos (up.0 + 11)
-  held = ap (λ (z : ℤ). to_z w32 (of_z w32 z)) sum ∙ to_z-of_z {w = w32} sum_fits
-
   raised : nat_abs (to_z w32 (of_z w32 (to_z w32 (of_z w32 size.h) +ℤ pos 971))) ≡ up.0 + 11
-  raised = ap nat_abs held
+  raised = grind (arith, ints, small, up.1, up.4)
 
   taken : (x : Float) → T (fits binary64 x) → HasValue x size.negative (closest size.m (2 ^ 11) * 2 ^ (up.0 + 11)) (2 ^ 1023) → TakesBinary64 n w (Binary64.Number x)
   unfolding TakesBinary64
@@ -64,18 +52,16 @@ unfolding IsWordSize
 overflow_add-j c =
     let n = c.args.width.bits in
     let w = c.args.word in
-    let size = c.in-Ok-Number.size in
-    let word = told n w c.in-Ok-Number.ensures c.in-Ok-Number.field-0-is in
-    subst (λ (z : ℤ). SFits w32 z) (sym (sum n w size word)) (sum_fits n w size word)
+    let few : mag c.in-Ok-Number.size.h ≤ 254 = small n w c.in-Ok-Number.size (told n w c.in-Ok-Number.ensures c.in-Ok-Number.field-0-is) in
+    grind (arith, ints)
 
 pub overflow_cast-j : goal.overflow_cast-j
 unfolding IsWordSize
 overflow_cast-j c =
     let n = c.args.width.bits in
     let w = c.args.word in
-    let size = c.in-Ok-Number.size in
-    let word = told n w c.in-Ok-Number.ensures c.in-Ok-Number.field-0-is in
-    (subst (λ (z : ℤ). T (non_neg z)) (sym (held n w size word)) tt, record { fits = omega (arith, raised n w size word, (up n w size word).4) })
+    let few : mag c.in-Ok-Number.size.h ≤ 254 = small n w c.in-Ok-Number.size (told n w c.in-Ok-Number.ensures c.in-Ok-Number.field-0-is) in
+    grind (arith, ints)
 
 pub to_53_digits-requires : goal.to_53_digits-requires
 unfolding IsWordSize

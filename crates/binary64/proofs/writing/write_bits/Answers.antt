@@ -4,12 +4,12 @@ use mathlib.Core.Path.{◌≡◌, refl, sym, ap, ◌∙◌, subst}
 use mathlib.Core.Bool.{Bool, cond}
 use Prim.Native.Nat.{ℕ, ◌+◌, ◌/◌, ◌^◌, ◌<◌}
 use native.Mathlib.Omega.{arith}
+use borrow.Author.Differences.{ints}
 use borrow.Author.Tests.{ne_eqb}
 use lib.Bits.{mask_lt}
 use lib.IntN.{ℤ, pos, ◌-ℤ◌}
-use mir.Facts.{to_z-of_z, to_z_pos}
 use mir.Syntax.{w32}
-use mir.Val.{SFits, to_z, of_z}
+use mir.Val.{to_z, of_z}
 use lib.Ieee.{binary64, of_bits}
 use Rattle.bounds.specs.declared.answer.Written.{Written}
 use Rattle.bounds.specs.declared.saying.Saying.TheVariants.{Exact}
@@ -18,7 +18,6 @@ use Rattle.bounds.specs.Sayings.{exactly}
 use Rattle.bounds.specs.Widths.{nar_word, GivesWord}
 use Rattle.bounds.proofs.Answers.{word_said, decided_said}
 use Rattle.bounds.proofs.Verdicts.{handed_on}
-use Rattle.word.proofs.Signed.{sub_mag}
 use Rattle.write.specs.Writes.{Writes}
 use Rattle.write.specs.Sayings.{WritesAndSays}
 use Rattle.binary64.specs.Writes.{WritesBinary64}
@@ -36,17 +35,8 @@ module _ (b : ℕ) where
   field_fits : field b < 2 ^ 11
   field_fits = mask_lt (b / 2 ^ 52) 11
 
-  difference : to_z w32 (field b) -ℤ pos 1075 ≡ pos (field b) -ℤ pos 1075
-  difference = ap (λ (z : ℤ). z -ℤ pos 1075) (to_z_pos w32 small)
-    where
-      small : field b < 2 ^ 31
-      small = omega (arith, field_fits)
-
-  difference_fits : SFits w32 (pos (field b) -ℤ pos 1075)
-  difference_fits = record { sfits = omega (arith, sub_mag (pos (field b)) (pos 1075), field_fits) }
-
   exponent : to_z w32 (of_z w32 (to_z w32 (field b) -ℤ pos 1075)) ≡ pos (field b) -ℤ pos 1075
-  exponent = ap (λ (z : ℤ). to_z w32 (of_z w32 z)) difference ∙ to_z-of_z difference_fits
+  exponent = grind (arith, ints, field_fits)
 
 pub returns-in_err-nar : goal.returns-in_err-nar
 unfolding WritesBinary64AndSays WritesBinary64 GivesWord

@@ -1,8 +1,9 @@
 -- `write_full` meets its contract: the first 64 bits, and what lies below them. Assumes nothing.
-use mathlib.Core.Path.{◌≡◌, sym, ap, ◌∙◌, subst}
+use mathlib.Core.Path.{◌≡◌, sym, subst}
 use Prim.Native.Nat.{ℕ, ◌+◌, ◌-◌, ◌*◌, ◌%◌, ◌^◌, ◌≤◌, ◌<◌}
 use native.Mathlib.Nat.{mul-pos, mod-lt}
 use native.Mathlib.Omega.{arith}
+use borrow.Author.Differences.{ints}
 use borrow.Author.Rules.{rules}
 use lib.Count.{count_leading_zeros}
 use lib.IntN.{ℤ, pos, ◌+ℤ◌, ◌-ℤ◌}
@@ -22,7 +23,6 @@ use Rattle.round.specs.Offers.{top_bits}
 use Rattle.round.specs.Writes.{WritesShort}
 use Rattle.round.specs.Sayings.{WritesShortAndSays, WritesLongAndSays}
 use Rattle.round.proofs.Rules.{found_refused, settles}
-use Rattle.round.proofs.Held.{held_sum, short, plain}
 use Rattle.round.proofs.Long.{few_zeros, high_shifted, top_full, long_offer, some_rest, finer_offer}
 use Rattle.round.proofs.writing.write_full.Goals as goal
 
@@ -64,11 +64,6 @@ module _ (v : LongValue) (some_high : 0 < v.high) (fits : Fits v) where
   unfolding Fits
   full m q = subst (λ (m : ℕ). 2 ^ 63 ≤ m) (sym q) (top_full v.high v.low some_high fits.0 fits.1)
 
-  -- the exponent, as the machine has it
-  held : to_z w64 (of_z w64 (to_z w64 (of_z w64 (to_z w32 (of_z w32 v.k))) +ℤ to_z w64 (127 - zeros))) ≡ h
-  unfolding Fits
-  held = held_sum (to_z w32 (of_z w32 v.k)) (short v.k fits.2) (127 - zeros) (omega arith) ∙ ap (λ (z : ℤ). z +ℤ pos (127 - zeros)) (plain v.k fits.2)
-
 pub top_bits-m-requires : goal.top_bits-m-requires
 unfolding Fits
 top_bits-m-requires c = let v = c.args.value in
@@ -85,11 +80,12 @@ returns c = let v = c.args.value in
     let n = c.args.width.bits in
     let some_high = c.requires in
     let fits : Fits v = (search rules, search rules, search rules) in
+    let held : to_z w64 (of_z w64 (to_z w64 (of_z w64 (to_z w32 (of_z w32 c.args.value.k))) +ℤ to_z w64 (127 - count_leading_zeros 64 c.args.value.high))) ≡ c.args.value.k +ℤ pos (127 - count_leading_zeros 64 c.args.value.high) = grind (arith, ints, fits.2) in
     let m = c.top_bits-m.result in
     let b = below v some_high fits in
     let t = some_rest b in
     subst (WritesLongAndSays n c.args.rule v) (sym c.by_rule.ensures)
     (settles n c.args.rule v.negative (h v some_high fits) m b c.in_ok-found.found (full v some_high fits m c.top_bits-m.ensures) c.top_bits-m.type_inv
-    (subst (λ (z : ℤ). FindsAndSays n v.negative z m b (Ok c.in_ok-found.found)) (held v some_high fits) c.in_ok-found.ensures)
+    (subst (λ (z : ℤ). FindsAndSays n v.negative z m b (Ok c.in_ok-found.found)) held c.in_ok-found.ensures)
     t.0 t.1 _ _ (mul-pos (some v some_high fits) (unit_some _).0) (unit_some _).1
     (finer_offer m b t.0 (h v some_high fits) _ _ (unit_some _).1 (below_lt v some_high fits) t.1 (offered v some_high fits m c.top_bits-m.ensures)))

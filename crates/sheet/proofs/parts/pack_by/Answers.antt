@@ -8,8 +8,9 @@ use Rattle.sheet.proofs.parts.pack_by.Goals as goal
 pub put-requires : goal.put-requires
 unfolding AreOfBytes
 put-requires g c =
-    let inside = word_inside g.row.N (length c.args.words.now) c.loop-i.i c.loop-i-test.true in
-    (c.requires.0, omega (arith, inside, c.requires.1, c.loop-i.invariant.within.size), c.requires.2 _ c.loop-i-test.true)
+    let here = c.loop-i-test.true in
+    let inside = word_inside g.row.N (length c.args.words.now) c.loop-i.i (omega (arith, here, c.loop-i.invariant.0)) in
+    (c.requires.0, omega (arith, inside, c.requires.1, c.loop-i.invariant.1.within.size), c.requires.2 _ (omega (arith, here, c.loop-i.invariant.0)))
 
 pub loop-i-preserved : goal.loop-i-preserved
-loop-i-preserved g c = packs_more _ _ _ _ _ _ c.loop-i.invariant c.put.ensures
+loop-i-preserved g c = (c.loop-i.invariant.0, packs_more _ _ _ _ _ _ c.loop-i.invariant.1 c.put.ensures)

@@ -1,8 +1,6 @@
 -- Whole numbers by nearest (paper 02, Wish 2), as statements about what the public contracts allow. A value is z * 2^-307.
-use Rattle.std.specs.Prelude.{Ok, Err}
-use Rattle.bounds.specs.Refusals.{passed, Answer}
-use Rattle.std.specs.Prelude.{◌≡◌, List, [], ◌∷◌, ◌⊎◌, ℕ, ◌*◌, ◌%◌, ◌^◌, ◌≤◌, ◌<◌, ℤ, pos, negsuc, neg_ℤ, nat_abs, ◌+ℤ◌, length}
-use Rattle.bounds.specs.Refusals.{IsWord}
+use Rattle.std.specs.Prelude.{◌≡◌, List, [], ◌∷◌, ◌⊎◌, ℕ, ◌*◌, ◌%◌, ◌^◌, ◌≤◌, ◌<◌, ℤ, pos, negsuc, neg_ℤ, nat_abs, ◌+ℤ◌, length, Ok, Err}
+use Rattle.bounds.specs.Refusals.{IsWord, passed, Answer}
 use Rattle.bounds.specs.Widths.{GivesLimit}
 use Rattle.word.specs.Takum.{real, takum}
 use Rattle.word.specs.Orders.{negated}
@@ -40,7 +38,7 @@ TheNegatedWordGoesOutAsTheNegatedNumber = (n w : ℕ) (rule : Taking) (x : ℤ) 
 
 -- but that of -2^63 is 2^63, which is OVER
 unfoldable pub TheNegatedWordOfTheLeastNumberIsOver : Type 0
-TheNegatedWordOfTheLeastNumberIsOver = (n w : ℕ) (rule : Taking) (a : Answer ℤ) → TakesWhole n rule w (Ok (neg_ℤ (pos (2 ^ 63)))) → TakesWhole n rule (negated n w) a → RefusedAs Whole Err 5 a
+TheNegatedWordOfTheLeastNumberIsOver = (n w : ℕ) (rule : Taking) (a : Answer ℤ) → TakesWhole n rule w (Ok (neg_ℤ (pos (2 ^ 63)))) → TakesWhole n rule (negated n w) a → RefusedAs (Answer ℤ) Err 5 a
 
 -- ---- the line in the ledger
 -- no word whose value is past the exact-count limit of its width goes out as an odd whole number, by either rule

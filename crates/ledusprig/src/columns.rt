@@ -3,16 +3,13 @@ ghost use Rattle.std.specs.Prelude.{length};
 ghost use Rattle.sheet.specs.Reads.{ReadsBlock, FillsResults};
 ghost use Rattle.ledusprig.specs.Handed.{HandsOver, MovesTheColumn, WritesTheBlock, column_handed, block_handed, writing_handed, rule_of};
 
-use crate::handed::columns::{
-    HandedBlock, HandedColumn, HandedWriting, hand_block, hand_column, hand_writing,
-};
+use crate::handed::columns::{HandedBlock, HandedColumn, HandedWriting};
+use crate::rules::by_rule;
 use bounds::width::Width;
 use column::moving::move_column;
-use round::value::Rule;
 use sheet::block::read_block;
 use sheet::writing::write_block;
 
-// The rule's number is asked first, so that each rule has a loop of its own.
 #[tactic(auto, unfolding(crate::specs::Handed::MovesTheColumn))]
 pub fn takum_move_column(
     from: u32,
@@ -23,34 +20,28 @@ pub fn takum_move_column(
 ) -> HandedColumn
     ensures { HandsOver column_handed (MovesTheColumn from to (rule_of rule) words.now results.old results.new) result }
 {
-    if rule == 0 {
-        return hand_column(move_column(
+    by_rule(rule, |rule| {
+        move_column(
             Width { bits: from },
             Width { bits: to },
-            Rule::Rounded,
+            rule,
             words,
             results,
-        ));
-    }
-    hand_column(move_column(
-        Width { bits: from },
-        Width { bits: to },
-        Rule::Strict,
-        words,
-        results,
-    ))
+        )
+    })
+    .into()
 }
 
 pub fn takum_read_block(block: &[u8], results: &mut [u64]) -> HandedBlock
     ensures hands_over { HandsOver block_handed (ReadsBlock block.now (length results.old)) result }
     ensures fills_results { FillsResults block.now results.old results.new }
 {
-    hand_block(read_block(block, results))
+    read_block(block, results).into()
 }
 
 #[tactic(auto, unfolding(crate::specs::Handed::WritesTheBlock))]
 pub fn takum_write_block(width: u32, number: u32, words: &[u64], buffer: &mut [u8]) -> HandedWriting
     ensures { HandsOver writing_handed (WritesTheBlock width number words.now buffer.old buffer.new) result }
 {
-    hand_writing(write_block(Width { bits: width }, number, words, buffer))
+    write_block(Width { bits: width }, number, words, buffer).into()
 }

@@ -4,5 +4,6 @@
 pub mod columns;
 pub mod handed;
 pub mod numbers;
+mod rules;
 pub mod widths;
 pub mod words;

@@ -1,17 +1,13 @@
-// One word: reading, comparing and negating it, writing a value as one, and moving it to another width. The rule's number is asked first, so that
-// each rule's call is compiled by itself.
+// One word: reading, comparing and negating it, writing a value as one, and moving it to another width.
 ghost use Rattle.order.specs.Orders.{Compares, Negates};
 ghost use Rattle.word.specs.Reads.{Reads};
 ghost use Rattle.write.specs.Sayings.{WritesAndSays, MovesAndSays};
 ghost use Rattle.ledusprig.specs.Handed.{HandsOver, word_handed, saying_handed, reading_handed, comparison_handed, rule_of};
 
-use crate::handed::words::{
-    HandedComparison, HandedReading, HandedSaying, HandedWord, hand_comparison, hand_reading,
-    hand_saying, hand_word,
-};
+use crate::handed::words::{HandedComparison, HandedReading, HandedSaying, HandedWord};
+use crate::rules::by_rule;
 use bounds::width::Width;
 use order::order::{compare, negate};
-use round::value::Rule;
 use word::reading::read;
 use write::moving::move_word;
 use write::value::Value;
@@ -20,19 +16,19 @@ use write::writing::write;
 pub fn takum_read(n: u32, word: u64) -> HandedReading
     ensures { HandsOver reading_handed (Reads n word) result }
 {
-    hand_reading(read(Width { bits: n }, word))
+    read(Width { bits: n }, word).into()
 }
 
 pub fn takum_compare(n: u32, x: u64, y: u64) -> HandedComparison
     ensures { HandsOver comparison_handed (Compares n x y) result }
 {
-    hand_comparison(compare(Width { bits: n }, x, y))
+    compare(Width { bits: n }, x, y).into()
 }
 
 pub fn takum_negate(n: u32, word: u64) -> HandedWord
     ensures { HandsOver word_handed (Negates n word) result }
 {
-    hand_word(negate(Width { bits: n }, word))
+    negate(Width { bits: n }, word).into()
 }
 
 // Plus or minus m * 2^k.
@@ -40,22 +36,14 @@ pub fn takum_write(n: u32, rule: u32, negative: bool, m: u64, k: i32) -> HandedS
     ensures { HandsOver saying_handed (WritesAndSays n (rule_of rule) (record { negative = negative; m = m; k = k })) result }
 {
     let value = Value { negative, m, k };
-    if rule == 0 {
-        return hand_saying(write(Width { bits: n }, Rule::Rounded, value));
-    }
-    hand_saying(write(Width { bits: n }, Rule::Strict, value))
+    by_rule(rule, |rule| write(Width { bits: n }, rule, value)).into()
 }
 
 pub fn takum_move(from: u32, to: u32, rule: u32, word: u64) -> HandedSaying
     ensures { HandsOver saying_handed (MovesAndSays from to (rule_of rule) word) result }
 {
-    if rule == 0 {
-        return hand_saying(move_word(
-            Width { bits: from },
-            Width { bits: to },
-            Rule::Rounded,
-            word,
-        ));
-    }
-    hand_saying(move_word(Width { bits: from }, Width { bits: to }, Rule::Strict, word))
+    by_rule(rule, |rule| {
+        move_word(Width { bits: from }, Width { bits: to }, rule, word)
+    })
+    .into()
 }

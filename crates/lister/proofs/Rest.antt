@@ -1,5 +1,6 @@
 -- A block's text that is put to the start of the rest of a buffer: there is room for it, and it stands at its place of the whole. Assumes nothing.
 use Rattle.std.proofs.Common.{◌≡◌, ℕ, ◌+◌, ◌-◌, ◌≤◌, List, [], ◌++◌, length, take, drop, sym, ap, ◌∙◌, ap₂, append_assoc, append-nil, le_of_eq, zero-add, arith, length-drop, drop_of_length-le, take_all, drop-drop}
+use Rattle.bounds.specs.Refusals.{Answer}
 use Rattle.bounds.proofs.Rooms.{room_fits}
 use Rattle.bounds.proofs.Verdicts.{answered}
 use Rattle.listing.specs.declared.blocks.Listed.{Listed}
@@ -20,7 +21,7 @@ module _ (e : List ℕ) (at : ℕ) where
   none : behind ≡ []
   none = drop_of_length-le (drop at e) (le_of_eq (length-drop at e))
 
-  pub listed : (block : List ℕ) (i : ℕ) (f : List ℕ) (a : Listed) → at + text_room ≤ length e → ListsInto block i rest f a → IsListed block i rest f a
+  pub listed : (block : List ℕ) (i : ℕ) (f : List ℕ) (a : Answer Listed) → at + text_room ≤ length e → ListsInto block i rest f a → IsListed block i rest f a
   unfolding ListsInto
   listed block i f a h = let room : text_room ≤ length rest = omega (arith, ap length all, length-drop at e) in
       answered (room_fits text_room (length rest) room)

@@ -1,7 +1,14 @@
 -- How many blocks of a run there are of each refusal number.
-use Rattle.std.specs.Prelude.{ℕ, ◌+◌, ◌%◌, ◌^◌, ◌<◌, List, [], length, take, drop, slice_index, slice_set}
+use Rattle.std.specs.Prelude.{ℕ, ◌+◌, ◌%◌, ◌^◌, ◌<◌, List, [], length, take, drop, slice_index, slice_set, Option, Some, None}
+use Rattle.bounds.specs.declared.refusal.Refusal.{Refusal}
+use Rattle.bounds.specs.Refusals.{number_of}
 use Rattle.sheet.specs.Reads.{block_test}
 use Rattle.listing.specs.Listing.{most, refusal_number}
+
+-- The number of a refusal, and 0 where there is none.
+unfoldable pub number_or_0 : Option Refusal → ℕ
+number_or_0 None = 0
+number_or_0 (Some q) = number_of q
 
 -- One more of number n, in counts that stand by number and have 64 bits.
 unfoldable pub with_one_more : ℕ → List ℕ → List ℕ

@@ -6,8 +6,8 @@ mod reading;
 mod report;
 mod runs;
 
-use crate::pieces::list_all;
-use crate::report::{NUMBERS, report};
+use crate::pieces::{Ending, list_all};
+use crate::report::Counts;
 use std::env::{Env, FillError};
 use std::process::ExitCode;
 
@@ -16,13 +16,11 @@ const UNREAD: u8 = 141;
 
 // Only a script that reads the report starts the program with an argument. Else descriptor 3 is whatever somebody left open, and not ours to write to.
 fn main(rt: HostRuntime) -> ExitCode {
-    let mut counts = [0u64; NUMBERS];
-    let listed = list_all(rt, &mut counts);
-    if listed.complete && has_argument(rt) {
-        report(listed.place, &counts);
-    }
-    if listed.unread {
-        return ExitCode::from(UNREAD);
+    let mut counts = Counts::new();
+    match list_all(rt, &mut counts) {
+        Ending::Complete { blocks, .. } if has_argument(rt) => counts.report(blocks),
+        Ending::Unread => return ExitCode::from(UNREAD),
+        _ => {}
     }
     ExitCode::SUCCESS
 }

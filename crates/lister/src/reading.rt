@@ -1,21 +1,14 @@
 // One read of standard input into the rest of a lent buffer.
-ghost use Rattle.std.specs.Prelude.{◌≡◌, ◌+◌, ◌<◌, ◌≤◌, true, length};
+ghost use Rattle.std.specs.Prelude.{◌+◌, ◌<◌, ◌≤◌, length, IfSome};
 ghost use Rattle.lister.specs.Told.{Tells};
 
 use std::io;
 use std::io::Read;
 
-// How many bytes came, and whether none came because the input ends. None come from a read that fails, either.
-#[derive(Clone, Copy)]
-pub(crate) struct Got {
-    pub(crate) count: usize,
-    pub(crate) ends: bool,
-}
-
-// One read behind the first `at` bytes.
-pub(crate) fn read_at(rt: HostRuntime, buf: &mut [u8], at: usize) -> Got
+// One read behind the first `at` bytes: how many bytes came, none where the input ends, or nothing where the read failed.
+pub(crate) fn read_at(rt: HostRuntime, buf: &mut [u8], at: usize) -> Option<usize>
     requires { at < length buf.old }
-    ensures { (at + result.count ≤ length buf.new) × (result.ends ≡ true → result.count ≡ 0) }
+    ensures { IfSome result (λ count. at + count ≤ length buf.new) }
 {
     let mut input = rt.stdin();
     let answer = input.read(&mut buf[at..]);
@@ -23,23 +16,14 @@ pub(crate) fn read_at(rt: HostRuntime, buf: &mut [u8], at: usize) -> Got
 }
 
 // What a read's answer tells of the bytes that it could fill. A failure is told on standard error.
-fn told_by(rt: HostRuntime, answer: io::Result<usize>, room: &[u8]) -> Got
+fn told_by(rt: HostRuntime, answer: io::Result<usize>, room: &[u8]) -> Option<usize>
     ensures { Tells answer (length room.now) result }
 {
     match answer {
-        Ok(told) => {
-            let count = told.min(room.len());
-            Got {
-                count,
-                ends: count == 0,
-            }
-        }
+        Ok(count) => Some(count.min(room.len())),
         Err(error) => {
             let _ = eprintln!(rt; "lister: standard input: {error}");
-            Got {
-                count: 0,
-                ends: false,
-            }
+            None
         }
     }
 }

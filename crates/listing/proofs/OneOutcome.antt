@@ -1,5 +1,5 @@
 -- One listing: the definitions allow one text for a block at a place, and the contract of `list_block` one outcome. Assumes nothing.
-use Rattle.std.specs.Prelude.{Ok, Err}
+use Rattle.std.specs.Prelude.{Ok, Err, Option}
 use Rattle.bounds.specs.Refusals.{Answer}
 use mathlib.Core.Path.{◌≡◌, sym, ap, ap₂, ◌∙◌, subst}
 use mathlib.Core.List.{List, [], ◌∷◌, ◌++◌}
@@ -23,7 +23,7 @@ use Rattle.whole.proofs.OneOutcome.{takes_whole_one}
 use Rattle.listing.specs.declared.blocks.Listed.{Listed}
 use Rattle.listing.specs.Listing.{ListsBlock, IsListed, ListsInto}
 use Rattle.listing.specs.Puts.{PutsSome}
-use Rattle.listing.specs.Text.{minus, space, newline, block_text, refused_text, IsDecimal, IsSigned, IsShown, IsField, IsWholeText, IsOwnText, IsLine, AreLines, IsRefusedLine}
+use Rattle.listing.specs.Text.{own_of, minus, space, newline, block_text, refused_text, IsDecimal, IsSigned, IsShown, IsField, IsWholeText, IsOwnText, IsLine, AreLines, IsRefusedLine}
 
 -- two counts of digits that are each the fewest
 no_more : (n j k : ℕ) → IsDigitCount 10 1 n j → IsDigitCount 10 1 n k → k ≤ j
@@ -62,7 +62,7 @@ whole_one n w t u (a, d, x, p, e) (b, d', y, q, f) =
 own_one : (n w : ℕ) (t u : List ℕ) → IsOwnText n w t → IsOwnText n w u → t ≡ u
 unfolding IsOwnText
 own_one n w t u (a, d, x, p, e) (b, d', y, q, f) =
-    e ∙ ap (λ (x : List ℕ). (space ∷ []) ++ x) (decimal_one b.own d d' (subst (λ (a : Reading). IsDecimal a.own d) (reads_one n w a b x y) p) q) ∙ sym f
+    e ∙ ap (λ (x : List ℕ). (space ∷ []) ++ x) (decimal_one (own_of b) d d' (subst (λ (a : Answer Reading). IsDecimal (own_of a) d) (reads_one n w a b x y) p) q) ∙ sym f
 
 line_one : (number position n w : ℕ) (t u : List ℕ) → IsLine number position n w t → IsLine number position n w u → t ≡ u
 unfolding IsLine
@@ -93,16 +93,17 @@ puts_one P one before at f n g m (t, x, p) (u, y, q) =
     let same = one t u x y in
     (p.place ∙ ap (λ (v : List ℕ). at + length v) same ∙ sym q.place, p.content ∙ ap (λ (v : List ℕ). take at before ++ v ++ drop (at + length v) before) same ∙ sym q.content)
 
-listed_one : (block : List ℕ) (i : ℕ) (before f g : List ℕ) (a b : Listed) → IsListed block i before f a → IsListed block i before g b → (a ≡ b) × (f ≡ g)
+listed_one : (block : List ℕ) (i : ℕ) (before f g : List ℕ) (a b : Answer Listed) → IsListed block i before f a → IsListed block i before g b → (a ≡ b) × (f ≡ g)
 unfolding IsListed
-listed_one block i before f g (Listed.Length n r) (Listed.Length m s) x y =
-    let same = puts_one (ListsBlock block i) (block_one block i) before 0 f n g m x.0 y.0 in
-    (ap₂ Listed.Length same.0 (x.2 ∙ sym y.2), same.1)
+listed_one block i before f g (Ok a) (Ok b) x y =
+    let same = puts_one (ListsBlock block i) (block_one block i) before 0 f a.length g b.length x.0 y.0 in
+    let why = x.2 ∙ sym y.2 in
+    (ap₂ (λ (n : ℕ) (q : Option Refusal). Ok (record { length = n; refused = q })) same.0 why, same.1)
 listed_one block i before f g (Err q) b x y = absurd x
-listed_one block i before f g (Listed.Length n r) (Err q) x y = absurd y
+listed_one block i before f g (Ok a) (Err q) x y = absurd y
 
 -- what the call answers, and what the lent slice holds afterwards
-pub lists_into_one : (block : List ℕ) (i : ℕ) (before f g : List ℕ) (a b : Listed) → ListsInto block i before f a → ListsInto block i before g b → (a ≡ b) × (f ≡ g)
+pub lists_into_one : (block : List ℕ) (i : ℕ) (before f g : List ℕ) (a b : Answer Listed) → ListsInto block i before f a → ListsInto block i before g b → (a ≡ b) × (f ≡ g)
 unfolding ListsInto
 lists_into_one block i before f g a b (through h x) y = listed_one block i before f g a b x (answered h y)
 lists_into_one block i before f g a b (refused {q = q} h x) y = let z = refused_as q h y in

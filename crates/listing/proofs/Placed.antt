@@ -6,8 +6,10 @@ use native.Mathlib.Nat.{le_trans, le_of_lt, le-add_right, add_assoc, add-zero}
 use native.Mathlib.Numerals.{add-one}
 use native.Mathlib.Omega.{arith}
 use lib.ListN.{length, take, drop, set, get_or, length-append, length-drop, take-append-drop}
-use lib.Seq.{length-take-le, take-suc, append_snoc, set_split, set_at, take_at, drop-append-add, drop-drop, take-length, paste}
+use lib.Seq.{length-take-le, take-suc, append_snoc, set_split, set_at, take_at, drop-append-add, drop-drop}
+use Rattle.listing.specs.declared.text.Text.{Text}
 use Rattle.listing.specs.Puts.{Puts}
+use Rattle.listing.specs.Adds.{Adds}
 
 -- how long the buffer is before the place and the text, and afterwards
 head_length : (e : List ℕ) (at : ℕ) (t : List ℕ) → at + length t ≤ length e → length (take at e ++ t) ≡ at + length t
@@ -49,10 +51,10 @@ joined e at t f i u g r p q =
         ∙ ap (λ (k : ℕ). drop k e) (add_assoc at (length t) (length u) ∙ ap (λ (k : ℕ). at + k) (sym (length-append t u)))
 
 -- a byte in front of the text that stands at i + 1
-pub in_front : (e t r : List ℕ) (i b : ℕ) → i < length e → set (take (suc i) e ++ t ++ r) i b ≡ take i e ++ (b ∷ t) ++ r
-in_front e t r i b h =
-    ap (λ (x : List ℕ). set (x ++ t ++ r) i b) (take-suc e i 0 h) ∙ ap (λ (x : List ℕ). set x i b) (append_assoc (take i e ++ (get_or e i 0 ∷ [])) t r ∙ append_snoc (take i e) (get_or e i 0) (t ++ r))
-    ∙ set_at (take i e) (get_or e i 0) (t ++ r) b i (length-take-le i e (le_of_lt h)) ∙ sym (append_assoc (take i e) (b ∷ t) r)
+pub in_front : (e t : List ℕ) (i b : ℕ) → i < length e → set (take (suc i) e ++ t) i b ≡ take i e ++ (b ∷ t)
+in_front e t i b h =
+    ap (λ (x : List ℕ). set (x ++ t) i b) (take-suc e i 0 h) ∙ ap (λ (x : List ℕ). set x i b) (append_snoc (take i e) (get_or e i 0) t)
+    ∙ set_at (take i e) (get_or e i 0) t b i (length-take-le i e (le_of_lt h))
 
 -- nothing at all
 pub nothing_put : (e : List ℕ) (at : ℕ) → at ≤ length e → Puts e at [] e at
@@ -63,6 +65,9 @@ nothing_put e at h =
       place = sym (add-zero at);
     }
 
--- a copy of a whole text
-pub copied : (e : List ℕ) (at : ℕ) (t f : List ℕ) → at + length t ≤ length e → f ≡ paste e at t (length t) → Puts e at t f (at + length t)
-copied e at t f h q = record { room = h; content = q ∙ ap (λ (x : List ℕ). take at e ++ x ++ drop (at + length t) e) (take-length t); place = refl }
+-- ---- the same of a buffer with its place
+pub joined_adds : {a b c : Text} {t u : List ℕ} → Adds a t b → Adds b u c → Adds a (t ++ u) c
+joined_adds p q = record { puts = joined _ _ _ _ _ _ _ _ p.puts q.puts; same_buffer = q.same_buffer ∙ p.same_buffer }
+
+pub nothing_added : (a : Text) → a.at ≤ length a.out.now → Adds a [] a
+nothing_added a h = record { puts = nothing_put a.out.now a.at h; same_buffer = refl }

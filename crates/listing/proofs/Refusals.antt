@@ -1,13 +1,10 @@
--- What stands for a refusal is short, and a word of a block is refused only as NAR or OVER. Assumes nothing.
-use Rattle.std.specs.Prelude.{Ok, Err}
+-- What stands for a refusal, and that a word of a block is refused only as NAR or OVER. Assumes nothing.
+use Rattle.std.specs.Prelude.{ℤ, Ok, Err}
 use Rattle.bounds.specs.Refusals.{Answer}
 use mathlib.Core.Path.{◌≡◌, refl, ap, subst}
 use mathlib.Core.Logic.{◌⊎◌, inl, inr}
-use mathlib.Core.Bool.{Bool, true, false, cond}
-use Prim.Native.Nat.{ℕ, ◌≤◌}
-use lib.Dec.{eqb, lit≤}
-use lib.ListN.{length}
-use Rattle.bounds.specs.Refusals.{number_of, IsWord}
+use Prim.Native.Nat.{ℕ}
+use Rattle.bounds.specs.Refusals.{IsWord}
 use Rattle.word.specs.Takum.{Takum, real, NaR, takum}
 use Rattle.bounds.specs.declared.refusal.Refusal.{Refusal}
 use Rattle.whole.specs.declared.taking.Taking.{Taking}
@@ -20,13 +17,25 @@ Rounds : Taking → Type 0
 Rounds Taking.Nearest = Unit {0}
 Rounds Taking.Strict = ⊥
 
-pub refusal_short : (q : Refusal) → length (refusal_text q) ≤ 4
-unfolding refusal_text nar over
-refusal_short q = by (eqb (number_of q) 5)
-  where
-    by : (b : Bool) → length (cond b over nar) ≤ 4
-    by true = lit≤ tt
-    by false = lit≤ tt
+-- ---- what stands for a refusal
+pub is_over : (q : Refusal) → q ≡ Refusal.Over → refusal_text q ≡ over
+unfolding refusal_text
+is_over q e = rw e refl
+
+pub isn't_over : (q : Refusal) → (q ≡ Refusal.Over → ⊥) → refusal_text q ≡ nar
+unfolding refusal_text
+isn't_over Refusal.Width f = refl
+isn't_over Refusal.Stray f = refl
+isn't_over Refusal.Nar f = refl
+isn't_over Refusal.Inexact f = refl
+isn't_over Refusal.Over f = absurd (f refl)
+isn't_over Refusal.Room f = refl
+isn't_over Refusal.Size f = refl
+isn't_over Refusal.Mark f = refl
+isn't_over Refusal.Check f = refl
+isn't_over Refusal.Count f = refl
+isn't_over Refusal.Fill f = refl
+isn't_over Refusal.Retired f = refl
 
 -- ---- a word is refused only as NAR, or as OVER
 pub refused_only_nar_or_over : (n w : ℕ) (q : Refusal) → IsWord n w → TakesWhole n Taking.Nearest w (Err q) → (q ≡ Refusal.Nar) ⊎ (q ≡ Refusal.Over)

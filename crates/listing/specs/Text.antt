@@ -1,10 +1,7 @@
 -- The text of a line (paper 01, "The lister"; its whole number by paper 02, Wish 2, its last field by Wish 3, ` old` by Wish 10), as a list of bytes.
-use Rattle.std.specs.Prelude.{Ok, Err}
-use Rattle.bounds.specs.Refusals.{Answer}
-use Rattle.bounds.specs.Sayings.{written}
-use Rattle.std.specs.Prelude.{◌≡◌, cond, List, [], ◌∷◌, ◌++◌, ℕ, suc, ◌/◌, eqb, ℤ, pos, negsuc}
+use Rattle.std.specs.Prelude.{◌≡◌, cond, List, [], ◌∷◌, ◌++◌, ℕ, suc, ◌/◌, eqb, ℤ, pos, negsuc, Ok, Err}
 use Rattle.io.specs.Digits.{last_digits, IsDigitCount}
-use Rattle.bounds.specs.Refusals.{number_of}
+use Rattle.bounds.specs.Refusals.{Answer, number_of}
 use Rattle.bounds.specs.declared.refusal.Refusal.{Refusal}
 use Rattle.word.specs.declared.reading.Reading.{Reading}
 use Rattle.word.specs.Reads.{Reads}
@@ -59,9 +56,14 @@ IsField n t = (d : List ℕ) × IsDecimal n d × (t ≡ d ++ (space ∷ []))
 unfoldable pub IsWholeText : ℕ → ℕ → List ℕ → Type 0
 IsWholeText n w t = (a : Answer ℤ) × (d : List ℕ) × TakesWhole n Taking.Nearest w a × IsShown a d × (t ≡ (space ∷ []) ++ d)
 
+-- how fine a word's reading is; a word of a block is always read, and 0 stands for a refusal
+unfoldable pub own_of : Answer Reading → ℕ
+own_of (Ok r) = r.own
+own_of (Err q) = 0
+
 -- a space and how fine the word's reading is
 unfoldable pub IsOwnText : ℕ → ℕ → List ℕ → Type 0
-IsOwnText n w t = (a : Reading) × (d : List ℕ) × Reads n w a × IsDecimal a.own d × (t ≡ (space ∷ []) ++ d)
+IsOwnText n w t = (a : Answer Reading) × (d : List ℕ) × Reads n w a × IsDecimal (own_of a) d × (t ≡ (space ∷ []) ++ d)
 
 -- ` old`, which ends the lines of a block whose width is no longer written
 unfoldable pub old : List ℕ

@@ -1,101 +1,94 @@
 // A line of the listing: block number, position, the word in hex, its whole number, its own fraction bits, and ` old` of an old block.
-ghost use Rattle.std.specs.Prelude.{◌+◌, ◌≤◌, length};
-ghost use Rattle.listing.specs.Puts.{Puts, PutsSome};
+ghost use Rattle.std.specs.Prelude.{◌≡◌, ◌≤◌};
+ghost use Rattle.listing.specs.Adds.{AddsSome, HasRoom};
 ghost use Rattle.listing.specs.Text.{hex_of, refusal_text, old_text, IsShown, IsField, IsWholeText, IsOwnText, IsLine};
 
-use crate::text::{put_byte, put_decimal, put_digits, put_signed, put_text};
+use crate::text::Text;
 use bounds::refusal::Refusal;
 use bounds::width::Width;
+use sheet::block::Block;
 use sheet::writing::RETIRED;
-use whole::taking::{Taking, Whole, take_whole};
+use whole::taking::{Taking, take_whole};
 use word::reading::read;
 
-// The line of one word.
-pub(crate) fn put_line(
-    out: &mut [u8],
-    at: usize,
-    number: u32,
-    position: u32,
-    width: u32,
-    word: u64,
-) -> usize
-    requires { (width ≤ 64) × (at + 96 ≤ length out.old) }
-    ensures { PutsSome (IsLine number position width word) out.old at out.new result × (result ≤ at + 96) }
+// The line of one word of a block.
+pub(crate) fn put_line(text: &mut Text<'_>, block: Block, position: u32, word: u64)
+    requires { (block.width ≤ 64) × HasRoom 96 text.old }
+    ensures { AddsSome 96 (IsLine block.number position block.width word) text.old text.new }
 {
-    let block = put_field(out, at, number);
-    let place = put_field(out, block, position);
-    let hex = put_hex(out, place, width, word);
-    let whole = put_whole(out, hex, width, word);
-    let own = put_own(out, whole, width, word);
-    let old = put_old(out, own, width);
-    put_byte(out, old, 0x0a)
+    let width = Width { bits: block.width };
+    put_field(text, block.number);
+    put_field(text, position);
+    put_hex(text, width, word);
+    put_whole(text, width, word);
+    put_own(text, width, word);
+    put_old(text, width);
+    text.put_byte(b'\n');
 }
 
 // A number and a space. Of 32 bits it has no more than ten digits.
-fn put_field(out: &mut [u8], at: usize, n: u32) -> usize
-    requires { at + 21 ≤ length out.old }
-    ensures { PutsSome (IsField n) out.old at out.new result × (result ≤ at + 11) }
+fn put_field(text: &mut Text<'_>, n: u32)
+    requires { HasRoom 21 text.old }
+    ensures { AddsSome 11 (IsField n) text.old text.new }
 {
-    let next = put_decimal(out, at, n as u64);
-    put_byte(out, next, 0x20)
+    text.put_decimal(u64::from(n));
+    text.put_byte(b' ');
 }
 
 // The word in hex, with all its digits.
-fn put_hex(out: &mut [u8], at: usize, width: u32, word: u64) -> usize
-    requires { (width ≤ 64) × (at + 16 ≤ length out.old) }
-    ensures { Puts out.old at (hex_of width word) out.new result × (result ≤ at + 16) }
+fn put_hex(text: &mut Text<'_>, width: Width, word: u64)
+    requires { (width.bits ≤ 64) × HasRoom 16 text.old }
+    ensures { AddsSome 16 (λ t. t ≡ hex_of width.bits word) text.old text.new }
 {
-    put_digits(out, at, word, 16, (width / 4) as usize)
+    text.put_digits(word, 16, (width.bits / 4) as usize);
 }
 
 // A space and the word's whole number, rounded.
-fn put_whole(out: &mut [u8], at: usize, width: u32, word: u64) -> usize
-    requires { at + 22 ≤ length out.old }
-    ensures { PutsSome (IsWholeText width word) out.old at out.new result × (result ≤ at + 22) }
+fn put_whole(text: &mut Text<'_>, width: Width, word: u64)
+    requires { HasRoom 22 text.old }
+    ensures { AddsSome 22 (IsWholeText width.bits word) text.old text.new }
 {
-    let shown = take_whole(Width { bits: width }, Taking::Nearest, word);
-    let next = put_byte(out, at, 0x20);
-    put_shown(out, next, shown)
+    text.put_byte(b' ');
+    put_shown(text, take_whole(width, Taking::Nearest, word));
 }
 
 // A space and the word's own fraction bits.
-fn put_own(out: &mut [u8], at: usize, width: u32, word: u64) -> usize
-    requires { at + 21 ≤ length out.old }
-    ensures { PutsSome (IsOwnText width word) out.old at out.new result × (result ≤ at + 21) }
+fn put_own(text: &mut Text<'_>, width: Width, word: u64)
+    requires { HasRoom 21 text.old }
+    ensures { AddsSome 21 (IsOwnText width.bits word) text.old text.new }
 {
-    let reading = read(Width { bits: width }, word);
-    let next = put_byte(out, at, 0x20);
-    put_decimal(out, next, reading.own as u64)
+    let own = read(width, word).map_or(0, |reading| reading.own);
+    text.put_byte(b' ');
+    text.put_decimal(u64::from(own));
 }
 
 // ` old` for a block whose width is no longer written.
-fn put_old(out: &mut [u8], at: usize, width: u32) -> usize
-    requires { at + 4 ≤ length out.old }
-    ensures { Puts out.old at (old_text width) out.new result × (result ≤ at + 4) }
+fn put_old(text: &mut Text<'_>, width: Width)
+    requires { HasRoom 4 text.old }
+    ensures { AddsSome 4 (λ t. t ≡ old_text width.bits) text.old text.new }
 {
-    if width == RETIRED {
-        return put_text(out, at, b" old");
+    if width.bits == RETIRED {
+        text.put_text(b" old");
     }
-    at
 }
 
 // The whole number, `nar` or `over`.
-fn put_shown(out: &mut [u8], at: usize, shown: Whole) -> usize
-    requires { at + 21 ≤ length out.old }
-    ensures { PutsSome (IsShown shown) out.old at out.new result × (result ≤ at + 21) }
+fn put_shown(text: &mut Text<'_>, shown: Result<i64, Refusal>)
+    requires { HasRoom 21 text.old }
+    ensures { AddsSome 21 (IsShown shown) text.old text.new }
 {
     match shown {
-        Whole::Is(x) => put_signed(out, at, x),
-        Whole::Refused(q) => put_refusal(out, at, q),
+        Ok(x) => text.put_signed(x),
+        Err(q) => put_refusal(text, q),
     }
 }
 
-fn put_refusal(out: &mut [u8], at: usize, q: Refusal) -> usize
-    requires { at + 21 ≤ length out.old }
-    ensures { Puts out.old at (refusal_text q) out.new result }
+fn put_refusal(text: &mut Text<'_>, q: Refusal)
+    requires { HasRoom 4 text.old }
+    ensures { AddsSome 4 (λ t. t ≡ refusal_text q) text.old text.new }
 {
-    if q.number() == 5 {
-        return put_text(out, at, b"over");
+    if q == Refusal::Over {
+        return text.put_text(b"over");
     }
-    put_text(out, at, b"nar")
+    text.put_text(b"nar")
 }

@@ -1,6 +1,5 @@
 -- The law of the face: a struct follows the lines that the answer follows, because a refusal is handed over by its number, with zeros. Assumes nothing.
 use Rattle.std.specs.Prelude.{Ok, Err}
-use Rattle.bounds.specs.Refusals.{passed, Answer}
 use mathlib.Core.Path.{◌≡◌, refl, sym, ap, ◌∙◌, subst}
 use mathlib.Core.Bool.{Bool, true, false}
 use mathlib.Core.List.{List, [], ◌∷◌, ◌++◌}
@@ -12,7 +11,7 @@ use Rattle.bounds.specs.declared.saying.Saying.{Saying}
 use Rattle.bounds.specs.declared.refusal.Refusal.{Refusal}
 use Rattle.bounds.specs.Sayings.{saying_number, plain, AndSays}
 use Rattle.bounds.proofs.Answers.{plain_refused}
-use Rattle.bounds.specs.Refusals.{number_of, Decided, through, refused}
+use Rattle.bounds.specs.Refusals.{Answer, Verdict, passed, number_of, Decided, through, refused}
 use Rattle.round.specs.declared.value.Rule.{Rule}
 use Rattle.whole.specs.declared.taking.Taking.{Taking}
 use Rattle.ledusprig.specs.declared.handed.words.HandedWord.{HandedWord}
@@ -20,6 +19,7 @@ use Rattle.ledusprig.specs.declared.handed.words.HandedSaying.{HandedSaying}
 use Rattle.ledusprig.specs.Handed.{HandsOver, rule_of, taking_of, word_handed, saying_handed}
 use Rattle.promises.specs.Refusals.{Line, line, FollowsUpTo, Follows}
 use Rattle.promises.specs.Face.{FieldFollows, HandsWord, HandsSaid, NoneHolds, is_strict}
+use Rattle.promises.proofs.Lines.{carry}
 use Rattle.promises.proofs.WordRefusals.{rounded_strict}
 
 -- from one answer to its struct
@@ -50,25 +50,18 @@ module _ (lines : List Line) {Gives : Answer ℕ → Type 0} (Is : ℕ → Type 
       by (Ok w) x none = (refl, is w x)
       by (Err q) x none = absurd (none q refl)
 
--- answers that are refused alike follow the same lines
-pub refused_alike : {A B : Type 0} (R : Refusal → A) (R' : Refusal → B) (a : A) (b : B) (lines : List Line) → ((q : Refusal) → a ≡ R q → b ≡ R' q) → ((q : Refusal) → b ≡ R' q → a ≡ R q) → Follows R a lines → Follows R' b lines
-unfolding Follows FollowsUpTo
-refused_alike R R' a b [] to from x = λ q e. x q (from q e)
-refused_alike R R' a b (line number When ∷ lines) to from (inl (h, x)) = inl (h, record { q = x.q; is = to x.q x.is; known = x.known })
-refused_alike R R' a b (line number When ∷ lines) to from (inr (h, x)) = inr (h, refused_alike R R' a b lines to from x)
-
 -- a call that answers with a word and its saying
 module _ (lines : List Line) {Gives : Answer ℕ → Type 0} (Is : ℕ → Type 0) (SaysOf : ℕ → Saying → Type 0) where
   pub said_hands : ((w : ℕ) → Gives (Ok w) → Is w) → ((a : Answer ℕ) → Gives a → Follows Err a lines) → (r : HandedSaying) → HandsOver saying_handed (AndSays Gives SaysOf) r → HandsSaid lines Is SaysOf r
   said_hands is follows r h =
       hands Err (λ r. r.refusal) (λ r. (r.saying ≡ 0) × (r.word ≡ 0)) Said lines (λ q x. (refl, (refl, refl))) by
-      (λ a x. refused_alike Err Err (plain a) a lines (plain_refused a) (λ q e. ap plain e) (follows (plain a) x.answers)) r h
+      (λ a x. carry Err Err (plain a) a lines (plain_refused a) (λ q e. ap plain e) (follows (plain a) x.answers)) r h
     where
       Said : HandedSaying → Type 0
       Said r = (r.refusal ≡ 0) × (Is r.word × ((s : Saying) × (r.saying ≡ saying_number s) × SaysOf r.word s))
 
       by : (a : Answer Written) → AndSays Gives SaysOf a → ((q : Refusal) → a ≡ Err q → ⊥) → Said (saying_handed a)
-      by (Ok (w,s)) x none = (refl, (is w x.answers, (s, refl, x.says w s refl)))
+      by (Ok a) x none = (refl, (is a.word x.answers, (a.saying, refl, x.says a.word a.saying refl)))
       by (Err q) x none = absurd (none q refl)
 
 -- an answer that is no refusal passed the tests, and is what the contract says
@@ -116,7 +109,7 @@ is_strict_lem false e = absurd (rounded_strict e)
 
 pub takes_strictly : (strict : Bool) → taking_of (numbered strict) ≡ Taking.Strict → strict ≡ true
 takes_strictly true e = refl
-takes_strictly false e = let z : ◌≡◌ {A = ℕ} 0 1 = cc in absurd (omega arith)
+takes_strictly false e = absurd cc
 
 pub rule_retold : {A : Type 0} (R : Refusal → A) (a : A) (lines : List Line) (number : ℕ) (strict : Bool) (C : Type 0) → Follows R a (lines ++ line number ((rule_of (numbered strict) ≡ Rule.Strict) × C) ∷ []) → Follows R a (lines ++ line number ((strict ≡ true) × C) ∷ [])
 rule_retold R a lines number strict C = last_retold R a lines number _ _ (λ h. (is_strict_lem strict h.0, h.1)) (λ h. (ap (λ (b : Bool). rule_of (numbered b)) h.0, h.1))

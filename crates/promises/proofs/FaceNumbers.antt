@@ -1,7 +1,7 @@
 -- What the exported calls that write, move and take numbers hand over, from their contracts. Assumes nothing.
 use Rattle.std.specs.Prelude.{Ok, Err}
+use Rattle.bounds.specs.declared.width.Width.{Width}
 use Rattle.bounds.specs.Refusals.{passed, Answer}
-use Rattle.bounds.specs.Sayings.{written}
 use mathlib.Core.Path.{◌≡◌, refl, sym, ap, ◌∙◌, subst}
 use mathlib.Core.Bool.{Bool, true, false, false≢true}
 use mathlib.Core.List.{List, [], ◌∷◌}
@@ -50,7 +50,7 @@ use Rattle.promises.proofs.Lines.{width_tells, follow}
 use Rattle.promises.proofs.Nearest.{the_number_out_is_the_nearest}
 use Rattle.promises.proofs.Numbers.{a_word_that_is_not_NaR_goes_out_as_a_number}
 use Rattle.promises.proofs.Refusals.{refusals_follow_the_table}
-use Rattle.promises.proofs.WordRefusals.{word_none, inexact_line}
+use Rattle.promises.proofs.WordRefusals.{answer_none, inexact_line}
 
 -- ---- writing: the rule gives what is asked for
 given : (strict : Bool) (n : ℕ) (s : Bool) (a b w : ℕ) → IsWritten n (rule_of (numbered strict)) s a b (Ok w) → IsGiven strict n s a b w
@@ -64,7 +64,7 @@ IsWrittenAt n strict s a b r = Decided (width_test n) (λ q. r ≡ Err q) (IsWri
 
 value_hands : (n : ℕ) (strict s : Bool) (a b : ℕ) (r : HandedSaying) → HandsOver saying_handed (AndSays (IsWrittenAt n strict s a b) (Says n s a b)) r → HandsValue n strict s a b r
 unfolding IsWrittenAt Follows FollowsUpTo
-value_hands n strict s a b = said_hands (width n ∷ inexact strict (IsExact n s a b) ∷ []) (IsGiven strict n s a b) (Says n s a b) (λ w x. given strict n s a b w (unrefused (word_none w _ refl) x).1) follows
+value_hands n strict s a b = said_hands (width n ∷ inexact strict (IsExact n s a b) ∷ []) (IsGiven strict n s a b) (Says n s a b) (λ w x. given strict n s a b w (unrefused (answer_none w _ refl) x).1) follows
   where
     follows : (r : Answer ℕ) → IsWrittenAt n strict s a b r → Follows Err r (width n ∷ inexact strict (IsExact n s a b) ∷ [])
     follows r x = rule_retold Err r (width n ∷ []) 4 strict ((w : ℕ) → IsExact n s a b w → ⊥) (follow Refusal.Width (width_tells n) x (λ e. inexact_line n (rule_of (numbered strict)) s a b (IsExact n s a b) r (λ w y. y) (λ w y. y)))
@@ -85,7 +85,7 @@ is_NaR n w h e = let u = width_through n h in let t = the_NaR_word n u.0 u.1 in 
 -- what becomes NaR is exact
 NaR_said : (n : ℕ) (r : HandedSaying) → HandsOver saying_handed (AndSays (GivesWord nar_word n) (λ w s. s ≡ Exact)) r → HandsSaid (width n ∷ []) (IsNaR n) (λ w s. s ≡ Exact) r
 unfolding GivesWord
-NaR_said n = said_hands (width n ∷ []) (IsNaR n) (λ w s. s ≡ Exact) (λ w x. let t = unrefused (word_none w _ refl) x in is_NaR n w t.0 cc) (refusals_follow_the_table.words nar_word n)
+NaR_said n = said_hands (width n ∷ []) (IsNaR n) (λ w s. s ≡ Exact) (λ w x. let t = unrefused (answer_none w _ refl) x in is_NaR n w t.0 cc) (refusals_follow_the_table.words nar_word n)
 
 pub write_binary64_hands : (n : ℕ) (strict : Bool) (x : Float) (r : HandedSaying) → HandsOver saying_handed (WritesBinary64AndSays n (rule_of (numbered strict)) x) r → HandsBinary64Written n strict x r
 unfolding HandsBinary64Written WritesBinary64AndSays WritesBinary64 IsWrittenBinary64 SaysBinary64 IsWrittenAt GivesWord
@@ -102,7 +102,7 @@ moved_to strict n NaR w h x = is_NaR n w h cc
 -- a moved word is what is asked for
 pub moved_word : (n n' : ℕ) (strict : Bool) (w w' : ℕ) → Moves n n' (rule_of (numbered strict)) w (Ok w') → IsMovedTo n' strict (takum n w) w'
 unfolding Moves
-moved_word n n' strict w w' x = let t = unrefused (word_none w' _ refl) x in moved_to strict n' (takum n w) w' (move_through n n' w t.0).1 t.1
+moved_word n n' strict w w' x = let t = unrefused (answer_none w' _ refl) x in moved_to strict n' (takum n w) w' (move_through n n' w t.0).1 t.1
 
 pub moved_follows : (n n' : ℕ) (strict : Bool) (w : ℕ) (a : Answer ℕ) → Moves n n' (rule_of (numbered strict)) w a → Follows Err a (width n ∷ width n' ∷ word_lines n n' strict w)
 unfolding move_lines word_lines

@@ -1,7 +1,6 @@
 -- What the face hands over is one thing, for each of its functions: the public call's answer is one, and so is what is left in a lent slice. Assumes nothing.
 use Rattle.bounds.specs.Refusals.{ListAnswer}
 use Rattle.std.specs.Prelude.{⊤}
-use Rattle.bounds.specs.Sayings.{written}
 use mathlib.Core.Path.{◌≡◌, sym, ap, ◌∙◌, subst}
 use mathlib.Core.List.{List}
 use Prim.Native.Nat.{ℕ}

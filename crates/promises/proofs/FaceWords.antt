@@ -1,7 +1,8 @@
 -- What the exported calls on widths and words hand over, from their contracts. Assumes nothing.
 use Rattle.std.specs.Prelude.{Ok, Err}
 use Rattle.bounds.specs.Refusals.{Answer}
-use Rattle.std.specs.Ordering.{Ordering}
+use Rattle.std.specs.declared.cmp.Ordering.{Ordering}
+use Rattle.std.specs.Ordering.{int_cmp}
 use mathlib.Core.Path.{◌≡◌, refl, sym, ap, ◌∙◌, subst}
 use mathlib.Core.Bool.{false}
 use mathlib.Core.List.{[], ◌∷◌}
@@ -17,9 +18,11 @@ use Rattle.bounds.proofs.Powers.{not_more}
 use Rattle.bounds.proofs.Verdicts.{width_through, word_through, words_through}
 use Rattle.word.specs.declared.reading.Kind.{Kind}
 use Rattle.word.specs.Takum.{Takum, real, NaR, takum, fraction_bits, own_fraction_bits}
-use Rattle.word.specs.Reads.{IsKind, refused_reading, Reads}
+use Rattle.word.specs.declared.reading.Reading.{Reading}
+use Rattle.word.specs.Reads.{IsKind, Reads}
 use Rattle.word.specs.Orders.{signed, order, opposite, negated}
-use Rattle.order.specs.Orders.{Compares, Negates}
+use Rattle.order.specs.Orders.{order_number, Compares, Negates}
+use Rattle.order.proofs.Numbers.{order_number_is}
 use Rattle.word.proofs.Values.{order_of_values, order_same, NaR_below, above_NaR, words_differ, negated_word, negation_negates}
 use Rattle.nearest.specs.Nearest.{HasValue}
 use Rattle.write.specs.Writes.{is_negative}
@@ -34,10 +37,10 @@ use Rattle.promises.specs.Demands.{TheEndWords, TheNaRWord}
 use Rattle.promises.specs.Numbers.{IsWhole}
 use Rattle.promises.specs.Refusals.{width, stray}
 use Rattle.promises.specs.Face.{HandsWord, IsNaR, IsLargest, IsSmallest, CountsUpTo, HandsLargest, HandsSmallest, HandsNaR, HandsLimit, NoNumber, IsToldBy, HandsReading, order_of_meanings, HandsComparison, HandsNegated}
-use Rattle.promises.proofs.Demands.{the_end_words, the_NaR_word}
+use Rattle.promises.proofs.Demands.{reads_as, the_end_words, the_NaR_word}
 use Rattle.promises.proofs.FaceLaws.{hands, word_hands, unrefused}
 use Rattle.promises.proofs.Refusals.{refusals_follow_the_table}
-use Rattle.promises.proofs.WordRefusals.{word_none}
+use Rattle.promises.proofs.WordRefusals.{answer_none}
 
 -- ---- what belongs to a width
 of_width : (f : ℕ → ℕ) (n : ℕ) (Is : ℕ → Type 0) → (2 ≤ n → n ≤ 64 → Is (f n)) → (r : HandedWord) → HandsOver word_handed (GivesWord f n) r → HandsWord (width n ∷ []) Is r
@@ -45,7 +48,7 @@ unfolding GivesWord
 of_width f n Is is = word_hands (width n ∷ []) Is by (refusals_follow_the_table.words f n)
   where
     by : (w : ℕ) → GivesWord f n (Ok w) → Is w
-    by w x = let t = unrefused (word_none w _ refl) x in let u = width_through n t.0 in let e : f n ≡ w = cc in subst Is e (is u.0 u.1)
+    by w x = let t = unrefused (answer_none w _ refl) x in let u = width_through n t.0 in let e : f n ≡ w = cc in subst Is e (is u.0 u.1)
 
 pub largest_hands : (n : ℕ) (r : HandedWord) → HandsOver word_handed (GivesWord largest n) r → HandsLargest n r
 unfolding HandsLargest IsLargest TheEndWords
@@ -78,19 +81,24 @@ limit_hands n = hands Err (λ r. r.refusal) (λ r. r.limit ≡ 0) (λ r. (r.refu
 -- ---- one word
 pub read_hands : (n w : ℕ) (r : HandedReading) → HandsOver reading_handed (Reads n w) r → HandsReading n w r
 unfolding HandsReading NoNumber IsToldBy IsKind Reads
-read_hands n w = hands refused_reading (λ r. r.refusal) (λ r. (r.kind ≡ 0) × NoNumber r × (r.own ≡ 0)) (λ r. (r.refusal ≡ 0) × (IsToldBy n w r × (r.own ≡ own_fraction_bits n w))) (width n ∷ stray n w ∷ []) (λ q x. (refl, (refl, (refl, refl, refl, refl), refl))) (λ a x none. let y = (unrefused none x).1 in let t = by a.kind a.own y.what in (t.0, (t.1, own a.kind a.own ∙ y.fine))) (refusals_follow_the_table.read n w)
+read_hands n w = hands Err (λ r. r.refusal) (λ r. (r.kind ≡ 0) × NoNumber r × (r.own ≡ 0)) (λ r. (r.refusal ≡ 0) × (IsToldBy n w r × (r.own ≡ own_fraction_bits n w))) (width n ∷ stray n w ∷ []) (λ q x. (refl, (refl, (refl, refl, refl, refl), refl))) by (refusals_follow_the_table.read n w)
   where
-    by : (a : Kind) (o : ℕ) → IsKind (takum n w) (fraction_bits n w) a → ((kind_handed a o).refusal ≡ 0) × IsToldBy n w (kind_handed a o)
-    by Kind.Zero o x = (refl, inl (refl, x, (refl, refl, refl, refl)))
-    by Kind.Nar o x = (refl, inr (inl (refl, x, (refl, refl, refl, refl))))
-    by (Kind.Number s h m p) o x = (refl, inr (inr (refl, x)))
-    by (Err q) o x = absurd x
+    told : (a : Kind) (o : ℕ) → IsKind (takum n w) (fraction_bits n w) a → ((kind_handed a o).refusal ≡ 0) × IsToldBy n w (kind_handed a o)
+    told Kind.Zero o x = (refl, inl (refl, x, (refl, refl, refl, refl)))
+    told Kind.Nar o x = (refl, inr (inl (refl, x, (refl, refl, refl, refl))))
+    told (Kind.Number s h m p) o x = (refl, inr (inr (refl, x)))
 
     own : (a : Kind) (o : ℕ) → (kind_handed a o).own ≡ o
     own Kind.Zero o = refl
     own Kind.Nar o = refl
     own (Kind.Number s h m p) o = refl
-    own (Err q) o = refl
+
+    by : (a : Answer Reading) → Reads n w a → ((q : Refusal) → a ≡ Err q → ⊥) → ((reading_handed a).refusal ≡ 0) × (IsToldBy n w (reading_handed a) × ((reading_handed a).own ≡ own_fraction_bits n w))
+    by (Ok a) x none =
+        let y = reads_as n w a (word_through n w (unrefused none x).0) x in
+        let t = told a.kind a.own y.what in
+        (t.0, (t.1, own a.kind a.own ∙ y.fine))
+    by (Err q) x none = absurd (none q refl)
 
 order_of_meanings_lem : (n x y : ℕ) → IsWord n x → IsWord n y → (t u : Takum) → takum n x ≡ t → takum n y ≡ u → order (signed n x) (signed n y) ≡ order_of_meanings t u
 unfolding order_of_meanings
@@ -104,7 +112,7 @@ unfolding HandsComparison Compares
 compare_hands n x y = hands Err (λ r. r.refusal) (λ r. r.order ≡ pos 0) (λ r. (r.refusal ≡ 0) × (r.order ≡ order_of_meanings (takum n x) (takum n y))) (width n ∷ stray n x ∷ stray n y ∷ []) (λ q x. (refl, refl)) by (refusals_follow_the_table.compare n x y)
   where
     by : (a : Answer Ordering) → Compares n x y a → ((q : Refusal) → a ≡ Err q → ⊥) → ((comparison_handed a).refusal ≡ 0) × ((comparison_handed a).order ≡ order_of_meanings (takum n x) (takum n y))
-    by (Comparison.Is o) z none = let t = unrefused none z in let u = words_through n x y t.0 in let e : o ≡ order (signed n x) (signed n y) = cc in (refl, e ∙ order_of_meanings_lem n x y u.0 u.1 _ _ refl refl)
+    by (Ok o) z none = let t = unrefused none z in let u = words_through n x y t.0 in let e : o ≡ int_cmp (signed n x) (signed n y) = cc in (refl, ap order_number e ∙ order_number_is _ _ ∙ order_of_meanings_lem n x y u.0 u.1 _ _ refl refl)
     by (Err q) z none = absurd (none q refl)
 
 pub negate_hands : (n w : ℕ) (r : HandedWord) → HandsOver word_handed (Negates n w) r → HandsNegated n w r
@@ -113,7 +121,7 @@ negate_hands n w = word_hands (width n ∷ stray n w ∷ []) (λ v. IsWord n v �
   where
     by : (v : ℕ) → Negates n w (Ok v) → IsWord n v × (takum n v ≡ opposite (takum n w))
     by v x =
-        let t = unrefused (word_none v _ refl) x in
+        let t = unrefused (answer_none v _ refl) x in
         let i = word_through n w t.0 in
         let e : negated n w ≡ v = cc in
         subst (λ (k : ℕ). IsWord n k × (takum n k ≡ opposite (takum n w))) e (negated_word n w i, negation_negates n w i)

@@ -1,5 +1,6 @@
 -- The P figures hold, by one test that is computed over the whole table. Assumes nothing.
 use Rattle.std.specs.Prelude.{Ok, Err}
+use Rattle.bounds.specs.declared.width.Width.{Width}
 use Rattle.bounds.specs.declared.refusal.ListRefusal.{ListRefusal}
 use Rattle.bounds.specs.Refusals.{Answer, ListAnswer}
 use Rattle.std.specs.Prelude.{⊤}
@@ -241,11 +242,12 @@ holds : (f : Figure) → T (passes f) → FigureHolds f
 unfolding passes FigureHolds ReadingIsTheDefinition WritesAndSays Writes WritesWholeAndSays WritesWhole numerator denominator scaled
 holds (reads n w x) ok = λ a h.
     let y = both (is_word n w) (said x (takum n w)) ok in
-    (takum n w, said_is x (takum n w) y.1, reading_is_the_definition n w a (word_is n w y.0) h)
+    let (r, same, is) = reading_is_the_definition n w a (word_is n w y.0) h in
+    (r, same, (takum n w, said_is x (takum n w) y.1, is))
 holds (has_own n w k) ok =
     let y = both (is_word n w) (eqb (own_fraction_bits n w) k) ok in
     let i = word_is n w y.0 in
-    (i, λ a h. (reading_is_the_definition n w a i h).fine ∙ eqb→eq (own_fraction_bits n w) k y.1)
+    (i, λ a h. let (r, same, is) = reading_is_the_definition n w a i h in (r, same, is.fine ∙ eqb→eq (own_fraction_bits n w) k y.1))
 holds (writes n rule M w) ok = given_holds n rule M w ok
 holds (refuses n rule M number) ok = not_given_holds n rule M number (low_word n M) ok
 holds (writes_whole n rule M w) ok = λ a x. given_holds n rule M w ok a (as_value n rule M a x)
@@ -257,7 +259,7 @@ holds (needs x n) ok = needed_holds x n ok
 holds (needs_more x number) ok = needed_more_holds x number ok
 holds (refuses_blocks n number) ok = λ words buffer a x.
     let y = both (eqb n 8) (eqb number 13) ok in
-    subst (λ (k : ℕ). RefusedAs (ListAnswer ⊤) Err (ListRefusal.Whole k) a) (sym (eqb→eq number 13 y.1)) (is_retired n words buffer a (eqb→eq n 8 y.0) x)
+    subst (λ (k : ℕ). RefusedAs (ListAnswer ⊤) (λ q. Err (ListRefusal.Whole q)) k a) (sym (eqb→eq number 13 y.1)) (is_retired n words buffer a (eqb→eq n 8 y.0) x)
 holds (moves n w n' w' s) ok = λ a x. ⊎_elim (λ t. moves_and_says_one n n' Rule.Rounded w a (written w' s) x (moved_so n w n' w' s t)) (λ t. kept_holds n w n' w' s t a x) (either (move_settled n w n' w' s) (kept n w n' w' s) ok)
 
 all_hold : (fs : List Figure) → T (all_pass fs) → AllHold fs

@@ -7,7 +7,7 @@ use native.Mathlib.Nat.{zero-mul}
 use native.Mathlib.Omega.{arith}
 use lib.IntN.{pos}
 use lib.Pow.{pow_pos}
-use Rattle.bounds.specs.Refusals.{IsWord}
+use Rattle.bounds.specs.Refusals.{Answer, IsWord}
 use Rattle.bounds.proofs.Powers.{pow_sum, shl_below}
 use Rattle.word.specs.declared.reading.Reading.{Reading}
 use Rattle.word.specs.Takum as Takum
@@ -24,16 +24,15 @@ use Rattle.promises.specs.Demands.{ReadingIsTheDefinition}
 use Rattle.promises.specs.Writing.{WiderNeverChangesNorRefuses}
 use Rattle.promises.specs.Fineness as promise
 use Rattle.promises.specs.Fineness.{IsNumberOf, bits_before, Widened}
-use Rattle.promises.proofs.Demands.{reading_is_the_definition}
+use Rattle.promises.proofs.Demands.{reading_is_the_definition, reads_as}
 use Rattle.promises.proofs.Writing.{wider_never_changes_nor_refuses}
 
 pub a_reading_has_the_words_own_fraction_bits : promise.AReadingHasTheWordsOwnFractionBits
 unfolding promise.AReadingHasTheWordsOwnFractionBits ReadingIsTheDefinition
-a_reading_has_the_words_own_fraction_bits n w a i x = (reading_is_the_definition n w a i x).fine
+a_reading_has_the_words_own_fraction_bits n w a i x = let (r, same, is) = reading_is_the_definition n w a i x in (r, same, is.fine)
 
-own_is : (n w : ℕ) (a : Reading) → IsWord n w → Reads n w a → a.own ≡ own_fraction_bits n w
-unfolding promise.AReadingHasTheWordsOwnFractionBits
-own_is = a_reading_has_the_words_own_fraction_bits
+own_is : (n w : ℕ) (a : Reading) → IsWord n w → Reads n w (Ok a) → a.own ≡ own_fraction_bits n w
+own_is n w a i x = (reads_as n w a i x).fine
 
 zero_word : (n w : ℕ) → IsWord n w → takum n w ≡ real (pos 0) → w ≡ 0
 zero_word n w i z = words_differ n w 0 i (record { least = i.least; most = i.most; fits = pow_pos n }) (z ∙ sym (takum_zero n))
@@ -43,10 +42,10 @@ unfolding promise.ZeroAndNaRHaveNone
 zero_and_NaR_have_none n w a i x t = own_is n w a i x ∙ ⊎_elim (λ z. zero_has_none n w (zero_word n w i z)) (λ z. NaR_has_none n w (NaR_word n w i z)) t
 
 -- ---- a number
-module _ (n w p : ℕ) (a : Reading) (i : IsWord n w) (x : Reads n w a) (k : IsNumberOf p a) where
+module _ (n w p : ℕ) (a : Reading) (i : IsWord n w) (x : Reads n w (Ok a)) (k : IsNumberOf p a) where
   number : IsNumber (takum n w) (fraction_bits n w) k.negative k.h k.m p
-  unfolding ReadingIsTheDefinition IsKind
-  number = subst (IsKind (takum n w) (fraction_bits n w)) k.is (reading_is_the_definition n w a i x).what
+  unfolding IsKind
+  number = subst (IsKind (takum n w) (fraction_bits n w)) k.is (reads_as n w a i x).what
 
   not_special : (w ≡ 0 → ⊥) × (w ≡ 2 ^ (n - 1) → ⊥)
   not_special = (λ q. number_not_zero _ _ _ _ _ _ number (ap (takum n) q ∙ takum_zero n), λ q. number_not_NaR _ _ _ _ _ _ number (takum_NaR n w i.least i.most q))
@@ -78,7 +77,7 @@ module _ (n k w w' : ℕ) (a a' : Reading) (x : Widened n k w w' a a') where
   unfolding WiderNeverChangesNorRefuses
   kept = ⊎_elim wider narrower x.moved
     where
-      word_inj : {v w : ℕ} → Ok v ≡ Ok w → v ≡ w
+      word_inj : {v w : ℕ} → ◌≡◌ {A = Answer ℕ} (Ok v) (Ok w) → v ≡ w
       word_inj q = cc
 
       wider : (IsWord n w × (rule : Rule) × Moves n (n + k) rule w (Ok w')) → IsWord n w × IsWord (n + k) w' × (takum (n + k) w' ≡ takum n w)

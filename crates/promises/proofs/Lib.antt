@@ -1,6 +1,3 @@
-use Rattle.bounds.specs.Refusals.{ListAnswer}
-use Rattle.std.specs.Prelude.{⊤}
-use Rattle.bounds.specs.Sayings.{written}
 -- The promises, proved from what the other crates make public, in reading order.
 
 -- ---- demand 1
@@ -25,7 +22,7 @@ pub mod Demands
 -- what paper 01 says of every word
 pub mod Words
 -- writing and moves
-pub mod (ListAnswer ⊤)
+pub mod Writing
 -- how fine a reading is
 pub mod Fineness
 -- whatever is written through the hub

@@ -1,6 +1,6 @@
 -- How an answer follows the lines of the table: the tests of a contract, taken apart in their order. Assumes nothing.
 use Rattle.std.specs.Prelude.{Ok, Err}
-use Rattle.bounds.specs.Refusals.{passed, Answer}
+use Rattle.bounds.specs.Refusals.{passed, Answer, Verdict}
 use mathlib.Core.Path.{◌≡◌, refl, ap, ◌∙◌}
 use mathlib.Core.List.{List, [], ◌∷◌}
 use mathlib.Core.Logic.{◌⊎◌, inl, inr, ⊎_elim}
@@ -38,8 +38,8 @@ stray_tells n w = by (dec_lt w (2 ^ n))
 
 -- ---- a contract with tests in a row, taken apart
 pub parts : {v u : Verdict} {P : Refusal → Type 0} {Q : Type 0} → Decided (v then u) P Q → Decided v P (Decided u P Q)
-parts {v = passed} x = through refl x
-parts {v = Err q} (through h x) = let z : ◌≡◌ {A = ℕ} 0 1 = cc in absurd (omega arith)
+parts {v = Ok _} x = through refl x
+parts {v = Err q} (through h x) = absurd cc
 parts {v = Err q} (refused h x) = refused h x
 
 -- one line, and what comes after it
@@ -49,7 +49,7 @@ follow q (fails e n) x f = inr (n, f e (answered e x))
 
 -- a call that answers with the verdict itself
 pub verdict_decided : {v a : Verdict} → a ≡ v → Decided v (λ q. a ≡ Err q) (a ≡ passed)
-verdict_decided {v = passed} x = through refl x
+verdict_decided {v = Ok _} x = through refl x
 verdict_decided {v = Err q} x = refused refl x
 
 -- a condition said otherwise
@@ -79,7 +79,7 @@ none_hold R R' a b (line number When ∷ lines) P p none (inl (h, x)) = absurd (
 none_hold R R' a b (line number When ∷ lines) P p none (inr (h, x)) = inr (h, none_hold R R' a b lines P p none x)
 
 -- a refusal that is handed on: the line that gave it holds
-pub handed_on : {A : Type 0} (R : Refusal → A) (q : Refusal) (lines : List Line) (P : Type 0) → Follows Err (Err q) lines → FollowsUpTo R (R q) lines P
+pub handed_on : {A : Type 0} (R : Refusal → A) (q : Refusal) (lines : List Line) (P : Type 0) → Follows {A = Answer ℕ} Err (Err q) lines → FollowsUpTo R (R q) lines P
 unfolding Follows FollowsUpTo
 handed_on R q [] P x = absurd (x q refl)
 handed_on R q (line number When ∷ lines) P (inl (h, x)) = inl (h, record { q = q; is = refl; known = let e = x.is in let same : q ≡ x.q = cc in ap number_of same ∙ x.known })

@@ -1,8 +1,11 @@
 -- The laws of moving that specs/Moving.antt states: a move hangs on what the word means, keeps order and sign, and a wider one keeps the meaning.
 -- Assumes nothing.
-use Rattle.std.specs.Prelude.{Ok, Err}
+use Rattle.std.specs.Prelude.{Ok, Err, IsErrAnd}
+use Rattle.std.proofs.lemmas.Result.{err_from_is_err_and}
 use Rattle.bounds.specs.Refusals.{Answer}
-use Rattle.std.specs.Ordering.{Ordering}
+use Rattle.std.specs.declared.cmp.Ordering.{Ordering}
+use Rattle.std.specs.declared.cmp.Ordering.TheVariants.{Less, Equal}
+use Rattle.std.specs.Ordering.{int_cmp}
 use mathlib.Core.Path.{◌≡◌, refl, sym, ap, ap₂, ◌∙◌, subst, subst₂}
 use mathlib.Core.Logic.{◌⊎◌, inl, inr, ⊎_elim}
 use mathlib.Core.Bool.{Bool, true, false, cond}
@@ -12,6 +15,7 @@ use native.Mathlib.Omega.{arith}
 use lib.IntN.{ℤ, pos, negsuc, neg_ℤ, nat_abs, pos-ne-negsuc}
 use lib.Signed.{lt_z}
 use Rattle.bounds.specs.declared.answer.Written.{Written}
+use Rattle.bounds.specs.declared.refusal.Refusal.{Refusal}
 use Rattle.bounds.specs.declared.saying.Saying.TheVariants.{Exact, Below, Above}
 use Rattle.bounds.specs.Refusals.{IsWord, through, refused}
 use Rattle.bounds.specs.Sayings.{plain}
@@ -25,6 +29,7 @@ use Rattle.word.specs.Orders.{signed, order, negated}
 use Rattle.word.proofs.Words.{takum_NaR, takum_zero, zeros_appended}
 use Rattle.word.proofs.Values.{NaR_word, NaR_below, above_NaR, order_same, order_exchanged, order_of_values}
 use Rattle.order.specs.Orders.{Compares, Negates}
+use Rattle.order.proofs.Numbers.{order_number_is}
 use Rattle.round.specs.declared.value.Rule.{Rule}
 use Rattle.round.specs.Writes.{zero, other, IsWritten}
 use Rattle.round.proofs.Order.{NotGreater, rounding_keeps_order}
@@ -36,11 +41,16 @@ use Rattle.promises.specs.Sayings as sayings
 use Rattle.promises.specs.Sayings.{IsFit, Gives, word, opposite}
 use Rattle.promises.specs.Moving as promise
 use Rattle.promises.specs.Moving.{goes_on, stops, GoesOutAndBack, OutAndBack, GoesNegated, MovesNegated, GoesCompared, ComparesMoved, IsNotReversed, GoesBy}
+use Rattle.promises.proofs.Demands.{order_is}
 use Rattle.promises.proofs.Sayings.{meaning_kept, moved_words, a_move_is_exact_where_the_meaning_stays, negating_exchanges_below_and_above}
 use Rattle.promises.proofs.Settled.{size_at, is_positive, past_half, before_half, is_rounded, went, size_settled, settled, meaning_settled, move_settled, moved_so}
 use Rattle.promises.proofs.Tests.{size_of, is_word}
-use Rattle.promises.proofs.WordRefusals.{word_none}
+use Rattle.promises.proofs.WordRefusals.{answer_none}
 use Rattle.promises.proofs.Writing.{target_tested}
+
+-- what a `?` hands on
+pub handed : {A : Type 0} (r : Answer A) (q : Refusal) → IsErrAnd r (λ e. e ≡ q) → r ≡ Err q
+handed r q e = let p = err_from_is_err_and r e in p.1 ∙ ap Err p.2
 
 -- ---- wider
 -- at a width that is at least as wide there is a word with the same meaning
@@ -73,7 +83,7 @@ unfolding promise.OutAndBackIsTheFirstMove GoesOutAndBack word_of
 out_and_back_is_the_first_move a b c w rule r wide top (stops q m e) = subst (Moves a b Rule.Rounded w) (sym e) m
 out_and_back_is_the_first_move a b c w rule r wide top (goes_on u m (stops q m' e)) =
     let t = on_to b c u rule (Err q) wide top (moved_words a b Rule.Rounded w u m).1 m' in
-    absurd (word_none t.0 (Err q) t.1 q refl)
+    absurd (answer_none t.0 (Err q) t.1 q refl)
 out_and_back_is_the_first_move a b c w rule r wide top (goes_on u m (goes_on v m' back)) =
     let i = (moved_words a b Rule.Rounded w u m).1 in
     let t = on_to b c u rule (Ok v) wide top i m' in
@@ -87,7 +97,7 @@ goes_out_and_back a b c w r x = record { goes = x; first = λ wide top. out_and_
 pub the_negation_moves_to_the_negation : promise.TheNegationMovesToTheNegation
 unfolding promise.TheNegationMovesToTheNegation GoesNegated Negates sayings.NegatingExchangesBelowAndAbove IsFit Gives opposite MovesAndSays word_of
 the_negation_moves_to_the_negation a b w u s r x (stops q n e) =
-    absurd (word_none (negated a w) (Err q) (answered (word_passes a w (moved_words a b Rule.Rounded w u x.answers).0) n) q refl)
+    absurd (answer_none (negated a w) (Err q) (answered (word_passes a w (moved_words a b Rule.Rounded w u x.answers).0) n) q refl)
 the_negation_moves_to_the_negation a b w u s r x (goes_on o n y) =
     let t = moved_words a b Rule.Rounded w u x.answers in
     let same = ap word_of (answered (word_passes a w t.0) n) in
@@ -149,21 +159,24 @@ was_greater x y u v keeps h =
     ⊎_elim (λ e. absurd (keeps (λ g. pos-ne-negsuc 1 0 (sym g ∙ e)) h)) (⊎_elim (λ e. absurd (keeps (λ g. omega (arith, ap nat_abs (sym g ∙ e))) h)) (λ e. e)) (one_of_three x y)
 
 -- and what is less was less, since it is the greater of the two exchanged
-not_reversed : (x y u v : ℤ) → (NotGreater x y → NotGreater u v) → (NotGreater y x → NotGreater v u) → IsNotReversed (order x y) (order u v)
-unfolding IsNotReversed
-not_reversed x y u v keeps keeps' =
+number_not_reversed : (x y u v : ℤ) → (NotGreater x y → NotGreater u v) → (NotGreater y x → NotGreater v u) → (order u v ≡ order x y) ⊎ (order u v ≡ pos 0)
+number_not_reversed x y u v keeps keeps' =
     ⊎_elim (λ e. inl (e ∙ sym (order_exchanged y x ∙ ap neg_ℤ (was_greater y x v u keeps' (order_exchanged u v ∙ ap neg_ℤ e))))) (⊎_elim inr (λ e. inl (e ∙ sym (was_greater x y u v keeps e)))) (one_of_three u v)
 
+not_reversed : (x y u v : ℤ) → (NotGreater x y → NotGreater u v) → (NotGreater y x → NotGreater v u) → IsNotReversed (int_cmp x y) (int_cmp u v)
+unfolding IsNotReversed
+not_reversed x y u v keeps keeps' = ⊎_elim (λ e. inl (order_is u v (int_cmp x y) (e ∙ sym (order_number_is x y)))) (λ e. inr (order_is u v Equal e)) (number_not_reversed x y u v keeps keeps')
+
 -- the order that is answered
-answered_order : (n x y : ℕ) (i : ℤ) → Compares n x y (Comparison.Is i) → IsWord n x × IsWord n y × (order (signed n x) (signed n y) ≡ i)
+answered_order : (n x y : ℕ) (o : Ordering) → Compares n x y (Ok o) → IsWord n x × IsWord n y × (int_cmp (signed n x) (signed n y) ≡ o)
 unfolding Compares
-answered_order n x y i (through h e) = let t = words_through n x y h in (t.0, t.1, cc)
-answered_order n x y i (refused h e) = let z : ◌≡◌ {A = ℕ} 0 1 = cc in absurd (omega arith)
+answered_order n x y o (through h e) = let t = words_through n x y h in (t.0, t.1, cc)
+answered_order n x y o (refused h e) = absurd cc
 
 pub moving_never_reverses_the_order : promise.MovingNeverReversesTheOrder
 unfolding promise.MovingNeverReversesTheOrder GoesCompared
-moving_never_reverses_the_order a b x y before after p (stops q m e) = let z : ◌≡◌ {A = ℕ} 0 1 = cc in absurd (omega arith)
-moving_never_reverses_the_order a b x y before after p (goes_on u m (stops q m' e)) = let z : ◌≡◌ {A = ℕ} 0 1 = cc in absurd (omega arith)
+moving_never_reverses_the_order a b x y before after p (stops q m e) = absurd cc
+moving_never_reverses_the_order a b x y before after p (goes_on u m (stops q m' e)) = absurd cc
 moving_never_reverses_the_order a b x y before after p (goes_on u m (goes_on v m' q)) =
     subst₂ IsNotReversed (answered_order a x y before p).2 (answered_order b u v after q).2
     (not_reversed (signed a x) (signed a y) (signed b u) (signed b v) (still_not_greater a b x y u v m m') (still_not_greater a b y x v u m' m))
@@ -176,13 +189,13 @@ moved_real b z v (other h x) = (_, x.is.means)
 
 pub NaR_stays_below_every_other_word : promise.NaRStaysBelowEveryOtherWord
 unfolding promise.NaRStaysBelowEveryOtherWord GoesCompared IsMoved nar_word word_of
-NaR_stays_below_every_other_word a b x y z after p p' (stops q m e) = let z : ◌≡◌ {A = ℕ} 0 1 = cc in absurd (omega arith)
-NaR_stays_below_every_other_word a b x y z after p p' (goes_on u m (stops q m' e)) = let z : ◌≡◌ {A = ℕ} 0 1 = cc in absurd (omega arith)
+NaR_stays_below_every_other_word a b x y z after p p' (stops q m e) = absurd cc
+NaR_stays_below_every_other_word a b x y z after p p' (goes_on u m (stops q m' e)) = absurd cc
 NaR_stays_below_every_other_word a b x y z after p p' (goes_on u m (goes_on v m' q)) =
     let t = answered_order b u v after q in
     let nar = takum_NaR b u t.0.least t.0.most (ap word_of (subst (λ (s : Takum). IsMoved b Rule.Rounded s (Ok u)) p (moved_meaning a b x u m))) in
     let k = moved_real b z v (subst (λ (s : Takum). IsMoved b Rule.Rounded s (Ok v)) p' (moved_meaning a b y v m')) in
-    sym t.2 ∙ NaR_below b u v t.0 t.1 k.0 nar k.1
+    sym t.2 ∙ order_is _ _ Less (NaR_below b u v t.0 t.1 k.0 nar k.1)
 
 pub goes_compared : (a b x y : ℕ) (r : Answer Ordering) → GoesCompared a b x y r → ComparesMoved a b x y r
 unfolding promise.MovingNeverReversesTheOrder
@@ -201,7 +214,7 @@ moved_alike a b c w u r r' i j same x y = moves_and_says_one a c Rule.Rounded w 
 -- by way of b, where a word there means what the word means
 by_the_same : (a b c w u : ℕ) (r r' : Answer Written) → IsWord a w → IsWord b u → takum b u ≡ takum a w → GoesBy a b c w r → MovesAndSays a c Rule.Rounded w r' → r ≡ r'
 unfolding GoesBy word_of
-by_the_same a b c w u r r' i j same (stops q m e) x = absurd (word_none u (Err q) (moved_to_the_same a b w u Rule.Rounded (Err q) i j same m) q refl)
+by_the_same a b c w u r r' i j same (stops q m e) x = absurd (answer_none u (Err q) (moved_to_the_same a b w u Rule.Rounded (Err q) i j same m) q refl)
 by_the_same a b c w u r r' i j same (goes_on v m y) x =
     moved_alike a b c w u r r' i j same (subst (λ (v : ℕ). MovesAndSays b c Rule.Rounded v r) (ap word_of (moved_to_the_same a b w u Rule.Rounded (Ok v) i j same m)) y) x
 

@@ -1,7 +1,6 @@
 -- The promises that specs/Numbers.antt states, from the laws of whole numbers and of binary64. Assumes nothing.
 use Rattle.std.specs.Prelude.{Ok, Err}
 use Rattle.bounds.specs.Refusals.{passed, Answer}
-use Rattle.bounds.specs.Sayings.{written}
 use mathlib.Core.Path.{◌≡◌, refl, sym, ap, subst}
 use mathlib.Core.Bool.{false}
 use mathlib.Core.Logic.{⊎_elim}

@@ -1,9 +1,7 @@
 -- The promises that specs/OldBlocks.antt states, from the tests of a block that is to be written and of one that is read. Assumes nothing.
-use Rattle.std.specs.Prelude.{Err}
+use Rattle.std.specs.Prelude.{⊤, Err}
 use Rattle.bounds.specs.declared.refusal.ListRefusal.{ListRefusal}
-use Rattle.bounds.specs.Refusals.{passed, ListAnswer}
-use Rattle.std.specs.Prelude.{⊤}
-use Rattle.bounds.specs.Sayings.{written}
+use Rattle.bounds.specs.Refusals.{Answer, ListAnswer, passed}
 use mathlib.Core.Path.{◌≡◌, refl, sym, ap, ap₂, ◌∙◌, subst}
 use mathlib.Core.Bool.{true, ◌&&◌}
 use mathlib.Core.List.{List, [], ◌∷◌, ◌++◌}
@@ -22,7 +20,7 @@ use Rattle.bounds.proofs.Verdicts.{answered, refused_as}
 use Rattle.sheet.specs.declared.block.Block.{Block}
 use Rattle.sheet.specs.Layout.{number, number_at, packed, mark, width, count, block_number, word_bytes, end, words, unused, numbers, A, B}
 use Rattle.sheet.specs.Sums.{total, sum_a, running, sum_b}
-use Rattle.sheet.specs.Reads.{all_zero, check_test, block_width_test, count_test, fill_test, block_test, ReadsBlock}
+use Rattle.sheet.specs.Reads.{block_read, all_zero, check_test, block_width_test, count_test, fill_test, block_test, ReadsBlock}
 use Rattle.sheet.specs.Writes.{WritesBlock, FillsBuffer}
 use Rattle.sheet.proofs.Case.{all_bytes, are_bytes}
 use Rattle.sheet.proofs.Contents.{old_width}
@@ -38,7 +36,7 @@ use Rattle.promises.specs.Refusals.{Follows, FollowsUpTo, size, written_width, r
 use Rattle.promises.proofs.WrittenRefusals.{written_follows}
 
 -- ---- written no more
-pub is_retired : (n : ℕ) (words before : List ℕ) (a : ListAnswer ⊤) → n ≡ 8 → WritesBlock n words before a → RefusedAs (ListAnswer ⊤) Err (ListRefusal.Whole 13) a
+pub is_retired : (n : ℕ) (words before : List ℕ) (a : ListAnswer ⊤) → n ≡ 8 → WritesBlock n words before a → RefusedAs (ListAnswer ⊤) (λ q. Err (ListRefusal.Whole q)) 13 a
 unfolding WritesBlock
 is_retired n words before a e x = record { q = Refusal.Retired; is = refused_as Refusal.Retired (old_width n (length words) before (width_is n (inl e)) e) x; known = refl }
 
@@ -48,10 +46,10 @@ no_block_of_width_8_is_written number words before after a x y = let r = is_reti
     (r, subst (λ (b : ListAnswer ⊤). FillsBuffer 8 number words before b after) r.is y)
 
 -- an answer is refused with one number
-one_number : (i j : ℕ) (a : ListAnswer ⊤) → RefusedAs (ListAnswer ⊤) Err (ListRefusal.Whole i) a → RefusedAs (ListAnswer ⊤) Err (ListRefusal.Whole j) a → i ≡ j
+one_number : (i j : ℕ) (a : ListAnswer ⊤) → RefusedAs (ListAnswer ⊤) (λ q. Err (ListRefusal.Whole q)) i a → RefusedAs (ListAnswer ⊤) (λ q. Err (ListRefusal.Whole q)) j a → i ≡ j
 one_number i j a x y = sym x.known ∙ ap number_of same ∙ y.known
   where
-    both : Err (ListRefusal.Whole x.q) ≡ Err (ListRefusal.Whole y.q)
+    both : ◌≡◌ {A = ListAnswer ⊤} (Err (ListRefusal.Whole x.q)) (Err (ListRefusal.Whole y.q))
     both = sym x.is ∙ y.is
 
     same : x.q ≡ y.q
@@ -61,10 +59,10 @@ pub only_width_8_is_retired : promise.OnlyWidth8IsRetired
 unfolding promise.OnlyWidth8IsRetired Follows FollowsUpTo
 only_width_8_is_retired n words before a x r = by (written_follows n words before a x)
   where
-    not_13 : (i : ℕ) → i ≤ 12 → RefusedAs (ListAnswer ⊤) Err (ListRefusal.Whole i) a → ⊥
+    not_13 : (i : ℕ) → i ≤ 12 → RefusedAs (ListAnswer ⊤) (λ q. Err (ListRefusal.Whole q)) i a → ⊥
     not_13 i h y = omega (arith, h, one_number i 13 a y r)
 
-    by : Follows Err (ListRefusal.Whole a) (written_width n ∷ retired n ∷ written_count n (length words) ∷ size before ∷ []) → n ≡ 8
+    by : Follows (λ q. Err (ListRefusal.Whole q)) a (written_width n ∷ retired n ∷ written_count n (length words) ∷ size before ∷ []) → n ≡ 8
     by (inl y) = absurd (not_13 1 (omega arith) y.1)
     by (inr (f, inl y)) = y.0
     by (inr (f, inr (g, inl y))) = absurd (not_13 10 (omega arith) y.1)
@@ -100,15 +98,15 @@ module _ (block : List ℕ) (old : IsOldBlock block) where
   accepted : (places : ℕ) → count block ≤ places → block_test block places ≡ passed
   accepted places room = room_decides block places old.sized old.marked checked wide counted filled ∙ room_fits (count block) places room
 
-  is_read : (places : ℕ) (a : Block) → count block ≤ places → ReadsBlock block places a → a ≡ Block.Read 8 (block_number block) (count block)
+  is_read : (places : ℕ) (a : Answer Block) → count block ≤ places → ReadsBlock block places a → a ≡ block_read 8 (block_number block) (count block)
   unfolding ReadsBlock
-  is_read places a room r = answered (accepted places room) r ∙ ap (λ (n : ℕ). Block.Read n (block_number block) (count block)) old.wide
+  is_read places a room r = answered (accepted places room) r ∙ ap (λ (n : ℕ). block_read n (block_number block) (count block)) old.wide
 
 pub old_blocks_are_still_read : promise.OldBlocksAreStillRead
 unfolding promise.OldBlocksAreStillRead
 old_blocks_are_still_read block before after a old room r f =
     let is = is_read block old (length before) a room r in
-    let r' : ReadsBlock block (length before) (Block.Read 8 (block_number block) (count block)) = subst (ReadsBlock block (length before)) is r in
+    let r' : ReadsBlock block (length before) (block_read 8 (block_number block) (count block)) = subst (ReadsBlock block (length before)) is r in
     let at = result_at block before after 8 (block_number block) (count block) r' f in
     (is, λ j h. at j h ∙ ap (λ (k : ℕ). number_at 1 (8 + k) block) (one-mul j) ∙ number_at_one (8 + j) block (omega (arith, h, old.inside, old.sized)), result_kept block before after 8 (block_number block) (count block) r' f)
 

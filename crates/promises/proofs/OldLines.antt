@@ -2,12 +2,12 @@
 use Rattle.std.specs.Prelude.{Ok, Err}
 use Rattle.bounds.specs.Refusals.{Answer}
 use mathlib.Core.Path.{◌≡◌, refl, sym, ap, ap₂, ◌∙◌, subst}
-use mathlib.Core.Bool.{Bool, true, false, cond, not, ◌&&◌, and_assoc, false≢true}
+use mathlib.Core.Bool.{Bool, true, false, cond, not, ◌&&◌, and_assoc}
 use mathlib.Core.List.{List, [], ◌∷◌, ◌++◌, append-nil, reverse, reverse_aux-append, head-eq_of_cons-eq}
 use Prim.Native.Nat.{ℕ, zero, suc, ◌+◌, ◌/◌, ◌%◌}
 use native.Mathlib.Omega.{arith}
 use lib.Dec.{eqb, ltb}
-use lib.IntN.{pos, negsuc}
+use lib.IntN.{ℤ, pos, negsuc}
 use lib.ListN.{length, take, drop}
 use lib.Seq.{append_snoc, take_all, take-append-le}
 use borrow.Author.Tests.{lt-ltb, ne_eqb, eqb-false, not-true}
@@ -22,10 +22,11 @@ use Rattle.sheet.proofs.Tests.{not_both}
 use Rattle.listing.specs.declared.blocks.Listed.{Listed}
 use Rattle.listing.specs.Listing.{ListsBlock, IsListed, ListsInto}
 use Rattle.listing.specs.Puts.{PutsSome}
-use Rattle.listing.specs.Text.{minus, space, newline, nar, over, old, old_text, refusal_text, block_text, refused_text, hex_of, IsDecimal, IsSigned, IsShown, IsField, IsWholeText, IsOwnText, IsLine, AreLines, IsRefusedLine}
+use Rattle.listing.specs.Text.{minus, space, newline, nar, over, old, old_text, refusal_text, block_text, refused_text, hex_of, own_of, IsDecimal, IsSigned, IsShown, IsField, IsWholeText, IsOwnText, IsLine, AreLines, IsRefusedLine}
 use Rattle.listing.proofs.Old.{is_old, isn't_old}
 use Rattle.promises.specs.OldLines as promise
 use Rattle.promises.specs.OldLines.{IsUnbroken, EachLine, none, more, EndsInOld}
+use Rattle.promises.proofs.WordRefusals.{answer_none}
 
 -- ---- no byte ends the line: a test, which a fixed text passes by computing
 abbrev passes : List ℕ → Bool
@@ -105,7 +106,7 @@ module _ (P : List ℕ → Type 0) where
     unfolding IsLine IsOwnText hex_of space newline
     line position w t (b, p, x, o, hb, hp, hx, (a, d, y, hd, eo), e) =
         let f = b ++ p ++ hex_of n w ++ x ++ (space ∷ []) in
-        (f ++ d ++ old_text n, simp (joined, field_passes number b hb, field_passes position p hp, digits_pass, whole_passes n w x hx, decimal_passes a.own d hd, old_passes), so f d a.own hd, cc (append_snoc (b ++ p ++ hex_of n w ++ x) space d))
+        (f ++ d ++ old_text n, simp (joined, field_passes number b hb, field_passes position p hp, digits_pass, whole_passes n w x hx, decimal_passes (own_of a) d hd, old_passes), so f d (own_of a) hd, cc (append_snoc (b ++ p ++ hex_of n w ++ x) space d))
 
     lines : (position : ℕ) (ws t : List ℕ) → AreLines number n position ws t → EachLine P (length ws) t
     unfolding AreLines
@@ -119,28 +120,24 @@ refused_line i q t (d, r, x, y, e) =
     (f ++ r, simp (joined f r, joined d refused_text, decimal_passes i d x, decimal_passes (number_of q) r y), not_old f r (number_of q) y, e)
 
 -- ---- what the call has put is a text of the block
-abbrev is_length : Listed → Bool
-is_length (Listed.Length n q) = true
-is_length (Err q) = false
-
-is_text : (block : List ℕ) (i : ℕ) (before after : List ℕ) (n q : ℕ) → ListsInto block i before after (Listed.Length n q) → ListsBlock block i (take n after)
+is_text : (block : List ℕ) (i : ℕ) (before after : List ℕ) (put : Listed) → ListsInto block i before after (Ok put) → ListsBlock block i (take put.length after)
 unfolding ListsInto IsListed PutsSome
-is_text block i before after n q (through h ((t, x, p), room, number)) = subst (ListsBlock block i) (sym (ap₂ take p.place p.content ∙ take-append-le (0 + length t) t (drop (0 + length t) before) (omega arith) ∙ take_all (0 + length t) t (omega arith))) x
-is_text block i before after n q (refused h x) = absurd (false≢true (sym (ap is_length x.0)))
+is_text block i before after put (through h ((t, x, p), room, number)) = subst (ListsBlock block i) (sym (ap₂ take p.place p.content ∙ take-append-le (0 + length t) t (drop (0 + length t) before) (omega arith) ∙ take_all (0 + length t) t (omega arith))) x
+is_text block i before after put (refused {q = q} h x) = absurd (answer_none put (Ok put) refl q x.0)
 
 -- ---- the promises
 pub the_lines_of_an_old_block_end_in_old : promise.TheLinesOfAnOldBlockEndInOld
 unfolding promise.TheLinesOfAnOldBlockEndInOld ListsBlock EndsInOld
-the_lines_of_an_old_block_end_in_old block i before after n q listed pass wide = by (is_text block i before after n q listed)
+the_lines_of_an_old_block_end_in_old block i before after put listed pass wide = by (is_text block i before after put listed)
   where
-    by : ListsBlock block i (take n after) → EachLine EndsInOld (count block) (take n after)
-    by (through h x) = subst (λ (k : ℕ). EachLine EndsInOld k (take n after)) (words_length block) (lines EndsInOld (block_number block) (width block) (λ f d own y. (f ++ d, ap (λ (o : List ℕ). f ++ d ++ o) (is_old (width block) (omega (arith, wide))))) 0 (words block) (take n after) x)
+    by : ListsBlock block i (take put.length after) → EachLine EndsInOld (count block) (take put.length after)
+    by (through h x) = subst (λ (k : ℕ). EachLine EndsInOld k (take put.length after)) (words_length block) (lines EndsInOld (block_number block) (width block) (λ f d own y. (f ++ d, ap (λ (o : List ℕ). f ++ d ++ o) (is_old (width block) (omega (arith, wide))))) 0 (words block) (take put.length after) x)
     by (refused h x) = absurd (not_both pass h)
 
 pub no_other_line_ends_in_old : promise.NoOtherLineEndsInOld
 unfolding promise.NoOtherLineEndsInOld ListsBlock
-no_other_line_ends_in_old block i before after n r listed other = by (is_text block i before after n r listed)
+no_other_line_ends_in_old block i before after put listed other = by (is_text block i before after put listed)
   where
-    by : ListsBlock block i (take n after) → (k : ℕ) × EachLine (λ l. EndsInOld l → ⊥) k (take n after)
-    by (through h x) = (_, lines _ (block_number block) (width block) (λ f d own y. rw (isn't_old (width block) (λ e. omega (arith, e, other h)), append-nil) (not_old f d own y)) 0 (words block) (take n after) x)
-    by (refused {q = q} h x) = (1, rw append-nil at (first _ 0 (take n after) [] (refused_line i q (take n after) x) none))
+    by : ListsBlock block i (take put.length after) → (k : ℕ) × EachLine (λ l. EndsInOld l → ⊥) k (take put.length after)
+    by (through h x) = (_, lines _ (block_number block) (width block) (λ f d own y. rw (isn't_old (width block) (λ e. omega (arith, e, other h)), append-nil) (not_old f d own y)) 0 (words block) (take put.length after) x)
+    by (refused {q = q} h x) = (1, rw append-nil at (first _ 0 (take put.length after) [] (refused_line i q (take put.length after) x) none))

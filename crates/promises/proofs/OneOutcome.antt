@@ -1,7 +1,8 @@
 -- Two outcomes that a public contract allows are equal, for each public call. Assumes nothing.
 use Rattle.std.specs.Prelude.{Ok, Err}
-use Rattle.bounds.specs.Refusals.{Answer}
-use Rattle.std.specs.Ordering.{Ordering, int_cmp}
+use Rattle.bounds.specs.Refusals.{Answer, Verdict}
+use Rattle.std.specs.declared.cmp.Ordering.{Ordering}
+use Rattle.std.specs.Ordering.{int_cmp}
 use mathlib.Core.Bool.{Bool}
 use mathlib.Core.Path.{◌≡◌, refl, sym, ap, ap₂, ◌∙◌, subst}
 use mathlib.Core.List.{List, [], ◌∷◌}
@@ -10,6 +11,7 @@ use native.Mathlib.Nat.{le_antisymm}
 use lib.IntN.{ℤ}
 use Rattle.bounds.specs.declared.answer.Written.{Written}
 use Rattle.bounds.specs.declared.refusal.Refusal.{Refusal}
+use Rattle.bounds.specs.declared.width.Width.{Width}
 use Rattle.word.specs.declared.fields.Fields.{Fields}
 use Rattle.sizes.specs.declared.size.Size.{Size}
 use Rattle.word.specs.declared.reading.Reading.{Reading}
@@ -60,7 +62,7 @@ tests_in_a_row_one u v = given (u then v)
 pub number_one : (q : Refusal) (a b : ℕ) → a ≡ number_of q → b ≡ number_of q → a ≡ b
 number_one q = given (number_of q)
 
--- ---- a saying's number, whether it is exact, and its opposite; an answer that is said to be exact
+-- ---- a saying's number, whether it is exact, and its opposite; a word that is said to be exact
 pub saying_number_one : (s : Saying) (a b : ℕ) → a ≡ saying_number s → b ≡ saying_number s → a ≡ b
 saying_number_one s = given (saying_number s)
 
@@ -70,8 +72,8 @@ is_exact_one s = given (says_exact s)
 pub opposite_one : (s a b : Saying) → a ≡ opposite_saying s → b ≡ opposite_saying s → a ≡ b
 opposite_one s = given (opposite_saying s)
 
-pub exactly_one : (answer : Answer ℕ) (a b : Answer Written) → a ≡ exactly answer → b ≡ exactly answer → a ≡ b
-exactly_one answer = given (exactly answer)
+pub exactly_one : (w : ℕ) (a b : Written) → a ≡ exactly w → b ≡ exactly w → a ≡ b
+exactly_one w = given (exactly w)
 
 -- ---- widths
 pub makes_one : (n : ℕ) (a b : Answer Width) → Makes n a → Makes n b → a ≡ b
@@ -98,7 +100,7 @@ gives_limit_one n a b = decided_one Err (λ x. (l : ℕ) × (x ≡ Ok l) × IsLi
         x.1 ∙ ap Ok (x.2.limit ∙ ap (λ (v : ℕ). 2 ^ v) (exponent_one n x.2.is y.2.is) ∙ sym y.2.limit) ∙ sym y.1
 
 -- ---- words
-pub reads_one : (n w : ℕ) (a b : Reading) → Reads n w a → Reads n w b → a ≡ b
+pub reads_one : (n w : ℕ) (a b : Answer Reading) → Reads n w a → Reads n w b → a ≡ b
 reads_one = readings.reads_one
 
 pub compares_one : (n x y : ℕ) (a b : Answer Ordering) → Compares n x y a → Compares n x y b → a ≡ b
@@ -124,18 +126,18 @@ sizes_one t a b x y =
     ∙ ap (λ (m : ℕ). record { negative = b.negative; h = b.h; m = m }) (x.significand ∙ sym y.significand)
 
 -- ---- one call after another, each of which allows one outcome
-and_then_one : {A : Type 0} (R : Refusal → A) (First : Answer ℕ → Type 0) (Next : ℕ → A → Type 0) → ((x y : Answer ℕ) → First x → First y → x ≡ y) → ((w : ℕ) (a b : A) → Next w a → Next w b → a ≡ b) → (a b : A) → AndThen R First Next a → AndThen R First Next b → a ≡ b
+and_then_one : {A : Type 0} (First : Answer ℕ → Type 0) (Next : ℕ → Answer A → Type 0) → ((x y : Answer ℕ) → First x → First y → x ≡ y) → ((w : ℕ) (a b : Answer A) → Next w a → Next w b → a ≡ b) → (a b : Answer A) → AndThen First Next a → AndThen First Next b → a ≡ b
 unfolding word_of GivesAWord
-and_then_one R First Next first next a b (goes_on w x y) (goes_on w' x' y') = next w' a b (subst (λ (v : ℕ). Next v a) (ap word_of (first (Ok w) (Ok w') x x')) y) y'
-and_then_one R First Next first next a b (goes_on w x y) (stops q x' e) = absurd (subst GivesAWord (first (Ok w) (Err q) x x') tt)
-and_then_one R First Next first next a b (stops q x e) (goes_on w x' y) = absurd (subst GivesAWord (first (Ok w) (Err q) x' x) tt)
-and_then_one R First Next first next a b (stops q x e) (stops q' x' e') = let same : q ≡ q' = let z = first (Err q) (Err q') x x' in cc in e ∙ ap R same ∙ sym e'
+and_then_one First Next first next a b (goes_on w x y) (goes_on w' x' y') = next w' a b (subst (λ (v : ℕ). Next v a) (ap word_of (first (Ok w) (Ok w') x x')) y) y'
+and_then_one First Next first next a b (goes_on w x y) (stops q x' e) = absurd (subst GivesAWord (first (Ok w) (Err q) x x') tt)
+and_then_one First Next first next a b (stops q x e) (goes_on w x' y) = absurd (subst GivesAWord (first (Ok w) (Err q) x' x) tt)
+and_then_one First Next first next a b (stops q x e) (stops q' x' e') = let same : q ≡ q' = let z = first (Err q) (Err q') x x' in cc in e ∙ ap Err same ∙ sym e'
 
 -- a chain of strict moves
 goes_one : (home : ℕ) (ns : List ℕ) (n w : ℕ) (a b : Answer ℕ) → Goes home n w ns a → Goes home n w ns b → a ≡ b
 unfolding Goes
 goes_one home [] n w a b x y = moves_one n home Rule.Strict w a b x y
-goes_one home (n' ∷ ns) n w a b x y = and_then_one Err _ _ (moves_one n n' Rule.Strict w) (λ v. goes_one home ns n' v) a b (chain_step home n' ns n w a x) (chain_step home n' ns n w b y)
+goes_one home (n' ∷ ns) n w a b x y = and_then_one _ _ (moves_one n n' Rule.Strict w) (λ v. goes_one home ns n' v) a b (chain_step home n' ns n w a x) (chain_step home n' ns n w b y)
 
 pub comes_home_one : (n w : ℕ) (ns : List ℕ) (a b : Answer ℕ) → ComesHome n w ns a → ComesHome n w ns b → a ≡ b
 comes_home_one n w ns a b x y = goes_one n ns n w a b x.goes y.goes
@@ -144,13 +146,13 @@ comes_home_one n w ns a b x y = goes_one n ns n w a b x.goes y.goes
 pub out_and_back_one : (a b c w : ℕ) (r s : Answer ℕ) → OutAndBack a b c w r → OutAndBack a b c w s → r ≡ s
 unfolding GoesOutAndBack
 out_and_back_one a b c w r s x y =
-    and_then_one Err _ _ (moves_one a b Rule.Rounded w) (λ u. and_then_one Err _ _ (moves_one b c Rule.Rounded u) (moves_one c b Rule.Rounded)) r s x.goes y.goes
+    and_then_one _ _ (moves_one a b Rule.Rounded w) (λ u. and_then_one _ _ (moves_one b c Rule.Rounded u) (moves_one c b Rule.Rounded)) r s x.goes y.goes
 
 pub moves_negated_one : (a b w : ℕ) (r s : Answer Written) → MovesNegated a b w r → MovesNegated a b w s → r ≡ s
 unfolding GoesNegated
-moves_negated_one a b w r s x y = and_then_one Err _ _ (negates_one a w) (moves_and_says_one a b Rule.Rounded) r s x.goes y.goes
+moves_negated_one a b w r s x y = and_then_one _ _ (negates_one a w) (moves_and_says_one a b Rule.Rounded) r s x.goes y.goes
 
 pub compares_moved_one : (a b u v : ℕ) (r s : Answer Ordering) → ComparesMoved a b u v r → ComparesMoved a b u v s → r ≡ s
 unfolding GoesCompared
 compares_moved_one a b u v r s x y =
-    and_then_one Err _ _ (moves_one a b Rule.Rounded u) (λ p. and_then_one Err _ _ (moves_one a b Rule.Rounded v) (compares_one b p)) r s x.goes y.goes
+    and_then_one _ _ (moves_one a b Rule.Rounded u) (λ p. and_then_one _ _ (moves_one a b Rule.Rounded v) (compares_one b p)) r s x.goes y.goes

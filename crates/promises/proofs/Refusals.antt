@@ -3,7 +3,7 @@ use mathlib.Core.Path.{◌≡◌, subst}
 use Prim.Native.Nat.{ℕ}
 use native.Mathlib.Omega.{arith}
 use Rattle.bounds.specs.Widths.{Makes, GivesWord, GivesLimit}
-use Rattle.word.specs.Takum.{takum, fraction_bits, own_fraction_bits}
+use Rattle.word.specs.Takum.{takum}
 use Rattle.word.specs.Reads.{Reads}
 use Rattle.sizes.specs.Sizes.{ReadsSize}
 use Rattle.order.specs.Orders.{Compares, Negates}
@@ -14,7 +14,7 @@ use Rattle.column.proofs.Positions.{first}
 use Rattle.sheet.specs.Writes.{WritesBlock}
 use Rattle.promises.specs.Demands.{ComesBack}
 use Rattle.promises.specs.Refusals.{RefusalsFollowTheTable}
-use Rattle.promises.proofs.WordRefusals.{of_width, of_word, word_none, reading_none, size_none, number_none, compare_follows, test_follows, test_word_follows, write_short_follows, write_size_follows, write_long_follows, write_follows, write_whole_follows, write_binary64_follows, move_follows, goes_follows, take_whole_follows, shortest_follows}
+use Rattle.promises.proofs.WordRefusals.{of_width, of_word, answer_none, number_none, compare_follows, test_follows, test_word_follows, write_short_follows, write_size_follows, write_long_follows, write_follows, write_whole_follows, write_binary64_follows, move_follows, goes_follows, take_whole_follows, shortest_follows}
 use Rattle.promises.proofs.MovingRefusals.{out_and_back_follows, move_negated_follows, compare_moved_follows}
 use Rattle.promises.proofs.SliceRefusals.{test_room_follows, column_follows, position_follows, block_follows}
 use Rattle.promises.proofs.WrittenRefusals.{written_follows, written_position_follows, position_inside}
@@ -25,15 +25,15 @@ refusals_follow_the_table = record {
   test = test_follows;
   test_word = test_word_follows;
   test_room = test_room_follows;
-  new = λ n a x. of_width n (λ p q e. let z : ◌≡◌ {A = ℕ} 0 1 = cc in omega arith) x;
-  words = λ f n a x. of_width n (word_none (f n) a) x;
-  limit = λ n a x. of_width n (λ (l, p, is) q e. let z : ◌≡◌ {A = ℕ} 0 1 = cc in omega arith) x;
-  read = λ n w a x. of_word n w (reading_none (takum n w) (fraction_bits n w) (own_fraction_bits n w) a) x;
-  read_size = λ n w a x. of_word n w (size_none (takum n w) a) x;
+  new = λ n a x. of_width n (answer_none _ a) x;
+  words = λ f n a x. of_width n (answer_none (f n) a) x;
+  limit = λ n a x. of_width n (λ (l, p, is). answer_none l a p) x;
+  read = λ n w a x. of_word n w (λ (r, p, is). answer_none r a p) x;
+  read_size = λ n w a x. of_word n w (λ (s, p, is). answer_none s a p) x;
   compare = λ n v w a x. compare_follows n v w a x;
-  negate = λ n w a x. of_word n w (word_none _ a) x;
-  negate_twice = λ n w a x. of_word n w (word_none w a) x;
-  nearest = λ n negative h m below a x. of_width n (λ (w, p, rest, is, near). word_none w a p) x;
+  negate = λ n w a x. of_word n w (answer_none _ a) x;
+  negate_twice = λ n w a x. of_word n w (answer_none w a) x;
+  nearest = λ n negative h m below a x. of_width n (λ (w, p, rest, is, near). answer_none w a p) x;
   write_short = write_short_follows;
   write_size = write_size_follows;
   write_long = write_long_follows;

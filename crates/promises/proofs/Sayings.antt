@@ -72,7 +72,7 @@ use Rattle.promises.specs.Hub.{significand, long_numerator, long_denominator}
 use Rattle.promises.specs.Sayings as promise
 use Rattle.promises.specs.Sayings.{Offered, value, whole, binary64, word, short, size, long, IsFit, Gives, Meant, number, nar, of_takum, of_float, of_short, meant, HasTheMeaning, TellTheSame, MeanTheSame, opposite, Moved}
 use Rattle.promises.specs.Writing.{numerator, denominator, with_other_sign, of_sign, KindSays, Says, AMoveIsAReadingAndAWriting, WiderNeverChangesNorRefuses}
-use Rattle.promises.proofs.Demands.{the_NaR_word}
+use Rattle.promises.proofs.Demands.{reads_as, the_NaR_word}
 use Rattle.promises.proofs.Hub.{equal_fraction}
 use Rattle.promises.proofs.Jammed.{same_said}
 use Rattle.promises.proofs.Writing.{no_numerator, of_sign_lem, a_move_is_a_reading_and_a_writing, wider_never_changes_nor_refuses}
@@ -262,16 +262,19 @@ module _ (n : ℕ) (lo : 2 ≤ n) (hi : n ≤ 64) where
   unfolding Answered IsWritten HasTheMeaning TellTheSame
   same_story nar a b some x y = (nar_word n, Exact, x, inl (refl, y ∙ sym x))
   same_story (number t i j) (Err q) b some x y = absurd x.answers
-  same_story (number t i j) (Ok (w,s)) b some x y = (w, s, refl, by s b x y)
+  same_story (number t i j) (Ok a) b some x y = (a.word, a.saying, refl, by a.saying b x y)
     where
+      w : ℕ
+      w = a.word
+
       exact : (s : Saying) (b : Answer Written) → s ≡ Exact → Answered n Rule.Rounded (number t i j) (written w s) → Answered n Rule.Strict (number t i j) b → b ≡ written w s
       exact s b e x y = meaning_said Rule.Strict (number t i j) w b some (said_means Rule.Rounded (number t i j) w (subst (λ (u : Saying). Answered n Rule.Rounded (number t i j) (written w u)) e x)) y ∙ ap (written w) (sym e)
 
-      inexact : (s : Saying) (b : Answer Written) → (s ≡ Exact → ⊥) → Answered n Rule.Rounded (number t i j) (written w s) → Answered n Rule.Strict (number t i j) b → RefusedAs Written Err 4 b
-      inexact s (Ok (v,u)) f x y = absurd (f (same_word (meaning_said Rule.Rounded (number t i j) v (written w s) some y.answers x)).1)
+      inexact : (s : Saying) (b : Answer Written) → (s ≡ Exact → ⊥) → Answered n Rule.Rounded (number t i j) (written w s) → Answered n Rule.Strict (number t i j) b → RefusedAs (Answer Written) Err 4 b
+      inexact s (Ok d) f x y = absurd (f (same_word (meaning_said Rule.Rounded (number t i j) d.word (written w s) some y.answers x)).1)
       inexact s (Err q) f x y = record { q = q; is = refl; known = ap number_of y.answers.0 }
 
-      by : (s : Saying) (b : Answer Written) → Answered n Rule.Rounded (number t i j) (written w s) → Answered n Rule.Strict (number t i j) b → ((s ≡ Exact) × (b ≡ written w s)) ⊎ ((s ≡ Exact → ⊥) × RefusedAs Written Err 4 b)
+      by : (s : Saying) (b : Answer Written) → Answered n Rule.Rounded (number t i j) (written w s) → Answered n Rule.Strict (number t i j) b → ((s ≡ Exact) × (b ≡ written w s)) ⊎ ((s ≡ Exact → ⊥) × RefusedAs (Answer Written) Err 4 b)
       by s b x y = ⊎_elim (λ e. inl (e, exact s b e x y)) (λ f. inr (f, inexact s b f x y)) (is_exact_or_not s)
 
   -- the other sign gives the negated word, and exchanges below and above
@@ -381,7 +384,7 @@ after_exact_the_way_back_is_open n n' rule w w' r x y =
 
 pub a_move_says_what_writing_says : promise.AMoveSaysWhatWritingSays
 unfolding promise.AMoveSaysWhatWritingSays AMoveIsAReadingAndAWriting MovesAndSays WritesAndSays Says KindSays Reads IsKind numerator denominator
-a_move_says_what_writing_says n n' w rule a v r i x says y = record { answers = a_move_is_a_reading_and_a_writing n n' w rule a v (plain r) i x says y.answers; says = λ w' s e. by a.kind w' s (answered (word_passes n w i) x).what says e }
+a_move_says_what_writing_says n n' w rule a v r i x says y = record { answers = a_move_is_a_reading_and_a_writing n n' w rule a v (plain r) i x says y.answers; says = λ w' s e. by a.kind w' s (reads_as n w a i x).what says e }
   where
     by : (k : Kind) (w' : ℕ) (s : Saying) → IsKind (takum n w) (fraction_bits n w) k → KindSays k v → r ≡ written w' s → nearest.Says n' v.negative (numerator v) (denominator v) w' s
     by Kind.Zero w' s zero_read says e =
@@ -391,7 +394,6 @@ a_move_says_what_writing_says n n' w rule a v r i x says y = record { answers = 
         subst₂ (nearest.Says n' v.negative (numerator v) (denominator v)) (sym given.0) (sym given.1) (size_exact n' i'.least i'.most v.negative 0 (numerator v) (denominator v) 0 nothing (zero-mul (denominator v) ∙ sym (no_numerator v says)))
     by (Kind.Number t h m p) w' s read says e = subst (λ (v : Value). nearest.Says n' v.negative (numerator v) (denominator v) w' s) (sym says) (said_number n' w' s (takum n w) _ t h m p read (y.says w' s e))
     by Kind.Nar w' s x says e = absurd says
-    by (Err q) w' s x says e = absurd says
 
 -- ---- past the end
 end_word : (n : ℕ) → 2 ≤ n → n ≤ 64 → (m : Meant) (w : ℕ) → IsFraction m → Answered n Rule.Rounded m (written w PastTheEnd)
@@ -472,80 +474,74 @@ negating_exchanges_below_and_above n o w s r i lo hi x y =
 
 -- ---- columns
 -- a column that was moved: its answer, what its results hold, and what it counts
-module _ (n n' : ℕ) (rule : Rule) (words before after : List ℕ) (a : MovedColumn) (count : ℕ) (x : Moved n n' rule words before after a count) where
-  answers_moved : MovesColumn n n' rule words (length before) (Ok count)
-  answers_moved = subst (MovesColumn n n' rule words (length before)) x.moved x.answers
-
-  holds_moved : Holds n n' rule words before (Ok count) after
+module _ (n n' : ℕ) (rule : Rule) (words before after : List ℕ) (a : MovedColumn) (x : Moved n n' rule words before after a) where
+  holds_moved : Holds n n' rule words before (Ok a) after
   unfolding HoldsAndCounts
-  holds_moved = subst (λ (c : ListAnswer ℕ). Holds n n' rule words before c after) x.moved x.holds.0
+  holds_moved = x.holds.0
 
-  counts_kept : Counts (KeepsTheMeaning n n' words after) count a.exact
+  counts_kept : Counts (KeepsTheMeaning n n' words after) a.moved a.exact
   unfolding HoldsAndCounts CountsExact
-  counts_kept = subst (λ (c : ListAnswer ℕ). CountsExact n n' words after c a.exact) x.moved x.holds.1
+  counts_kept = x.holds.1
 
-  all_words : count ≡ length words
-  all_words = every_word_counted n n' rule words before count after answers_moved holds_moved
+  all_words : a.moved ≡ length words
+  all_words = every_word_counted n n' rule words before a after x.answers holds_moved
 
-  each_moved : (i : ℕ) → i < count → Moves n n' rule (get_or words i 0) (Ok (get_or after i 0))
-  each_moved i l = word_at n n' rule words before count after answers_moved holds_moved i (omega (arith, l, all_words))
+  each_moved : (i : ℕ) → i < a.moved → Moves n n' rule (get_or words i 0) (Ok (get_or after i 0))
+  each_moved i l = word_at n n' rule words before a after x.answers holds_moved i (omega (arith, l, all_words))
 
   -- all are counted exactly where each keeps the meaning
-  all_kept : ((i : ℕ) → i < count → KeepsTheMeaning n n' words after i) → a.exact ≡ count
-  all_kept f = counts_one counts_kept (counts_all count f)
+  all_kept : ((i : ℕ) → i < a.moved → KeepsTheMeaning n n' words after i) → a.exact ≡ a.moved
+  all_kept f = counts_one counts_kept (counts_all a.moved f)
 
 pub a_column_counts_what_its_moves_say : promise.AColumnCountsWhatItsMovesSay
 unfolding promise.AColumnCountsWhatItsMovesSay MovesAndSays KeepsTheMeaning
-a_column_counts_what_its_moves_say n n' rule words before after a count x =
-    subst (λ (k : ℕ). Counts (λ i. MovesAndSays n n' rule (get_or words i 0) (written (get_or after i 0) Exact)) k a.exact) (all_words n n' rule words before after a count x)
-    (counts_alike (λ i l q. word_said (get_or after i 0) Exact (each_moved n n' rule words before after a count x i l) (means_exact n n' (get_or words i 0) (get_or after i 0) q)) (λ i l y. exact_means n n' rule (get_or words i 0) (get_or after i 0) y.answers (y.says (get_or after i 0) Exact refl)) (counts_kept n n' rule words before after a count x))
+a_column_counts_what_its_moves_say n n' rule words before after a x =
+    subst (λ (k : ℕ). Counts (λ i. MovesAndSays n n' rule (get_or words i 0) (written (get_or after i 0) Exact)) k a.exact) (all_words n n' rule words before after a x)
+    (counts_alike (λ i l q. word_said (get_or after i 0) Exact (each_moved n n' rule words before after a x i l) (means_exact n n' (get_or words i 0) (get_or after i 0) q)) (λ i l y. exact_means n n' rule (get_or words i 0) (get_or after i 0) y.answers (y.says (get_or after i 0) Exact refl)) (counts_kept n n' rule words before after a x))
 
 pub a_strict_column_is_exact_throughout : promise.AStrictColumnIsExactThroughout
 unfolding promise.AStrictColumnIsExactThroughout KeepsTheMeaning
-a_strict_column_is_exact_throughout n n' words before after a count x = all_kept n n' Rule.Strict words before after a count x (λ i l. (strict_keeps n n' (get_or words i 0) (get_or after i 0) (each_moved n n' Rule.Strict words before after a count x i l)).same)
+a_strict_column_is_exact_throughout n n' words before after a x = all_kept n n' Rule.Strict words before after a x (λ i l. (strict_keeps n n' (get_or words i 0) (get_or after i 0) (each_moved n n' Rule.Strict words before after a x i l)).same)
 
 pub a_wider_column_is_exact_throughout : promise.AWiderColumnIsExactThroughout
 unfolding promise.AWiderColumnIsExactThroughout KeepsTheMeaning WiderNeverChangesNorRefuses word_of
-a_wider_column_is_exact_throughout n more rule words before after a count room x = all_kept n (n + more) rule words before after a count x (λ i l.
-    let y = each_moved n (n + more) rule words before after a count x i l in
+a_wider_column_is_exact_throughout n more rule words before after a room x = all_kept n (n + more) rule words before after a x (λ i l.
+    let y = each_moved n (n + more) rule words before after a x i l in
     let t = wider_never_changes_nor_refuses n more (get_or words i 0) rule (Ok (get_or after i 0)) room (moved_words n (n + more) rule (get_or words i 0) (get_or after i 0) y).0 y in
     ap (takum (n + more)) (ap word_of t.0) ∙ t.1)
 
 pub all_are_exact_where_strict_moves_them : promise.AllAreExactWhereStrictMovesThem
 unfolding promise.AllAreExactWhereStrictMovesThem MovesColumn IsTried Movable MovableUpTo KeepsTheMeaning GivesAWord word_of
-all_are_exact_where_strict_moves_them n n' words before after a count strict x y = (λ q. none_refused q strict (tried strict y), λ k q. each_kept k (tried (Ok k) (subst (MovesColumn n n' Rule.Strict words (length before)) q y)))
+all_are_exact_where_strict_moves_them n n' words before after a strict x y = (λ q. none_refused q strict (tried strict y), λ c q. each_kept c (tried (Ok c) (subst (MovesColumn n n' Rule.Strict words (length before)) q y)))
   where
-    tried : (c : ListAnswer ℕ) → MovesColumn n n' Rule.Strict words (length before) c → IsTried n n' Rule.Strict words c
-    tried c y = let t = moved_passed n n' Rule.Rounded words before count after (answers_moved n n' Rule.Rounded words before after a count x) (holds_moved n n' Rule.Rounded words before after a count x) in
+    tried : (c : ListAnswer MovedColumn) → MovesColumn n n' Rule.Strict words (length before) c → IsTried n n' Rule.Strict words c
+    tried c y = let t = moved_passed n n' Rule.Rounded words before a after x.answers (holds_moved n n' Rule.Rounded words before after a x) in
         answered (passes n n' (length words) (length before) t.source t.target t.fits) y
 
     -- where the strict move gives a word, the rounded one gives the same
-    kept : (i : ℕ) → i < count → Movable n n' Rule.Strict (get_or words i 0) → KeepsTheMeaning n n' words after i
+    kept : (i : ℕ) → i < a.moved → Movable n n' Rule.Strict (get_or words i 0) → KeepsTheMeaning n n' words after i
     kept i l (w', z) =
         let k = strict_keeps n n' (get_or words i 0) w' z in
-        let same = ap word_of (moved_to_the_same n n' (get_or words i 0) w' Rule.Rounded (Ok (get_or after i 0)) k.from k.to k.same (each_moved n n' Rule.Rounded words before after a count x i l)) in
+        let same = ap word_of (moved_to_the_same n n' (get_or words i 0) w' Rule.Rounded (Ok (get_or after i 0)) k.from k.to k.same (each_moved n n' Rule.Rounded words before after a x i l)) in
         ap (takum n') same ∙ k.same
 
     -- a word that means the same is what the strict move gives
-    given : (i : ℕ) (r : Answer ℕ) → i < count → KeepsTheMeaning n n' words after i → Moves n n' Rule.Strict (get_or words i 0) r → r ≡ Ok (get_or after i 0)
-    given i r l q z = let t = moved_words n n' Rule.Rounded (get_or words i 0) (get_or after i 0) (each_moved n n' Rule.Rounded words before after a count x i l) in
+    given : (i : ℕ) (r : Answer ℕ) → i < a.moved → KeepsTheMeaning n n' words after i → Moves n n' Rule.Strict (get_or words i 0) r → r ≡ Ok (get_or after i 0)
+    given i r l q z = let t = moved_words n n' Rule.Rounded (get_or words i 0) (get_or after i 0) (each_moved n n' Rule.Rounded words before after a x i l) in
         moved_to_the_same n n' (get_or words i 0) (get_or after i 0) Rule.Strict r t.0 t.1 q z
 
-    none_refused : a.exact ≡ count → (c : ListAnswer ℕ) → IsTried n n' Rule.Strict words c → c ≡ Ok count
-    none_refused q (Ok k) z = ap Ok (z.0 ∙ sym (all_words n n' Rule.Rounded words before after a count x))
+    none_refused : a.exact ≡ a.moved → (c : ListAnswer MovedColumn) → IsTried n n' Rule.Strict words c → (d : MovedColumn) × (c ≡ Ok d) × (d.moved ≡ a.moved)
+    none_refused q (Ok d) z = (d, refl, z.0 ∙ sym (all_words n n' Rule.Rounded words before after a x))
     none_refused q (Err (ListRefusal.Whole u)) z = absurd z
     none_refused q (Err (ListRefusal.At position u)) z =
-        let l : position < count = omega (arith, z.inside, all_words n n' Rule.Rounded words before after a count x) in
-        absurd (subst GivesAWord (sym (given position (Err u) l (counted_all (counts_kept n n' Rule.Rounded words before after a count x) q position l) z.is)) tt)
+        let l : position < a.moved = omega (arith, z.inside, all_words n n' Rule.Rounded words before after a x) in
+        absurd (subst GivesAWord (sym (given position (Err u) l (counted_all (counts_kept n n' Rule.Rounded words before after a x) q position l) z.is)) tt)
 
-    each_kept : (k : ℕ) → IsTried n n' Rule.Strict words (Ok k) → a.exact ≡ count
-    each_kept k z = all_kept n n' Rule.Rounded words before after a count x (λ i l. kept i l (z.1 i (omega (arith, l, z.0, all_words n n' Rule.Rounded words before after a count x))))
+    each_kept : (c : MovedColumn) → IsTried n n' Rule.Strict words (Ok c) → a.exact ≡ a.moved
+    each_kept c z = all_kept n n' Rule.Rounded words before after a x (λ i l. kept i l (z.1 i (omega (arith, l, z.0, all_words n n' Rule.Rounded words before after a x))))
 
 pub a_refused_column_counts_none : promise.ARefusedColumnCountsNone
-unfolding promise.ARefusedColumnCountsNone HoldsAndCounts CountsExact
-a_refused_column_counts_none n n' rule words before after a x f = by a.answer f x.1
-  where
-    by : (c : ListAnswer ℕ) → ((count : ℕ) → c ≡ Ok count → ⊥) → CountsExact n n' words after c a.exact → a.exact ≡ 0
-    by (Ok count) f z = absurd (f count refl)
-    by (Err (ListRefusal.Whole q)) f z = z
-    by (Err (ListRefusal.At position q)) f z = z
+unfolding promise.ARefusedColumnCountsNone
+a_refused_column_counts_none (Ok c) f = absurd (f c refl)
+a_refused_column_counts_none (Err (ListRefusal.Whole q)) f = refl
+a_refused_column_counts_none (Err (ListRefusal.At position q)) f = refl

@@ -1,9 +1,7 @@
 -- The promises that specs/Sheets.antt states, from the laws of blocks and of columns. Assumes nothing.
-use Rattle.std.specs.Prelude.{Ok, Err}
+use Rattle.std.specs.Prelude.{⊤, Ok, Err}
 use Rattle.bounds.specs.declared.refusal.ListRefusal.{ListRefusal}
 use Rattle.bounds.specs.Refusals.{passed, ListAnswer}
-use Rattle.std.specs.Prelude.{⊤}
-use Rattle.bounds.specs.Sayings.{written}
 use mathlib.Core.Path.{◌≡◌, refl, sym, ap, ap₂, ◌∙◌, subst, subst₂}
 use mathlib.Core.List.{List, ◌++◌}
 use mathlib.Core.Logic.{◌⊎◌, inl, inr}
@@ -16,12 +14,13 @@ use Rattle.bounds.specs.Refusals.{stray_test, through, refused}
 use Rattle.bounds.proofs.Verdicts.{stray_fits}
 use Rattle.round.specs.declared.value.Rule.{Rule}
 use Rattle.write.proofs.Moves.{strict_keeps}
+use Rattle.column.specs.declared.moving.MovedColumn.{MovedColumn}
 use Rattle.column.specs.Columns.{MovesColumn, Holds}
 use Rattle.column.proofs.Positions.{every_word_counted, word_at}
 use Rattle.column.proofs.Strict.{column_comes_home, results_counted}
 use Rattle.sheet.specs.declared.block.Block.{Block}
 use Rattle.sheet.specs.Layout.{AreBytes, width, block_number, words}
-use Rattle.sheet.specs.Reads.{block_test}
+use Rattle.sheet.specs.Reads.{block_test, block_read}
 use Rattle.sheet.specs.Writes.{IsBlockOf, IsTried, WritesBlock, FillsBuffer}
 use Rattle.sheet.proofs.Contents.{Fitting, fitting}
 use Rattle.sheet.proofs.Passing.{was_read}
@@ -34,16 +33,16 @@ use Rattle.promises.specs.Sheets.{BlockIsWritten, BlockIsRead}
 
 pub a_refused_write_leaves_the_buffer : promise.ARefusedWriteLeavesTheBuffer
 unfolding promise.ARefusedWriteLeavesTheBuffer FillsBuffer
-a_refused_write_leaves_the_buffer n number words before after Ok tt x f = absurd (f refl)
+a_refused_write_leaves_the_buffer n number words before after (Ok _) x f = absurd (f refl)
 a_refused_write_leaves_the_buffer n number words before after (Err (ListRefusal.Whole q)) x f = x
 a_refused_write_leaves_the_buffer n number words before after (Err (ListRefusal.At position q)) x f = x
 
 -- ---- written, then read
 -- what the answer tells of the content
-let_through : (n : ℕ) (words buffer : List ℕ) → WritesBlock n words buffer Ok tt → Fitting n (length words) buffer
+let_through : (n : ℕ) (words buffer : List ℕ) → WritesBlock n words buffer (Ok tt) → Fitting n (length words) buffer
 unfolding WritesBlock
 let_through n words buffer (through h x) = fitting n (length words) buffer h
-let_through n words buffer (refused h e) = let z : ◌≡◌ {A = ℕ} 0 1 = cc in absurd (omega arith)
+let_through n words buffer (refused h e) = absurd cc
 
 pub a_written_block_reads_back : promise.AWrittenBlockReadsBack
 unfolding promise.AWrittenBlockReadsBack FillsBuffer
@@ -80,29 +79,29 @@ unfolding promise.TheSameContentIsTheSameBytes
 the_same_content_is_the_same_bytes one other n number content bytes bytes' r r' = same_bytes n number content one other (is_block_of_read one n number content bytes r) (is_block_of_read other n number content bytes' r')
 
 -- ---- there and back through a sheet
-module _ (n n' : ℕ) (column before : List ℕ) (n_moved : ℕ) (moved : List ℕ) (x : MovesColumn n n' Rule.Strict column (length before) (Ok n_moved)) (y : Holds n n' Rule.Strict column before (Ok n_moved) moved) where
+module _ (n n' : ℕ) (column before : List ℕ) (c : MovedColumn) (moved : List ℕ) (x : MovesColumn n n' Rule.Strict column (length before) (Ok c)) (y : Holds n n' Rule.Strict column before (Ok c) moved) where
   -- a moved word is a word of its new width
-  none_stray : (i : ℕ) → i < n_moved → stray_test n' (get_or (take n_moved moved) i 0) ≡ passed
+  none_stray : (i : ℕ) → i < c.moved → stray_test n' (get_or (take c.moved moved) i 0) ≡ passed
   none_stray i h =
-      let counted = every_word_counted n n' Rule.Strict column before n_moved moved x y in
-      let kept = strict_keeps n n' (get_or column i 0) (get_or moved i 0) (word_at n n' Rule.Strict column before n_moved moved x y i (subst (λ (k : ℕ). i < k) counted h)) in
-      stray_fits n' _ (subst (λ (w : ℕ). w < 2 ^ n') (sym (get_or-take n_moved moved i 0 h)) kept.to.fits)
+      let counted = every_word_counted n n' Rule.Strict column before c moved x y in
+      let kept = strict_keeps n n' (get_or column i 0) (get_or moved i 0) (word_at n n' Rule.Strict column before c moved x y i (subst (λ (k : ℕ). i < k) counted h)) in
+      stray_fits n' _ (subst (λ (w : ℕ). w < 2 ^ n') (sym (get_or-take c.moved moved i 0 h)) kept.to.fits)
 
   -- so a write of them that isn't refused as a whole is made
-  is_made : (buffer : List ℕ) (w : ListAnswer ⊤) → length (take n_moved moved) ≡ n_moved → WritesBlock n' (take n_moved moved) buffer w → ((q : Refusal) → w ≡ Err (ListRefusal.Whole q) → ⊥) → w ≡ Ok tt
+  is_made : (buffer : List ℕ) (w : ListAnswer ⊤) → length (take c.moved moved) ≡ c.moved → WritesBlock n' (take c.moved moved) buffer w → ((q : Refusal) → w ≡ Err (ListRefusal.Whole q) → ⊥) → w ≡ Ok tt
   unfolding WritesBlock IsTried
-  is_made buffer Ok tt counted z none = refl
+  is_made buffer (Ok _) counted z none = refl
   is_made buffer (Err (ListRefusal.Whole q)) counted z none = absurd (none q refl)
   is_made buffer (Err (ListRefusal.At p q)) counted (through h t) none = absurd (not_both (none_stray p (subst (λ (k : ℕ). p < k) counted t.0)) t.2)
   is_made buffer (Err (ListRefusal.At p q)) counted (refused {q = q'} h e) none = absurd (none q' e)
 
 pub strict_columns_come_home_through_a_sheet : promise.StrictColumnsComeHomeThroughASheet
 unfolding promise.StrictColumnsComeHomeThroughASheet promise.AWrittenBlockReadsBack
-strict_columns_come_home_through_a_sheet n n' column before moved n_moved x y number buffer block w wb fb none results read b room r f before' home a room' m h =
-    let counted = results_counted n n' column before n_moved moved x y Rule.Strict before' room' in
-    let made : w ≡ Ok tt = is_made n n' column before n_moved moved x y buffer w counted wb none in
-    let written : BlockIsWritten n' number (take n_moved moved) buffer block = record { answer = subst (WritesBlock n' (take n_moved moved) buffer) made wb; buffer = subst (λ (v : ListAnswer ⊤). FillsBuffer n' number (take n_moved moved) buffer v block) made fb } in
-    let back = a_written_block_reads_back n' number (take n_moved moved) buffer block written results read b (subst (λ (k : ℕ). k ≤ length results) (sym counted) room) r f in
-    let same : take n_moved read ≡ take n_moved moved = ap₂ take (sym counted) back.1 ∙ take-append_seam (take n_moved moved) (drop (length (take n_moved moved)) results) in
-    let home_again = column_comes_home n n' column before n_moved moved x y Rule.Strict before' room' a home (subst (λ (l : List ℕ). MovesColumn n' n Rule.Strict l (length before') a) same m) (subst (λ (l : List ℕ). Holds n' n Rule.Strict l before' a home) same h) in
-    (made, back.0 ∙ ap (Block.Read n' number) counted, home_again.0, home_again.1)
+strict_columns_come_home_through_a_sheet n n' column before moved c x y number buffer block w wb fb none results read b room r f before' home a room' m h =
+    let counted = results_counted n n' column before c moved x y Rule.Strict before' room' in
+    let made : w ≡ Ok tt = is_made n n' column before c moved x y buffer w counted wb none in
+    let written : BlockIsWritten n' number (take c.moved moved) buffer block = record { answer = subst (WritesBlock n' (take c.moved moved) buffer) made wb; buffer = subst (λ (v : ListAnswer ⊤). FillsBuffer n' number (take c.moved moved) buffer v block) made fb } in
+    let back = a_written_block_reads_back n' number (take c.moved moved) buffer block written results read b (subst (λ (k : ℕ). k ≤ length results) (sym counted) room) r f in
+    let same : take c.moved read ≡ take c.moved moved = ap₂ take (sym counted) back.1 ∙ take-append_seam (take c.moved moved) (drop (length (take c.moved moved)) results) in
+    let home_again = column_comes_home n n' column before c moved x y Rule.Strict before' room' a home (subst (λ (l : List ℕ). MovesColumn n' n Rule.Strict l (length before') a) same m) (subst (λ (l : List ℕ). Holds n' n Rule.Strict l before' a home) same h) in
+    (made, back.0 ∙ ap (block_read n' number) counted, home_again.0, home_again.1)

@@ -1,12 +1,13 @@
 -- The promises that specs/Shortest.antt states, from the laws of the shortest width. Assumes nothing.
 use Rattle.std.specs.Prelude.{Ok, Err}
+use Rattle.bounds.specs.declared.width.Width.{Width}
 use Rattle.bounds.specs.Refusals.{passed, Answer}
 use mathlib.Core.Path.{◌≡◌, refl, sym, ap, ◌∙◌, subst}
 use mathlib.Core.Bool.{◌&&◌}
 use mathlib.Core.Logic.{◌⊎◌, inl, inr}
 use Prim.Native.Nat.{ℕ, zero, suc, ◌+◌, ◌-◌, ◌*◌, ◌^◌, ◌≤◌, ◌<◌}
 use native.Mathlib.Decide.{dec_lt}
-use native.Mathlib.Nat.{lt_of_le_of_lt, lt_of_not-le, mul-pos, zero-lt-suc}
+use native.Mathlib.Nat.{two-pow-succ, lt_of_le_of_lt, lt_of_not-le, mul-pos, zero-lt-suc}
 use native.Mathlib.Omega.{arith}
 use lib.Count.{count_leading_zeros, count_trailing_zeros}
 use borrow.Author.Tests.{ltb-true, leb-true}
@@ -15,7 +16,7 @@ use lib.IntN.{ℤ, pos, negsuc, nat_abs}
 use lib.Pow.{pow_pos}
 use Rattle.bounds.specs.declared.refusal.Refusal.{Refusal}
 use Rattle.bounds.proofs.Limits.{exponent_lt}
-use Rattle.bounds.proofs.Powers.{not_more}
+use Rattle.bounds.proofs.Powers.{Log, leading_log, not_more}
 use Rattle.bounds.proofs.Verdicts.{open_when}
 use Rattle.nearest.specs.Nearest.{HasValue}
 use Rattle.nearest.proofs.Places.{word_of, has_value, place_of}
@@ -83,15 +84,27 @@ zero_needs_2 a y = gives_shortest_one (pos 0) a (bits 2) y given_for_zero
 -- the length by the counts of zeros at both ends
 unfoldable pub length_of : ℕ → ℕ
 length_of m =
-    let v = 64 - count_leading_zeros 64 m in
+    let v = 63 - count_leading_zeros 64 m + 1 in
     let w = count_trailing_zeros 64 m in
     let log = 31 - count_leading_zeros 32 v in
     4 + v + log - w - when (eqb (w + 1) v) (count_trailing_zeros 32 v) - when (eqb (w + 1) v && eqb v (2 ^ log)) (count_trailing_zeros 32 (8 + log))
 
 length_of_lem : (m : ℕ) → zero < m → m < 2 ^ 64 → IsLength m (length_of m)
 unfolding length_of IsFirstReduction IsLastReduction
-length_of_lem m some fits = let k = counted m some fits in
+length_of_lem m some fits = let k = counted m top log some fits t.1.low (omega (arith, t.1.high, two-pow-succ top)) u.1.low (omega (arith, u.1.high, two-pow-succ log)) in
     length_counted m _ _ _ _ _ k (_, first_zeros _ _ k.log_is (omega (arith, k.most)), refl) (_, last_zeros _ k.short, refl)
+  where
+    top : ℕ
+    top = 63 - count_leading_zeros 64 m
+
+    log : ℕ
+    log = 31 - count_leading_zeros 32 (top + 1)
+
+    t : (count_leading_zeros 64 m < 64) × Log top m
+    t = leading_log 64 m some fits
+
+    u : (count_leading_zeros 32 (top + 1) < 32) × Log log (top + 1)
+    u = leading_log 32 (top + 1) (omega arith) (omega arith)
 
 -- inside signed 64 bits a size is below 2^64
 fits : (x : ℤ) → over_test x ≡ passed → nat_abs x < 2 ^ 64

@@ -1,7 +1,7 @@
 -- The refusals of a column and of a block follow the table. Assumes nothing.
 use Rattle.std.specs.Prelude.{Ok, Err}
 use Rattle.bounds.specs.declared.refusal.ListRefusal.{ListRefusal}
-use Rattle.bounds.specs.Refusals.{passed, Answer, ListAnswer}
+use Rattle.bounds.specs.Refusals.{passed, Answer, Verdict, ListAnswer}
 use mathlib.Core.Path.{◌≡◌, refl, sym, ap, ◌∙◌, subst}
 use mathlib.Core.Bool.{Bool, true, false, ◌&&◌, false≢true}
 use mathlib.Core.List.{List, [], ◌∷◌}
@@ -19,6 +19,7 @@ use Rattle.bounds.proofs.Powers.{not_more}
 use Rattle.bounds.proofs.Verdicts.{both, open_when, width_through, then_through}
 use Rattle.round.specs.declared.value.Rule.{Rule}
 use Rattle.write.specs.Writes.{Moves}
+use Rattle.column.specs.declared.moving.MovedColumn.{MovedColumn}
 use Rattle.column.specs.Columns.{Movable, MovableUpTo, IsTried, MovesColumn}
 use Rattle.bounds.proofs.Rooms.{room_fits, room_short}
 use Rattle.sheet.specs.declared.block.Block.{Block}
@@ -32,7 +33,7 @@ use Rattle.sheet.proofs.Rooms.{has_room, has_no_room}
 use Rattle.sheet.proofs.Unused.{part_zero}
 use Rattle.promises.specs.Refusals.{FollowsUpTo, Follows, width, room, size, mark, check, block_width, count, fill, move_lines}
 use Rattle.promises.proofs.Lines.{Tells, holds, fails, width_tells, parts, follow, verdict_decided, carry, past, good_width}
-use Rattle.promises.proofs.WordRefusals.{verdict_none, move_follows}
+use Rattle.promises.proofs.WordRefusals.{answer_none, move_follows}
 
 -- ---- the room, of a column and of a block
 room_tells : (count places : ℕ) → Tells (room_test count places) Refusal.Room (places < count)
@@ -44,38 +45,38 @@ room_tells count places = by (dec_lt places count)
 
 pub test_room_follows : (count places : ℕ) (a : Verdict) → a ≡ room_test count places → Follows Err a (room count places ∷ [])
 unfolding Follows FollowsUpTo
-test_room_follows count places a x = follow Refusal.Room (room_tells count places) (verdict_decided x) (λ e. verdict_none a)
+test_room_follows count places a x = follow Refusal.Room (room_tells count places) (verdict_decided x) (λ e. answer_none tt a)
 
 -- ---- a column
-pub column_follows : (n n' : ℕ) (rule : Rule) (words : List ℕ) (places : ℕ) (a : ListAnswer ℕ) → MovesColumn n n' rule words places a → Follows Err (ListRefusal.Whole a) (width n ∷ width n' ∷ room (length words) places ∷ [])
+pub column_follows : (n n' : ℕ) (rule : Rule) (words : List ℕ) (places : ℕ) (a : ListAnswer MovedColumn) → MovesColumn n n' rule words places a → Follows (λ q. Err (ListRefusal.Whole q)) a (width n ∷ width n' ∷ room (length words) places ∷ [])
 unfolding Follows FollowsUpTo MovesColumn IsTried
 column_follows n n' rule words places a x =
     follow Refusal.Width (width_tells n) (parts (parts x)) (λ e y. follow Refusal.Width (width_tells n') y (λ e' z. follow Refusal.Room (room_tells (length words) places) z (λ s t q h. subst (IsTried n n' rule words) h t)))
 
 module _ (n n' : ℕ) (rule : Rule) (words : List ℕ) (places : ℕ) (i : ℕ) (inside : i < length words) where
   -- a position has the lines of its move, where the widths are right
-  at_position : (r : Answer ℕ) (a : ListAnswer ℕ) → width_test n ≡ passed → width_test n' ≡ passed → ((q : Refusal) → r ≡ Err q → a ≡ Err (ListRefusal.At i q)) → ((q : Refusal) → a ≡ Err (ListRefusal.At i q) → r ≡ Err q)
+  at_position : (r : Answer ℕ) (a : ListAnswer MovedColumn) → width_test n ≡ passed → width_test n' ≡ passed → ((q : Refusal) → r ≡ Err q → a ≡ Err (ListRefusal.At i q)) → ((q : Refusal) → a ≡ Err (ListRefusal.At i q) → r ≡ Err q)
       → Moves n n' rule (get_or words i 0) r → Follows (λ q. Err (ListRefusal.At i q)) a (move_lines n n' rule (get_or words i 0))
   at_position r a e e' to from m =
       carry Err (λ q. Err (ListRefusal.At i q)) r a _ to from
       (past Err r 1 _ _ (good_width n' (width_through n' e')) (past Err r 1 _ _ (good_width n (width_through n e)) (move_follows n n' rule (get_or words i 0) r m)))
 
-  tried : (a : ListAnswer ℕ) → width_test n ≡ passed → width_test n' ≡ passed → ((j : ℕ) (q : Refusal) → j < i → a ≡ Err (ListRefusal.At j q) → ⊥) → IsTried n n' rule words a → Follows (λ q. Err (ListRefusal.At i q)) a (move_lines n n' rule (get_or words i 0))
+  tried : (a : ListAnswer MovedColumn) → width_test n ≡ passed → width_test n' ≡ passed → ((j : ℕ) (q : Refusal) → j < i → a ≡ Err (ListRefusal.At j q) → ⊥) → IsTried n n' rule words a → Follows (λ q. Err (ListRefusal.At i q)) a (move_lines n n' rule (get_or words i 0))
   unfolding IsTried MovableUpTo Movable
-  tried (Ok count) e e' before x =
+  tried (Ok c) e e' before x =
       let (w', m) = x.1 i (omega (arith, x.0, inside)) in
-      at_position (Ok w') (Ok count) e e' (λ q h. cc) (λ q h. cc) m
+      at_position (Ok w') (Ok c) e e' (λ q h. cc) (λ q h. cc) m
   tried (Err (ListRefusal.Whole q)) e e' before x = absurd x
   tried (Err (ListRefusal.At p q)) e e' before x = by (dec_lt p i) (dec_lt i p)
     where
-      by : Dec (p < i) → Dec (i < p) → Follows (λ q. Err (ListRefusal.At i q)) (Err (ListRefusal.At p q)) (move_lines n n' rule (get_or words i 0))
+      by : Dec (p < i) → Dec (i < p) → Follows {A = ListAnswer MovedColumn} (λ q. Err (ListRefusal.At i q)) (Err (ListRefusal.At p q)) (move_lines n n' rule (get_or words i 0))
       by (yes l) d = absurd (before p q l refl)
       by (no f) (yes l) = let (w', m) = x.lowest i l in at_position (Ok w') (Err (ListRefusal.At p q)) e e' (λ q' h. cc) (λ q' h. let same : p ≡ i = cc in absurd (omega (arith, same, l))) m
       by (no f) (no g) =
           let same : p ≡ i = omega (arith, not_more f, not_more g) in
           at_position (Err q) (Err (ListRefusal.At p q)) e e' (λ q' h. cc) (λ q' h. cc) (subst (λ (k : ℕ). Moves n n' rule (get_or words k 0) (Err q)) same x.is)
 
-  pub position_follows : (a : ListAnswer ℕ) → MovesColumn n n' rule words places a → ((q : Refusal) → a ≡ Err (ListRefusal.Whole q) → ⊥) → ((j : ℕ) (q : Refusal) → j < i → a ≡ Err (ListRefusal.At j q) → ⊥) → Follows (λ q. Err (ListRefusal.At i q)) a (move_lines n n' rule (get_or words i 0))
+  pub position_follows : (a : ListAnswer MovedColumn) → MovesColumn n n' rule words places a → ((q : Refusal) → a ≡ Err (ListRefusal.Whole q) → ⊥) → ((j : ℕ) (q : Refusal) → j < i → a ≡ Err (ListRefusal.At j q) → ⊥) → Follows (λ q. Err (ListRefusal.At i q)) a (move_lines n n' rule (get_or words i 0))
   unfolding MovesColumn
   position_follows a (through h x) f before =
       let t = then_through (width_test n then width_test n') (room_test (length words) places) h in
@@ -166,7 +167,7 @@ module _ (b : List ℕ) where
           by j (yes l) f = (end + j, omega arith, l, λ h. f (sym (inside (end + j) l) ∙ h))
           by j (no g) f = absurd (f (get_or-eq_default (take 504 b) 0 (omega (arith, not_more g, length-take 504 b))))
 
-  pub block_follows : (places : ℕ) (a : Block) → ReadsBlock b places a → Follows Err a (size b ∷ mark b ∷ check b ∷ block_width b ∷ count b ∷ fill b ∷ room (block.count b) places ∷ [])
+  pub block_follows : (places : ℕ) (a : Answer Block) → ReadsBlock b places a → Follows Err a (size b ∷ mark b ∷ check b ∷ block_width b ∷ count b ∷ fill b ∷ room (block.count b) places ∷ [])
   unfolding Follows FollowsUpTo ReadsBlock block_test
   block_follows places a x =
       follow Refusal.Size size_tells (parts (parts (parts (parts (parts (parts x))))))
@@ -175,4 +176,4 @@ module _ (b : List ℕ) where
       (λ e₃ y₃. follow Refusal.Width width_of_block_tells y₃
       (λ e₄ y₄. follow Refusal.Count (count_tells e₄) y₄
       (λ e₅ y₅. follow Refusal.Fill fill_tells y₅
-      (λ e₆ y₆. follow Refusal.Room (room_tells (block.count b) places) y₆ (λ e h q k. let z : ◌≡◌ {A = ℕ} 0 1 = cc in omega arith)))))))
+      (λ e₆ y₆. follow Refusal.Room (room_tells (block.count b) places) y₆ (λ e. answer_none _ a)))))))

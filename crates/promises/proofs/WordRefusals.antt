@@ -1,8 +1,7 @@
 -- The refusals of the calls on words and numbers follow the table. Assumes nothing.
 use Rattle.std.specs.Prelude.{Ok, Err}
-use Rattle.bounds.specs.Refusals.{passed, Answer}
-use Rattle.std.specs.Ordering.{Ordering}
-use Rattle.bounds.specs.Sayings.{written}
+use Rattle.bounds.specs.Refusals.{passed, Answer, Verdict}
+use Rattle.std.specs.declared.cmp.Ordering.{Ordering}
 use mathlib.Core.Path.{◌≡◌, refl, sym, ap, ◌∙◌, subst}
 use mathlib.Core.Bool.{Bool, true, false, cond}
 use mathlib.Core.List.{List, [], ◌∷◌}
@@ -18,6 +17,7 @@ use lib.IntN.{ℤ, pos, negsuc, nat_abs, ◌+ℤ◌, ◌-ℤ◌}
 use lib.Pow.{pow_pos}
 use Rattle.bounds.specs.declared.refusal.Refusal.{Refusal}
 use Rattle.bounds.specs.Refusals.{number_of, width_test, stray_test, word_test, ◌then◌, IsWord, Decided}
+use Rattle.bounds.specs.declared.width.Width.{Width}
 use Rattle.bounds.specs.Widths.{nar_word}
 use Rattle.bounds.proofs.Powers.{not_more}
 use Rattle.bounds.proofs.Verdicts.{width_through, word_through}
@@ -25,7 +25,7 @@ use Rattle.word.specs.declared.reading.Reading.{Reading}
 use Rattle.sizes.specs.declared.size.Size.{Size}
 use Rattle.sizes.specs.declared.size.WordSize.{WordSize}
 use Rattle.word.specs.Takum.{Takum, real, NaR, takum}
-use Rattle.word.specs.Reads.{num, den, IsKind, IsReading, refused_reading}
+use Rattle.word.specs.Reads.{num, den, IsReading}
 use Rattle.sizes.specs.Sizes.{IsWordSize}
 use Rattle.order.specs.Orders.{Compares}
 use Rattle.word.proofs.Words.{takum_NaR}
@@ -65,47 +65,36 @@ module _ {A : Type 0} {R : Refusal → A} {a : A} {Q : Type 0} where
   of_word n w none x = follow Refusal.Width (width_tells n) (parts x) (λ e y. follow Refusal.Stray (stray_tells n w) y (λ e. none))
 
 -- two constructors differ
-pub word_none : (w : ℕ) (a : Answer ℕ) → a ≡ Ok w → (q : Refusal) → a ≡ Err q → ⊥
-word_none w a p q e = let z : ◌≡◌ {A = ℕ} 0 1 = cc in omega arith
-
 pub rounded_strict : Rule.Rounded ≡ Rule.Strict → ⊥
-rounded_strict e = let z : ◌≡◌ {A = ℕ} 0 1 = cc in omega arith
+rounded_strict e = cc
 
-pub reading_none : (t : Takum) (p o : ℕ) (a : Reading) → IsReading t p o a → (q : Refusal) → a ≡ refused_reading q → ⊥
-unfolding IsKind
-reading_none t p o a x q e = subst (λ (b : Reading). IsKind t p b.kind) e x.what
-
-pub size_none : (t : Takum) (a : WordSize) → IsWordSize t a → (q : Refusal) → a ≡ Err q → ⊥
-unfolding IsWordSize
-size_none t a x q e = subst (IsWordSize t) e x
+pub answer_none : {A : Type 0} (x : A) (a : Answer A) → a ≡ Ok x → (q : Refusal) → a ≡ Err q → ⊥
+answer_none x a p q e = cc
 
 pub number_none : (t : Takum) (a : Binary64) → taken.IsTakenBinary64 t a → (q : Refusal) → a ≡ Binary64.Refused q → ⊥
 unfolding taken.IsTakenBinary64
-number_none (real z) a x q e = let z : ◌≡◌ {A = ℕ} 0 1 = cc in omega arith
-number_none NaR a x q e = let z : ◌≡◌ {A = ℕ} 0 1 = cc in omega arith
+number_none (real z) a x q e = cc
+number_none NaR a x q e = cc
 
 pub compare_follows : (n x y : ℕ) (a : Answer Ordering) → Compares n x y a → Follows Err a (width n ∷ stray n x ∷ stray n y ∷ [])
 unfolding Follows FollowsUpTo Compares
 compare_follows n x y a h =
-    follow Refusal.Width (width_tells n) (parts (parts h)) (λ e h. follow Refusal.Stray (stray_tells n x) h (λ e h. follow Refusal.Stray (stray_tells n y) h (λ e p q k. let z : ◌≡◌ {A = ℕ} 0 1 = cc in omega arith)))
-
-pub verdict_none : (a : Verdict) → a ≡ passed → (q : Refusal) → a ≡ Err q → ⊥
-verdict_none a p q e = let z : ◌≡◌ {A = ℕ} 0 1 = cc in omega arith
+    follow Refusal.Width (width_tells n) (parts (parts h)) (λ e h. follow Refusal.Stray (stray_tells n x) h (λ e h. follow Refusal.Stray (stray_tells n y) h (λ e p q k. cc)))
 
 pub test_follows : (n : ℕ) (a : Verdict) → a ≡ width_test n → Follows Err a (width n ∷ [])
-test_follows n a x = of_width n (verdict_none a) (verdict_decided x)
+test_follows n a x = of_width n (answer_none tt a) (verdict_decided x)
 
 pub test_word_follows : (n w : ℕ) (a : Verdict) → a ≡ word_test n w → Follows Err a (width n ∷ stray n w ∷ [])
 unfolding Follows FollowsUpTo
-test_word_follows n w a x = of_word n w (verdict_none a) (verdict_decided x)
+test_word_follows n w a x = of_word n w (answer_none tt a) (verdict_decided x)
 
 -- ---- writing: INEXACT where strict and no word has the value
 -- what is written for a value that a word has exactly where HasIt holds of it
 pub inexact_line : (n : ℕ) (rule : Rule) (s : Bool) (a b : ℕ) (HasIt : ℕ → Type 0) (r : Answer ℕ) → ((w : ℕ) → IsExact n s a b w → HasIt w) → ((w : ℕ) → HasIt w → IsExact n s a b w) → IsWritten n rule s a b r → Follows Err r (no_word rule HasIt ∷ [])
 unfolding Follows FollowsUpTo IsWritten
-inexact_line n Rule.Rounded s a b HasIt (Ok w) to from x = inr (λ h. rounded_strict h.0, word_none w (Ok w) refl)
+inexact_line n Rule.Rounded s a b HasIt (Ok w) to from x = inr (λ h. rounded_strict h.0, answer_none w (Ok w) refl)
 inexact_line n Rule.Rounded s a b HasIt (Err q) to from x = absurd x
-inexact_line n Rule.Strict s a b HasIt (Ok w) to from x = inr (λ h. h.1 w (to w x), word_none w (Ok w) refl)
+inexact_line n Rule.Strict s a b HasIt (Ok w) to from x = inr (λ h. h.1 w (to w x), answer_none w (Ok w) refl)
 inexact_line n Rule.Strict s a b HasIt (Err q) to from x = inl ((refl, λ w h. x.1 w (from w h)), record { q = q; is = refl; known = ap number_of x.0 })
 
 pub write_short_follows : (n : ℕ) (rule : Rule) (negative : Bool) (m : ℕ) (k : ℤ) (a : Answer ℕ) → WritesShort n rule negative m k a → Follows Err a (short_lines n rule negative m k)
@@ -138,7 +127,7 @@ unfolding Follows FollowsUpTo WritesBinary64 IsWrittenBinary64 IsBinary64 nar_wo
 write_binary64_follows n rule x a y = follow Refusal.Width (width_tells n) y (λ e. by x (width_through n e).0 (width_through n e).1)
   where
     not_real : (x : Float) → 2 ≤ n → n ≤ 64 → ((w : ℕ) → IsWord n w × (takum n w ≡ NaR) → IsBinary64 n x w) → a ≡ Ok (nar_word n) → Follows Err a (no_word rule (IsBinary64 n x) ∷ [])
-    not_real x lo hi is q = inr (λ h. h.1 (nar_word n) (is (nar_word n) (record { least = lo; most = hi; fits = omega (arith, twice n lo, pow_pos (n - 1)) }, takum_NaR n (nar_word n) lo hi refl)), word_none (nar_word n) a q)
+    not_real x lo hi is q = inr (λ h. h.1 (nar_word n) (is (nar_word n) (record { least = lo; most = hi; fits = omega (arith, twice n lo, pow_pos (n - 1)) }, takum_NaR n (nar_word n) lo hi refl)), answer_none (nar_word n) a q)
 
     by : (x : Float) → 2 ≤ n → n ≤ 64 → IsWrittenBinary64 n rule x a → Follows Err a (no_word rule (IsBinary64 n x) ∷ [])
     by nan lo hi q = not_real nan lo hi (λ w h. h) q
@@ -151,7 +140,7 @@ pub refused_meaning : (n : ℕ) (rule : Rule) (t : Takum) (q : Refusal) → IsMo
 unfolding IsMoved IsWritten
 refused_meaning n Rule.Rounded (real z) q x = absurd x
 refused_meaning n Rule.Strict (real z) q x = (refl, x.0)
-refused_meaning n rule NaR q x = absurd (word_none (nar_word n) (Err q) x q refl)
+refused_meaning n rule NaR q x = absurd (answer_none (nar_word n) (Err q) x q refl)
 
 pub move_follows : (n n' : ℕ) (rule : Rule) (w : ℕ) (a : Answer ℕ) → Moves n n' rule w a → Follows Err a (width n ∷ width n' ∷ move_lines n n' rule w)
 unfolding Follows FollowsUpTo Moves move_lines
@@ -159,20 +148,20 @@ move_follows n n' rule w a x =
     follow Refusal.Width (width_tells n) (parts (parts x)) (λ e y. follow Refusal.Width (width_tells n') y (λ e' z. follow Refusal.Stray (stray_tells n w) z (λ s m. by rule a (word_through n w (rw e s)) m x)))
   where
     by : (rule : Rule) (a : Answer ℕ) → IsWord n w → IsMoved n' rule (takum n w) a → Moves n n' rule w a → Follows Err a (no_word rule (λ w'. IsWord n' w' × (takum n' w' ≡ takum n w)) ∷ [])
-    by Rule.Rounded (Ok w') i y m = inr (λ h. rounded_strict h.0, word_none w' (Ok w') refl)
-    by Rule.Strict (Ok w') i y m = let k = strict_keeps n n' w w' m in inr (λ h. h.1 w' (k.to, k.same), word_none w' (Ok w') refl)
+    by Rule.Rounded (Ok w') i y m = inr (λ h. rounded_strict h.0, answer_none w' (Ok w') refl)
+    by Rule.Strict (Ok w') i y m = let k = strict_keeps n n' w w' m in inr (λ h. h.1 w' (k.to, k.same), answer_none w' (Ok w') refl)
     by rule (Err q) i y m =
         let t = refused_meaning n' rule (takum n w) q y in
-        inl ((t.0, λ w' h. word_none w' (Err q) (moved_to_the_same n n' w w' rule (Err q) i h.0 h.1 m) q refl), record { q = q; is = refl; known = ap number_of t.1 })
+        inl ((t.0, λ w' h. answer_none w' (Err q) (moved_to_the_same n n' w w' rule (Err q) i h.0 h.1 m) q refl), record { q = q; is = refl; known = ap number_of t.1 })
 
 -- ---- one call after another
 -- the lines of the first call, and then what is so of the next
-pub after_the_first : {A : Type 0} (R : Refusal → A) (First : Answer ℕ → Type 0) (Next : ℕ → A → Type 0) (lines : List Line) (P : Type 0) (r : A) → ((x : Answer ℕ) → First x → Follows Err x lines) → ((w : ℕ) → First (Ok w) → Next w r → P) → AndThen R First Next r → FollowsUpTo R r lines P
-after_the_first R First Next lines P r first next (goes_on w x y) = none_hold Err R (Ok w) r lines P (next w x y) (word_none w (Ok w) refl) (first (Ok w) x)
-after_the_first {A = A} R First Next lines P r first next (stops q x e) = subst (λ (r : A). FollowsUpTo R r lines P) (sym e) (handed_on R q lines P (first (Err q) x))
+pub after_the_first : {A : Type 0} (First : Answer ℕ → Type 0) (Next : ℕ → Answer A → Type 0) (lines : List Line) (P : Type 0) (r : Answer A) → ((x : Answer ℕ) → First x → Follows Err x lines) → ((w : ℕ) → First (Ok w) → Next w r → P) → AndThen First Next r → FollowsUpTo Err r lines P
+after_the_first First Next lines P r first next (goes_on w x y) = none_hold Err Err (Ok w) r lines P (next w x y) (answer_none w (Ok w) refl) (first (Ok w) x)
+after_the_first {A = A} First Next lines P r first next (stops q x e) = subst (λ (r : Answer A). FollowsUpTo Err r lines P) (sym e) (handed_on Err q lines P (first (Err q) x))
 
 -- a chain of strict moves is its first move and then the rest
-pub chain_step : (home n' : ℕ) (ns : List ℕ) (n w : ℕ) (a : Answer ℕ) → Goes home n w (n' ∷ ns) a → AndThen Err (Moves n n' Rule.Strict w) (λ v r. Goes home n' v ns r) a
+pub chain_step : (home n' : ℕ) (ns : List ℕ) (n w : ℕ) (a : Answer ℕ) → Goes home n w (n' ∷ ns) a → AndThen (Moves n n' Rule.Strict w) (λ v r. Goes home n' v ns r) a
 unfolding Goes
 chain_step home n' ns n w a (inl (v, m, x)) = goes_on v m x
 chain_step home n' ns n w a (inr (q, m, e)) = stops q m e
@@ -180,7 +169,7 @@ chain_step home n' ns n w a (inr (q, m, e)) = stops q m e
 pub goes_follows : (home : ℕ) (ns : List ℕ) (n w : ℕ) (a : Answer ℕ) → Goes home n w ns a → ChainFollows home n w ns a
 unfolding Goes ChainFollows
 goes_follows home [] n w a x = move_follows n home Rule.Strict w a x
-goes_follows home (n' ∷ ns) n w a x = after_the_first Err _ _ _ _ a (move_follows n n' Rule.Strict w) (λ v m y. (v, m, goes_follows home ns n' v a y)) (chain_step home n' ns n w a x)
+goes_follows home (n' ∷ ns) n w a x = after_the_first _ _ _ _ a (move_follows n n' Rule.Strict w) (λ v m y. (v, m, goes_follows home ns n' v a y)) (chain_step home n' ns n w a x)
 
 -- ---- a whole number out
 outside_tells : (x : ℤ) → Tells (over_test x) Refusal.Over (OutsideSigned64 x)
@@ -211,7 +200,7 @@ module _ (n w : ℕ) (i : IsWord n w) (z x : ℤ) (means : takum n w ≡ real z)
 
   inexact_tells : (rule : Taking) → Tells (inexact_test rule z x) Refusal.Inexact ((rule ≡ Taking.Strict) × ((y : ℤ) → IsWhole n y w → ⊥))
   unfolding inexact_test
-  inexact_tells Taking.Nearest = fails refl (λ h. let q = h.0 in let e : ◌≡◌ {A = ℕ} 0 1 = cc in omega arith)
+  inexact_tells Taking.Nearest = fails refl (λ h. let q = h.0 in cc)
   inexact_tells Taking.Strict = by (eqb (nat_abs x * 2 ^ 307) (nat_abs z)) refl
     where
       by : (b : Bool) → eqb (nat_abs x * 2 ^ 307) (nat_abs z) ≡ b → Tells (cond b passed (Err Refusal.Inexact)) Refusal.Inexact ((Taking.Strict ≡ Taking.Strict) × ((y : ℤ) → IsWhole n y w → ⊥))
@@ -226,11 +215,11 @@ take_whole_follows n rule w a x = follow Refusal.Width (width_tells n) (parts x)
     by NaR q i y = inl (q, record { q = Refusal.Nar; is = y; known = refl })
     by (real z) q i (x, near, d) = inr (
       λ h. not_NaR z (sym q ∙ h),
-      follow Refusal.Over (over_tells n w i z x q near) (parts d) (λ e y. follow Refusal.Inexact (inexact_tells n w i z x q near rule) y (λ e' h p k. let e : ◌≡◌ {A = ℕ} 0 1 = cc in omega arith)),
+      follow Refusal.Over (over_tells n w i z x q near) (parts d) (λ e y. follow Refusal.Inexact (inexact_tells n w i z x q near rule) y (λ e' h p k. cc)),
     )
 
 -- the shortest width has one line, which is the contract's own
 pub shortest_follows : (x : ℤ) (a : Answer Width) → GivesShortest x a → Follows Err a (no_width x ∷ [])
 unfolding Follows FollowsUpTo GivesShortest HasWord IsWhole
-shortest_follows x (Ok n) y = inr ((λ none. none n.bits y.has.0 y.least y.most y.has.1), λ q e. let z : ◌≡◌ {A = ℕ} 0 1 = cc in omega arith)
+shortest_follows x (Ok n) y = inr ((λ none. none n.bits y.has.0 y.least y.most y.has.1), λ q e. cc)
 shortest_follows x (Err q) y = inl ((λ n w lo hi v. y.1 n lo hi (w, v)), record { q = Refusal.Inexact; is = ap Err y.0; known = refl })

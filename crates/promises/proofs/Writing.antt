@@ -1,7 +1,6 @@
 -- The demands that specs/Writing.antt states, from the laws of writing. Assumes nothing.
 use Rattle.std.specs.Prelude.{Ok, Err}
-use Rattle.bounds.specs.Refusals.{passed, Answer}
-use Rattle.bounds.specs.Sayings.{written}
+use Rattle.bounds.specs.Refusals.{passed, Answer, Verdict}
 use mathlib.Core.Path.{◌≡◌, refl, sym, ap, ap₂, ◌∙◌, subst}
 use mathlib.Core.Bool.{Bool, true, false, not}
 use mathlib.Core.List.{List, [], ◌∷◌}
@@ -39,6 +38,7 @@ use Rattle.write.proofs.Moves.{Kept, moved_to_the_same, strict_keeps, there_and_
 use Rattle.promises.specs.Refusals.{move_lines}
 use Rattle.promises.specs.Writing as promise
 use Rattle.promises.specs.Writing.{numerator, denominator, with_other_sign, of_sign, KindSays, Says, Chain, Goes, ComesHome}
+use Rattle.promises.proofs.Demands.{reads_as}
 use Rattle.promises.proofs.Lines.{past, good_width, given_or_inexact}
 use Rattle.promises.proofs.WordRefusals.{write_follows, move_follows}
 
@@ -151,11 +151,10 @@ kind_exactly n w Kind.Zero v i x says =
 kind_exactly n w (Kind.Number s h m p) v i number says =
     subst (λ (v : Value). IsExact n v.negative (numerator v) (denominator v) w) (sym says) (record { z = number.v; is = record { word = i; means = number.means }; same = sym number.size })
 kind_exactly n w Kind.Nar v i x says = absurd says
-kind_exactly n w (Err q) v i x says = absurd says
 
-read_exactly : (n w : ℕ) (a : Reading) (v : Value) → IsWord n w → Reads n w a → Says a v → IsExact n v.negative (numerator v) (denominator v) w
-unfolding Says Reads
-read_exactly n w a v i x says = kind_exactly n w a.kind v i (answered (word_passes n w i) x).what says
+read_exactly : (n w : ℕ) (a : Reading) (v : Value) → IsWord n w → Reads n w (Ok a) → Says a v → IsExact n v.negative (numerator v) (denominator v) w
+unfolding Says
+read_exactly n w a v i x says = kind_exactly n w a.kind v i (reads_as n w a i x).what says
 
 pub what_was_read_is_written_back : promise.WhatWasReadIsWrittenBack
 unfolding promise.WhatWasReadIsWrittenBack promise.AWordsValueIsWrittenAsTheWord
@@ -216,11 +215,10 @@ kind_moved n n' w rule Kind.Zero v r i x says (through q y) =
 kind_moved n n' w rule (Kind.Number s h m p) v r i number says (through q y) =
     subst (λ (v : Value). Writes n' rule v r) (sym says) (through (move_through n n' w q).1 (number_written n' rule r (takum n w) _ s h m p number y))
 kind_moved n n' w rule Kind.Nar v r i x says (through q y) = absurd says
-kind_moved n n' w rule (Err p) v r i x says (through q y) = absurd says
 
 pub a_move_is_a_reading_and_a_writing : promise.AMoveIsAReadingAndAWriting
-unfolding promise.AMoveIsAReadingAndAWriting Says Reads
-a_move_is_a_reading_and_a_writing n n' w rule a v r i x says = kind_moved n n' w rule a.kind v r i (answered (word_passes n w i) x).what says
+unfolding promise.AMoveIsAReadingAndAWriting Says
+a_move_is_a_reading_and_a_writing n n' w rule a v r i x says = kind_moved n n' w rule a.kind v r i (reads_as n w a i x).what says
 
 pub strict_moves_keep_the_value : promise.StrictMovesKeepTheValue
 unfolding promise.StrictMovesKeepTheValue

@@ -1,9 +1,7 @@
 -- The refusals of a block that is to be written follow the table. Assumes nothing.
-use Rattle.std.specs.Prelude.{Ok, Err}
+use Rattle.std.specs.Prelude.{⊤, Ok, Err}
 use Rattle.bounds.specs.declared.refusal.ListRefusal.{ListRefusal}
-use Rattle.bounds.specs.Refusals.{passed, ListAnswer}
-use Rattle.std.specs.Prelude.{⊤}
-use Rattle.bounds.specs.Sayings.{written}
+use Rattle.bounds.specs.Refusals.{passed, Verdict, ListAnswer}
 use mathlib.Core.Path.{◌≡◌, refl, sym, subst}
 use mathlib.Core.Bool.{Bool, true, false, not}
 use mathlib.Core.List.{List, [], ◌∷◌}
@@ -20,7 +18,7 @@ use Rattle.sheet.specs.Writes.{is_retired, content_test, FitUpTo, IsTried, Write
 use Rattle.promises.specs.Refusals.{FollowsUpTo, Follows, stray, size, written_width, retired, written_count}
 use Rattle.promises.proofs.Lines.{Tells, holds, fails, stray_tells, parts, follow, carry, verdict_decided}
 use Rattle.promises.proofs.SliceRefusals.{four_tells, many_tells, size_tells}
-use Rattle.promises.proofs.WordRefusals.{verdict_none}
+use Rattle.promises.proofs.WordRefusals.{answer_none}
 
 -- a width that is written no more
 retired_tells : (n : ℕ) → Tells (unless Refusal.Retired (not (is_retired n))) Refusal.Retired (n ≡ 8)
@@ -32,7 +30,7 @@ retired_tells n = by (eqb n 8) refl
     by false e = fails refl (eqb-false n 8 e)
 
 module _ (n : ℕ) (words buffer : List ℕ) where
-  pub written_follows : (a : ListAnswer ⊤) → WritesBlock n words buffer a → Follows Err (ListRefusal.Whole a) (written_width n ∷ retired n ∷ written_count n (length words) ∷ size buffer ∷ [])
+  pub written_follows : (a : ListAnswer ⊤) → WritesBlock n words buffer a → Follows (λ q. Err (ListRefusal.Whole q)) a (written_width n ∷ retired n ∷ written_count n (length words) ∷ size buffer ∷ [])
   unfolding Follows FollowsUpTo WritesBlock content_test IsTried
   written_follows a x =
       follow Refusal.Width (four_tells n) (parts (parts (parts x)))
@@ -44,15 +42,15 @@ module _ (n : ℕ) (words buffer : List ℕ) where
   module _ (i : ℕ) (inside : i < length words) where
     at_position : (a : ListAnswer ⊤) (v : Verdict) → v ≡ stray_test n (get_or words i 0) → ((q : Refusal) → v ≡ Err q → a ≡ Err (ListRefusal.At i q)) → ((q : Refusal) → a ≡ Err (ListRefusal.At i q) → v ≡ Err q) → Follows (λ q. Err (ListRefusal.At i q)) a (stray n (get_or words i 0) ∷ [])
     unfolding Follows FollowsUpTo
-    at_position a v e to from = carry Err (λ q. Err (ListRefusal.At i q)) v a (stray n (get_or words i 0) ∷ []) to from (follow Refusal.Stray (stray_tells n (get_or words i 0)) (verdict_decided e) (λ h. verdict_none v))
+    at_position a v e to from = carry Err (λ q. Err (ListRefusal.At i q)) v a (stray n (get_or words i 0) ∷ []) to from (follow Refusal.Stray (stray_tells n (get_or words i 0)) (verdict_decided e) (λ h. answer_none tt v))
 
     tried : (a : ListAnswer ⊤) → ((j : ℕ) (q : Refusal) → j < i → a ≡ Err (ListRefusal.At j q) → ⊥) → IsTried n words a → Follows (λ q. Err (ListRefusal.At i q)) a (stray n (get_or words i 0) ∷ [])
     unfolding IsTried FitUpTo
-    tried Ok tt before x = at_position Ok tt passed (sym (x i inside)) (λ q h. cc) (λ q h. cc)
+    tried (Ok _) before x = at_position (Ok tt) passed (sym (x i inside)) (λ q h. cc) (λ q h. cc)
     tried (Err (ListRefusal.Whole q)) before x = absurd x
     tried (Err (ListRefusal.At p q)) before x = by (dec_lt p i) (dec_lt i p)
       where
-        by : Dec (p < i) → Dec (i < p) → Follows (λ q. Err (ListRefusal.At i q)) (Err (ListRefusal.At p q)) (stray n (get_or words i 0) ∷ [])
+        by : Dec (p < i) → Dec (i < p) → Follows {A = ListAnswer ⊤} (λ q. Err (ListRefusal.At i q)) (Err (ListRefusal.At p q)) (stray n (get_or words i 0) ∷ [])
         by (yes l) d = absurd (before p q l refl)
         by (no f) (yes l) = at_position (Err (ListRefusal.At p q)) passed (sym (x.1 i l)) (λ q' h. cc) (λ q' h. let same : p ≡ i = cc in absurd (omega (arith, same, l)))
         by (no f) (no g) =
@@ -67,4 +65,4 @@ module _ (n : ℕ) (words buffer : List ℕ) where
   pub position_inside : (i : ℕ) (q : Refusal) → WritesBlock n words buffer (Err (ListRefusal.At i q)) → i < length words
   unfolding WritesBlock IsTried
   position_inside i q (through h x) = x.0
-  position_inside i q (refused h e) = let z : ◌≡◌ {A = ℕ} 0 1 = cc in absurd (omega arith)
+  position_inside i q (refused h e) = absurd cc

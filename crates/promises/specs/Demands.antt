@@ -1,18 +1,17 @@
 -- What the letter demands of reading, order and negation, what belongs to a width, and how a refusal is said by its number.
-use Rattle.std.specs.Prelude.{Ok, Err}
-use Rattle.bounds.specs.Refusals.{Answer}
-use Rattle.std.specs.Ordering.{Less, Equal, Greater, Ordering, int_cmp}
-use Rattle.std.specs.Prelude.{◌≡◌, false, ℕ, ◌-◌, ◌*◌, ◌^◌, ◌≤◌, ◌<◌, ℤ, negsuc, pos, ◌-ℤ◌}
+use Rattle.std.specs.declared.cmp.Ordering.{Ordering}
+use Rattle.std.specs.declared.cmp.Ordering.TheVariants.{Less, Equal, Greater}
+use Rattle.std.specs.Prelude.{◌≡◌, false, ℕ, ◌-◌, ◌*◌, ◌^◌, ◌≤◌, ◌<◌, ℤ, pos, ◌-ℤ◌, Ok, Err}
 use Rattle.word.specs.declared.reading.Reading.{Reading}
 use Rattle.bounds.specs.declared.refusal.Refusal.{Refusal}
 use Rattle.word.specs.Takum.{real, NaR, takum, fraction_bits, own_fraction_bits}
-use Rattle.bounds.specs.Refusals.{number_of, width_test, stray_test, ◌then◌, IsWord, Decided}
+use Rattle.bounds.specs.Refusals.{Answer, number_of, width_test, stray_test, ◌then◌, IsWord, Decided}
 use Rattle.bounds.specs.Widths.{nar_word, largest, smallest}
 use Rattle.sizes.specs.declared.size.Size.{Size}
 use Rattle.word.specs.Reads.{IsSize, signed_size, IsReading, Reads}
 use Rattle.sizes.specs.Sizes.{Sizes}
 use Rattle.word.specs.Orders.{order, opposite}
-use Rattle.order.specs.Orders.{Compares, Negates}
+use Rattle.order.specs.Orders.{order_number, Compares, Negates}
 use Rattle.nearest.specs.Nearest.{HasValue}
 
 -- ---- demand 1: bad input gets the refusal number that the papers fix. Refusals.antt has the table.
@@ -25,11 +24,11 @@ pub record RefusedAs (A : Type 0) (refused : Refusal → A) (number : ℕ) (answ
 -- ---- demand 2, reading: at widths 2 to 64 the reading of a word is never refused, is the value that Definition 2 gives, and has the word's own fraction
 -- bits (paper 02, Wish 3)
 unfoldable pub ReadingIsTheDefinition : Type 0
-ReadingIsTheDefinition = (n w : ℕ) (a : Reading) → IsWord n w → Reads n w a → IsReading (takum n w) (fraction_bits n w) (own_fraction_bits n w) a
+ReadingIsTheDefinition = (n w : ℕ) (a : Answer Reading) → IsWord n w → Reads n w a → (r : Reading) × (a ≡ Ok r) × IsReading (takum n w) (fraction_bits n w) (own_fraction_bits n w) r
 
 -- two words of one width whose readings say the same are one word; how fine they are is not needed to tell them apart
 unfoldable pub ReadingTellsWordsApart : Type 0
-ReadingTellsWordsApart = (n x y : ℕ) (a b : Reading) → IsWord n x → IsWord n y → Reads n x a → Reads n y b → a.kind ≡ b.kind → x ≡ y
+ReadingTellsWordsApart = (n x y : ℕ) (a b : Reading) → IsWord n x → IsWord n y → Reads n x (Ok a) → Reads n y (Ok b) → a.kind ≡ b.kind → x ≡ y
 
 -- a word that is neither zero nor NaR, at the top of 64 bits: its sign and size are those of the value that Definition 2 gives, the size m * 2^(h - 63)
 unfoldable pub ASizeIsTheWordsValue : Type 0
@@ -46,9 +45,9 @@ unfoldable pub TheNaRWord : Type 0
 TheNaRWord = (n : ℕ) → 2 ≤ n → n ≤ 64 → IsWord n (nar_word n) × (takum n (nar_word n) ≡ NaR) × ((w : ℕ) → IsWord n w → takum n w ≡ NaR → w ≡ nar_word n)
 
 -- ---- order and negation, as the values have them
--- the comparison of two words is the order of their values
+-- the comparison of two words is the order of their values, which is the paper's number for it
 unfoldable pub ComparisonIsTheOrderOfValues : Type 0
-ComparisonIsTheOrderOfValues = (n x y : ℕ) (u v : ℤ) (a : Answer Ordering) → IsWord n x → IsWord n y → takum n x ≡ real u → takum n y ≡ real v → Compares n x y a → a ≡ Ok (int_cmp u v)
+ComparisonIsTheOrderOfValues = (n x y : ℕ) (u v : ℤ) (a : Answer Ordering) → IsWord n x → IsWord n y → takum n x ≡ real u → takum n y ≡ real v → Compares n x y a → (o : Ordering) × (a ≡ Ok o) × (order_number o ≡ order u v)
 
 -- NaR comes below everything
 unfoldable pub NaRIsBelowEveryValue : Type 0

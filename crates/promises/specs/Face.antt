@@ -1,7 +1,5 @@
 -- What every exported call hands over, by the fields of its struct. The field `refusal` follows the table of paper 01. Where it isn't 0 all other
 -- fields are zero, but for the position of a word, and lent memory is as it came; where it is 0 the fields are the answer, said by value.
-use Rattle.bounds.specs.Refusals.{Answer}
-use Rattle.bounds.specs.Sayings.{written}
 use Rattle.std.specs.Prelude.{◌≡◌, Bool, true, false, List, [], ◌∷◌, ◌++◌, ◌⊎◌, ℕ, zero, suc, ◌+◌, ◌*◌, ◌^◌, ◌≤◌, ◌<◌, Float, ℤ, pos, negsuc, nat_abs, ◌+ℤ◌, length, get_or, drop}
 use Rattle.std.specs.Float.{nan, inf, fin, binary64}
 use Rattle.std.specs.Float.Ieee.{up, down, of_bits}
@@ -46,7 +44,7 @@ FieldFollows refusal (line number When ∷ lines) Refused Then = (When × (refus
 
 -- where none holds, the field is 0 and the other fields are the answer
 abbrev pub Hands : ℕ → List Line → Type 0 → Type 0 → Type 0
-Hands refusal lines Zeros Answer = FieldFollows refusal lines Zeros ((refusal ≡ 0) × (Answer ℕ))
+Hands refusal lines Zeros Answer = FieldFollows refusal lines Zeros ((refusal ≡ 0) × Answer)
 
 -- none of the lines holds
 unfoldable pub NoneHolds : List Line → Type 0

@@ -1,14 +1,12 @@
 -- The figures of paper 01 that are marked P, all of them, and those of paper 02 that a proved call answers, as one table under one claim.
-use Rattle.std.specs.Prelude.{Ok, Err}
-use Rattle.bounds.specs.declared.refusal.ListRefusal.{ListRefusal}
-use Rattle.bounds.specs.Refusals.{Answer, ListAnswer}
-use Rattle.std.specs.Prelude.{⊤}
-use Rattle.bounds.specs.Sayings.{written}
-use Rattle.std.specs.Prelude.{◌≡◌, true, false, List, [], ◌∷◌, ℕ, ◌+◌, ◌-◌, ◌*◌, ◌^◌, ℤ, pos, neg_ℤ}
+use Rattle.std.specs.Prelude.{◌≡◌, true, false, List, [], ◌∷◌, ℕ, ◌+◌, ◌-◌, ◌*◌, ◌^◌, ℤ, ⊤, pos, neg_ℤ, Ok, Err}
 use Rattle.bounds.specs.declared.answer.Written.{Written}
 use Rattle.bounds.specs.declared.saying.Saying.{Saying}
 use Rattle.bounds.specs.declared.saying.Saying.TheVariants.{Exact, Below, Above, PastTheEnd}
-use Rattle.bounds.specs.Refusals.{IsWord}
+use Rattle.bounds.specs.declared.refusal.ListRefusal.{ListRefusal}
+use Rattle.bounds.specs.declared.width.Width.{Width}
+use Rattle.bounds.specs.Refusals.{Answer, ListAnswer, IsWord}
+use Rattle.bounds.specs.Sayings.{written}
 use Rattle.word.specs.declared.reading.Reading.{Reading}
 use Rattle.word.specs.Takum.{Takum, real, NaR, fraction_bits, own_fraction_bits}
 use Rattle.word.specs.Reads.{IsSize, signed_size, IsReading, Reads}
@@ -210,8 +208,8 @@ figures =
 
 -- whatever reading or answer the contract allows is the figure's
 unfoldable pub FigureHolds : Figure → Type 0
-FigureHolds (reads n w x) = (a : Reading) → Reads n w a → (t : Takum) × IsSaid x t × IsReading t (fraction_bits n w) (own_fraction_bits n w) a
-FigureHolds (has_own n w k) = IsWord n w × ((a : Reading) → Reads n w a → a.own ≡ k)
+FigureHolds (reads n w x) = (a : Answer Reading) → Reads n w a → (r : Reading) × (a ≡ Ok r) × ((t : Takum) × IsSaid x t × IsReading t (fraction_bits n w) (own_fraction_bits n w) r)
+FigureHolds (has_own n w k) = IsWord n w × ((a : Answer Reading) → Reads n w a → (r : Reading) × (a ≡ Ok r) × (r.own ≡ k))
 FigureHolds (writes n rule M w) = (a : Answer ℕ) → Writes n rule (whole M) a → a ≡ Ok w
 FigureHolds (refuses n rule M number) = (a : Answer ℕ) → Writes n rule (whole M) a → RefusedAs (Answer ℕ) Err number a
 FigureHolds (writes_whole n rule M w) = (a : Answer ℕ) → WritesWhole n rule (pos M) a → a ≡ Ok w
@@ -221,7 +219,7 @@ FigureHolds (says n v w s) = (a : Answer Written) → WritesAndSays n Rule.Round
 FigureHolds (says_whole n x w s) = (a : Answer Written) → WritesWholeAndSays n Rule.Rounded x a → a ≡ written w s
 FigureHolds (needs x n) = (a : Answer Width) → GivesShortest x a → a ≡ bits n
 FigureHolds (needs_more x number) = (a : Answer Width) → GivesShortest x a → RefusedAs (Answer Width) Err number a
-FigureHolds (refuses_blocks n number) = (words buffer : List ℕ) (a : ListAnswer ⊤) → WritesBlock n words buffer a → RefusedAs (ListAnswer ⊤) Err (ListRefusal.Whole number) a
+FigureHolds (refuses_blocks n number) = (words buffer : List ℕ) (a : ListAnswer ⊤) → WritesBlock n words buffer a → RefusedAs (ListAnswer ⊤) (λ q. Err (ListRefusal.Whole q)) number a
 FigureHolds (moves n w n' w' s) = (a : Answer Written) → MovesAndSays n n' Rule.Rounded w a → a ≡ written w' s
 
 -- every figure of a list holds

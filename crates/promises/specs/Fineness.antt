@@ -1,7 +1,6 @@
 -- How fine a reading is (paper 02, Wish 3): the word's own fraction bits, and what a move to a wider width makes of them.
-use Rattle.std.specs.Prelude.{Ok}
-use Rattle.std.specs.Prelude.{◌≡◌, Bool, ◌⊎◌, ℕ, ◌+◌, ◌≤◌, ◌<◌, ℤ, pos}
-use Rattle.bounds.specs.Refusals.{IsWord}
+use Rattle.std.specs.Prelude.{◌≡◌, Bool, ◌⊎◌, ℕ, ◌+◌, ◌≤◌, ◌<◌, ℤ, pos, Ok}
+use Rattle.bounds.specs.Refusals.{Answer, IsWord}
 use Rattle.word.specs.declared.reading.Kind.{Kind}
 use Rattle.word.specs.declared.reading.Reading.{Reading}
 use Rattle.word.specs.Takum.{real, NaR, r, N, padded, takum, own_fraction_bits}
@@ -12,11 +11,11 @@ use Rattle.write.specs.Writes.{Moves}
 -- ---- demand 2 covers the count
 -- the count of a reading is the definition's, at every width and word
 unfoldable pub AReadingHasTheWordsOwnFractionBits : Type 0
-AReadingHasTheWordsOwnFractionBits = (n w : ℕ) (a : Reading) → IsWord n w → Reads n w a → a.own ≡ own_fraction_bits n w
+AReadingHasTheWordsOwnFractionBits = (n w : ℕ) (a : Answer Reading) → IsWord n w → Reads n w a → (r : Reading) × (a ≡ Ok r) × (r.own ≡ own_fraction_bits n w)
 
 -- it is 0 for zero and NaR
 unfoldable pub ZeroAndNaRHaveNone : Type 0
-ZeroAndNaRHaveNone = (n w : ℕ) (a : Reading) → IsWord n w → Reads n w a → (takum n w ≡ real (pos 0)) ⊎ (takum n w ≡ NaR) → a.own ≡ 0
+ZeroAndNaRHaveNone = (n w : ℕ) (a : Reading) → IsWord n w → Reads n w (Ok a) → (takum n w ≡ real (pos 0)) ⊎ (takum n w ≡ NaR) → a.own ≡ 0
 
 -- the reading is a number with the fraction bit count p
 pub record IsNumberOf (p : ℕ) (a : Reading) : Type 0 where
@@ -31,14 +30,14 @@ bits_before n w = r (N n) (padded n w) + 5
 
 -- the fraction bits of a number are what these leave of the word, and none where they leave none
 unfoldable pub ANumberHasWhatIsLeft : Type 0
-ANumberHasWhatIsLeft = (n w p : ℕ) (a : Reading) → IsWord n w → Reads n w a → IsNumberOf p a → (bits_before n w ≤ n → a.own + bits_before n w ≡ n) × (n ≤ bits_before n w → a.own ≡ 0)
+ANumberHasWhatIsLeft = (n w p : ℕ) (a : Reading) → IsWord n w → Reads n w (Ok a) → IsNumberOf p a → (bits_before n w ≤ n → a.own + bits_before n w ≡ n) × (n ≤ bits_before n w → a.own ≡ 0)
 
 -- from width 12 up the count is p, and it never exceeds p
 unfoldable pub FromWidth12TheCountIsP : Type 0
-FromWidth12TheCountIsP = (n w p : ℕ) (a : Reading) → IsWord n w → Reads n w a → IsNumberOf p a → 12 ≤ n → a.own ≡ p
+FromWidth12TheCountIsP = (n w p : ℕ) (a : Reading) → IsWord n w → Reads n w (Ok a) → IsNumberOf p a → 12 ≤ n → a.own ≡ p
 
 unfoldable pub TheCountNeverExceedsP : Type 0
-TheCountNeverExceedsP = (n w p : ℕ) (a : Reading) → IsWord n w → Reads n w a → IsNumberOf p a → a.own ≤ p
+TheCountNeverExceedsP = (n w p : ℕ) (a : Reading) → IsWord n w → Reads n w (Ok a) → IsNumberOf p a → a.own ≤ p
 
 -- ---- wider and narrower
 -- The value stays, and the count needn't: zeros that a move appends are bits of the wider word, and nothing more is known by them.
@@ -48,8 +47,8 @@ TheCountNeverExceedsP = (n w p : ℕ) (a : Reading) → IsWord n w → Reads n w
 pub record Widened (n k w w' : ℕ) (a a' : Reading) : Type 0 where
   pub room : n + k ≤ 64
   pub moved : (IsWord n w × (rule : Rule) × Moves n (n + k) rule w (Ok w')) ⊎ Moves (n + k) n Rule.Strict w' (Ok w)
-  pub narrow : Reads n w a
-  pub wide : Reads (n + k) w' a'
+  pub narrow : Reads n w (Ok a)
+  pub wide : Reads (n + k) w' (Ok a')
 
 -- the value stays, the bits before the fraction stay, and the wider word's count is not smaller, nor greater by more than what was appended
 unfoldable pub AWiderWordSaysTheSame : Type 0

@@ -1,8 +1,6 @@
 -- What is promised of whatever is written through the hub: the nearest word or exactly the value, one answer for one value, and jamming.
-use Rattle.std.specs.Prelude.{Ok}
 use Rattle.bounds.specs.Refusals.{Answer}
-use Rattle.bounds.specs.Sayings.{written}
-use Rattle.std.specs.Prelude.{◌≡◌, Bool, ℕ, ◌+◌, ◌-◌, ◌*◌, ◌^◌, ◌≤◌, ◌<◌, ℤ, pos, ◌+ℤ◌, ◌-ℤ◌}
+use Rattle.std.specs.Prelude.{◌≡◌, Bool, ℕ, ◌+◌, ◌-◌, ◌*◌, ◌^◌, ◌≤◌, ◌<◌, ℤ, pos, ◌+ℤ◌, ◌-ℤ◌, Ok}
 use Rattle.sizes.specs.declared.size.Size.{Size}
 use Rattle.word.specs.Reads.{num, den}
 use Rattle.nearest.specs.declared.size.Rest.{Rest}

@@ -1,6 +1,3 @@
-use Rattle.bounds.specs.Refusals.{ListAnswer}
-use Rattle.std.specs.Prelude.{⊤}
-use Rattle.bounds.specs.Sayings.{written}
 -- What is promised, as statements that a reader can hold against the letter and papers 01 and 02, in reading order.
 
 -- the letter's three demands, each as one statement of those below
@@ -14,7 +11,7 @@ pub mod Words
 -- how fine a reading is
 pub mod Fineness
 -- writing and moves
-pub mod (ListAnswer ⊤)
+pub mod Writing
 -- whatever is written through the hub
 pub mod Hub
 -- whole numbers and binary64

@@ -1,15 +1,13 @@
 -- Laws of moving (paper 02, Wish 14), in its letters: the widths a, b and c. A move is rounded where no rule is named.
-use Rattle.std.specs.Prelude.{Ok, Err}
-use Rattle.bounds.specs.Refusals.{Answer}
-use Rattle.std.specs.Ordering.{Ordering}
-use Rattle.bounds.specs.Sayings.{written}
-use Rattle.std.specs.Prelude.{◌≡◌, ◌⊎◌, ℕ, ◌≤◌, ◌<◌, ℤ, pos, negsuc}
+use Rattle.std.specs.declared.cmp.Ordering.{Ordering}
+use Rattle.std.specs.declared.cmp.Ordering.TheVariants.{Less, Equal}
+use Rattle.std.specs.Prelude.{◌≡◌, ◌⊎◌, ℕ, ◌≤◌, ◌<◌, ℤ, Ok, Err}
 use Rattle.bounds.specs.declared.answer.Written.{Written}
 use Rattle.bounds.specs.declared.refusal.Refusal.{Refusal}
 use Rattle.bounds.specs.declared.saying.Saying.{Saying}
 use Rattle.bounds.specs.declared.saying.Saying.TheVariants.{Exact}
-use Rattle.bounds.specs.Refusals.{IsWord}
-use Rattle.bounds.specs.Sayings.{opposite_saying}
+use Rattle.bounds.specs.Refusals.{Answer, IsWord}
+use Rattle.bounds.specs.Sayings.{opposite_saying, written}
 use Rattle.word.specs.Takum.{real, NaR, takum}
 use Rattle.word.specs.Orders.{negated}
 use Rattle.order.specs.Orders.{Compares, Negates}
@@ -18,14 +16,14 @@ use Rattle.write.specs.Writes.{Moves}
 use Rattle.write.specs.Sayings.{MovesAndSays}
 
 -- One call after another: the word that the first answers goes on to the next. Where the first is refused, that is the answer.
-pub data AndThen {A : Type 0} (refused : Refusal → A) (First : Answer ℕ → Type 0) (Next : ℕ → A → Type 0) (r : A) : Type 0 where
-  goes_on : (w : ℕ) → First (Ok w) → Next w r → AndThen refused First Next r
-  stops : (q : Refusal) → First (Err q) → r ≡ refused q → AndThen refused First Next r
+pub data AndThen {A : Type 0} (First : Answer ℕ → Type 0) (Next : ℕ → Answer A → Type 0) (r : Answer A) : Type 0 where
+  goes_on : (w : ℕ) → First (Ok w) → Next w r → AndThen First Next r
+  stops : (q : Refusal) → First (Err q) → r ≡ Err q → AndThen First Next r
 
 -- ---- out and back
 -- the word w goes from a to b, then to c by the rule, then back to b
 unfoldable pub GoesOutAndBack : ℕ → ℕ → ℕ → Rule → ℕ → Answer ℕ → Type 0
-GoesOutAndBack a b c rule w = AndThen Err (Moves a b Rule.Rounded w) (λ u. AndThen Err (Moves b c rule u) (Moves c b Rule.Rounded))
+GoesOutAndBack a b c rule w = AndThen (Moves a b Rule.Rounded w) (λ u. AndThen (Moves b c rule u) (Moves c b Rule.Rounded))
 
 -- with c at least b, and no more than 64, this equals the first move alone, in its refusals too
 unfoldable pub OutAndBackIsTheFirstMove : Type 0
@@ -43,7 +41,7 @@ pub record OutAndBack (a b c w : ℕ) (r : Answer ℕ) : Type 0 where
 -- ---- negation
 -- the word w is negated and then moved from a to b
 unfoldable pub GoesNegated : ℕ → ℕ → ℕ → Answer Written → Type 0
-GoesNegated a b w = AndThen Err (Negates a w) (MovesAndSays a b Rule.Rounded)
+GoesNegated a b w = AndThen (Negates a w) (MovesAndSays a b Rule.Rounded)
 
 -- this is the negation of the moved word, with below and above exchanged in what is said; w is any word, zero and NaR too
 unfoldable pub TheNegationMovesToTheNegation : Type 0
@@ -57,29 +55,29 @@ pub record MovesNegated (a b w : ℕ) (r : Answer Written) : Type 0 where
 -- ---- order
 -- the words x and y are moved from a to b and then compared
 unfoldable pub GoesCompared : ℕ → ℕ → ℕ → ℕ → Answer Ordering → Type 0
-GoesCompared a b x y = AndThen Err (Moves a b Rule.Rounded x) (λ u. AndThen Err (Moves a b Rule.Rounded y) (Compares b u))
+GoesCompared a b x y = AndThen (Moves a b Rule.Rounded x) (λ u. AndThen (Moves a b Rule.Rounded y) (Compares b u))
 
 -- the order that two words have afterwards is the one they had before, or they have become equal: so it is never the reverse
-unfoldable pub IsNotReversed : ℤ → ℤ → Type 0
-IsNotReversed before after = (after ≡ before) ⊎ (after ≡ pos 0)
+unfoldable pub IsNotReversed : Ordering → Ordering → Type 0
+IsNotReversed before after = (after ≡ before) ⊎ (after ≡ Equal)
 
 -- whatever words they are, NaR too, which `compare` has below every other
 unfoldable pub MovingNeverReversesTheOrder : Type 0
-MovingNeverReversesTheOrder = (a b x y : ℕ) (before after : ℤ) → Compares a x y (Comparison.Is before) → GoesCompared a b x y (Comparison.Is after) → IsNotReversed before after
+MovingNeverReversesTheOrder = (a b x y : ℕ) (before after : Ordering) → Compares a x y (Ok before) → GoesCompared a b x y (Ok after) → IsNotReversed before after
 
 -- NaR is below every other word afterwards too: the two don't become equal
 unfoldable pub NaRStaysBelowEveryOtherWord : Type 0
-NaRStaysBelowEveryOtherWord = (a b x y : ℕ) (z after : ℤ) → takum a x ≡ NaR → takum a y ≡ real z → GoesCompared a b x y (Comparison.Is after) → after ≡ negsuc 0
+NaRStaysBelowEveryOtherWord = (a b x y : ℕ) (z : ℤ) (after : Ordering) → takum a x ≡ NaR → takum a y ≡ real z → GoesCompared a b x y (Ok after) → after ≡ Less
 
 -- what `compare_moved` answers
 pub record ComparesMoved (a b x y : ℕ) (r : Answer Ordering) : Type 0 where
   pub goes : GoesCompared a b x y r
-  pub not_reversed : (before after : ℤ) → Compares a x y (Comparison.Is before) → r ≡ Comparison.Is after → IsNotReversed before after
+  pub not_reversed : (before after : Ordering) → Compares a x y (Ok before) → r ≡ Ok after → IsNotReversed before after
 
 -- ---- a middle width
 -- the word w goes from a to c by way of b
 unfoldable pub GoesBy : ℕ → ℕ → ℕ → ℕ → Answer Written → Type 0
-GoesBy a b c w = AndThen Err (Moves a b Rule.Rounded w) (MovesAndSays b c Rule.Rounded)
+GoesBy a b c w = AndThen (Moves a b Rule.Rounded w) (MovesAndSays b c Rule.Rounded)
 
 -- There are a word and widths, each narrower than the one before, for which this and the direct move differ.
 unfoldable pub AMiddleWidthCanChangeTheWord : Type 0

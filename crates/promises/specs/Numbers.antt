@@ -1,7 +1,6 @@
 -- What the letter demands of whole numbers, and what is promised of binary64, as statements about what the public contracts allow.
 use Rattle.std.specs.Prelude.{Ok, Err}
 use Rattle.bounds.specs.Refusals.{passed, Answer}
-use Rattle.bounds.specs.Sayings.{written}
 use Rattle.std.specs.Prelude.{◌≡◌, Bool, false, ℕ, ◌+◌, ◌-◌, ◌*◌, ◌%◌, ◌^◌, ◌≤◌, ◌<◌, T, ℤ, pos, negsuc, nat_abs, Float}
 use Rattle.std.specs.Float.{nan, inf, fin}
 use Rattle.std.specs.Float.Ieee.{neg, lt, le}

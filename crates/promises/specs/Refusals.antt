@@ -1,23 +1,20 @@
 -- Demand 1: the refusal numbers of paper 01's table and those of paper 02, each given exactly when its line says. A call tries the lines that concern it
 -- in the paper's order, and each call's lines stand below in that order.
-use Rattle.std.specs.Prelude.{Ok, Err}
-use Rattle.bounds.specs.declared.refusal.ListRefusal.{ListRefusal}
-use Rattle.bounds.specs.Refusals.{Answer, ListAnswer}
-use Rattle.std.specs.Ordering.{Ordering}
-use Rattle.std.specs.Prelude.{⊤}
-use Rattle.bounds.specs.Sayings.{written}
-use Rattle.std.specs.Prelude.{◌≡◌, Bool, List, [], ◌∷◌, ◌⊎◌, ℕ, ◌+◌, ◌*◌, ◌/◌, ◌^◌, ◌≤◌, ◌<◌, Float, ℤ, pos, negsuc, ◌+ℤ◌, ◌-ℤ◌, length, get_or}
+use Rattle.std.specs.Prelude.{◌≡◌, Bool, List, [], ◌∷◌, ◌⊎◌, ℕ, ◌+◌, ◌*◌, ◌/◌, ◌^◌, ◌≤◌, ◌<◌, Float, ℤ, ⊤, pos, negsuc, ◌+ℤ◌, ◌-ℤ◌, length, get_or, Ok, Err}
+use Rattle.std.specs.declared.cmp.Ordering.{Ordering}
 use Rattle.std.specs.Float.{nan, inf, fin}
 use Rattle.std.specs.Float.Ieee.{up, down}
 use Rattle.bounds.specs.declared.answer.Written.{Written}
+use Rattle.bounds.specs.declared.refusal.ListRefusal.{ListRefusal}
 use Rattle.bounds.specs.declared.refusal.Refusal.{Refusal}
-use Rattle.bounds.specs.Refusals.{width_test, word_test, room_test, IsWord}
+use Rattle.bounds.specs.declared.width.Width.{Width}
+use Rattle.bounds.specs.Refusals.{Answer, ListAnswer, Verdict, width_test, word_test, room_test, IsWord}
 use Rattle.bounds.specs.Widths.{Makes, GivesWord, GivesLimit}
 use Rattle.word.specs.declared.reading.Reading.{Reading}
 use Rattle.sizes.specs.declared.size.Size.{Size}
 use Rattle.sizes.specs.declared.size.WordSize.{WordSize}
 use Rattle.word.specs.Takum.{real, NaR, takum}
-use Rattle.word.specs.Reads.{num, den, refused_reading, Reads}
+use Rattle.word.specs.Reads.{num, den, Reads}
 use Rattle.sizes.specs.Sizes.{ReadsSize}
 use Rattle.order.specs.Orders.{Compares, Negates}
 use Rattle.nearest.specs.Offers.{FindsNearest}
@@ -32,6 +29,7 @@ use Rattle.whole.specs.Shortest.{GivesShortest}
 use Rattle.binary64.specs.declared.taking.Binary64.{Binary64}
 use Rattle.binary64.specs.Takes.{TakesBinary64}
 use Rattle.binary64.specs.Writes.{WritesBinary64}
+use Rattle.column.specs.declared.moving.MovedColumn.{MovedColumn}
 use Rattle.column.specs.Columns.{MovesColumn}
 use Rattle.sheet.specs.declared.block.Block.{Block}
 use Rattle.sheet.specs.Layout as block
@@ -160,8 +158,8 @@ pub record RefusalsFollowTheTable : Type 0 where
   -- largest, smallest and NaR word
   pub words : (f : ℕ → ℕ) (n : ℕ) (a : Answer ℕ) → GivesWord f n a → Follows Err a (width n ∷ [])
   pub limit : (n : ℕ) (a : Answer ℕ) → GivesLimit n a → Follows Err a (width n ∷ [])
-  pub read : (n w : ℕ) (a : Reading) → Reads n w a → Follows refused_reading a (width n ∷ stray n w ∷ [])
-  pub read_size : (n w : ℕ) (a : WordSize) → ReadsSize n w a → Follows Err a (width n ∷ stray n w ∷ [])
+  pub read : (n w : ℕ) (a : Answer Reading) → Reads n w a → Follows Err a (width n ∷ stray n w ∷ [])
+  pub read_size : (n w : ℕ) (a : Answer WordSize) → ReadsSize n w a → Follows Err a (width n ∷ stray n w ∷ [])
   pub compare : (n x y : ℕ) (a : Answer Ordering) → Compares n x y a → Follows Err a (width n ∷ stray n x ∷ stray n y ∷ [])
   pub negate : (n w : ℕ) (a : Answer ℕ) → Negates n w a → Follows Err a (width n ∷ stray n w ∷ [])
   pub negate_twice : (n w : ℕ) (a : Answer ℕ) → ComesBack n w a → Follows Err a (width n ∷ stray n w ∷ [])
@@ -183,15 +181,15 @@ pub record RefusalsFollowTheTable : Type 0 where
   pub out_and_back : (a b c w : ℕ) (r : Answer ℕ) → OutAndBack a b c w r → Follows Err r (width a ∷ width b ∷ stray a w ∷ width c ∷ [])
   pub move_negated : (a b w : ℕ) (r : Answer Written) → MovesNegated a b w r → Follows Err r (width a ∷ stray a w ∷ width b ∷ [])
   pub compare_moved : (a b x y : ℕ) (r : Answer Ordering) → ComparesMoved a b x y r → Follows Err r (width a ∷ width b ∷ stray a x ∷ stray a y ∷ [])
-  pub move_column : (n n' : ℕ) (rule : Rule) (words : List ℕ) (places : ℕ) (a : ListAnswer ℕ) → MovesColumn n n' rule words places a → Follows Err (ListRefusal.Whole a) (width n ∷ width n' ∷ room (length words) places ∷ [])
+  pub move_column : (n n' : ℕ) (rule : Rule) (words : List ℕ) (places : ℕ) (a : ListAnswer MovedColumn) → MovesColumn n n' rule words places a → Follows (λ q. Err (ListRefusal.Whole q)) a (width n ∷ width n' ∷ room (length words) places ∷ [])
   -- and then each position that is reached, because the answer is no refusal of the column, nor one at a position before it
-  pub position : (n n' : ℕ) (rule : Rule) (words : List ℕ) (places : ℕ) (a : ListAnswer ℕ) → MovesColumn n n' rule words places a → ((q : Refusal) → a ≡ Err (ListRefusal.Whole q) → ⊥)
+  pub position : (n n' : ℕ) (rule : Rule) (words : List ℕ) (places : ℕ) (a : ListAnswer MovedColumn) → MovesColumn n n' rule words places a → ((q : Refusal) → a ≡ Err (ListRefusal.Whole q) → ⊥)
       → (i : ℕ) → i < length words → ((j : ℕ) (q : Refusal) → j < i → a ≡ Err (ListRefusal.At j q) → ⊥) → Follows (λ q. Err (ListRefusal.At i q)) a (move_lines n n' rule (get_or words i 0))
   -- and no refusal has a position behind the column's end
-  pub inside : (n n' : ℕ) (rule : Rule) (words : List ℕ) (places : ℕ) (a : ListAnswer ℕ) → MovesColumn n n' rule words places a → (i : ℕ) (q : Refusal) → a ≡ Err (ListRefusal.At i q) → i < length words
-  pub read_block : (b : List ℕ) (places : ℕ) (a : Block) → ReadsBlock b places a → Follows Err a (size b ∷ mark b ∷ check b ∷ block_width b ∷ count b ∷ fill b ∷ room (block.count b) places ∷ [])
+  pub inside : (n n' : ℕ) (rule : Rule) (words : List ℕ) (places : ℕ) (a : ListAnswer MovedColumn) → MovesColumn n n' rule words places a → (i : ℕ) (q : Refusal) → a ≡ Err (ListRefusal.At i q) → i < length words
+  pub read_block : (b : List ℕ) (places : ℕ) (a : Answer Block) → ReadsBlock b places a → Follows Err a (size b ∷ mark b ∷ check b ∷ block_width b ∷ count b ∷ fill b ∷ room (block.count b) places ∷ [])
   -- SIZE is asked of the buffer
-  pub write_block : (n : ℕ) (words buffer : List ℕ) (a : ListAnswer ⊤) → WritesBlock n words buffer a → Follows Err (ListRefusal.Whole a) (written_width n ∷ retired n ∷ written_count n (length words) ∷ size buffer ∷ [])
+  pub write_block : (n : ℕ) (words buffer : List ℕ) (a : ListAnswer ⊤) → WritesBlock n words buffer a → Follows (λ q. Err (ListRefusal.Whole q)) a (written_width n ∷ retired n ∷ written_count n (length words) ∷ size buffer ∷ [])
   -- and then each position that is reached, as in a column
   pub write_position : (n : ℕ) (words buffer : List ℕ) (a : ListAnswer ⊤) → WritesBlock n words buffer a → ((q : Refusal) → a ≡ Err (ListRefusal.Whole q) → ⊥)
       → (i : ℕ) → i < length words → ((j : ℕ) (q : Refusal) → j < i → a ≡ Err (ListRefusal.At j q) → ⊥) → Follows (λ q. Err (ListRefusal.At i q)) a (stray n (get_or words i 0) ∷ [])

@@ -1,15 +1,12 @@
 -- Which way it went (paper 02, Wish 4): what is promised of the saying beside a word, whatever was written, and of a column's count.
-use Rattle.std.specs.Prelude.{Ok, Err}
-use Rattle.bounds.specs.Refusals.{Answer, ListAnswer}
-use Rattle.bounds.specs.Sayings.{written}
-use Rattle.std.specs.Prelude.{◌≡◌, Bool, false, not, List, ◌⊎◌, ℕ, ◌+◌, ◌*◌, ◌^◌, ◌≤◌, ◌<◌, Float, ℤ, pos, neg_ℤ, nat_abs, ◌+ℤ◌, ◌-ℤ◌, length, get_or}
+use Rattle.std.specs.Prelude.{◌≡◌, Bool, false, not, List, ◌⊎◌, ℕ, ◌+◌, ◌*◌, ◌^◌, ◌≤◌, ◌<◌, Float, ℤ, pos, neg_ℤ, nat_abs, ◌+ℤ◌, ◌-ℤ◌, length, get_or, Ok, Err}
 use Rattle.std.specs.Float.{nan, inf, fin}
 use Rattle.std.specs.Float.Ieee.{neg, up, down}
 use Rattle.bounds.specs.declared.answer.Written.{Written}
 use Rattle.bounds.specs.declared.saying.Saying.{Saying}
 use Rattle.bounds.specs.declared.saying.Saying.TheVariants.{Exact, PastTheEnd}
-use Rattle.bounds.specs.Refusals.{IsWord}
-use Rattle.bounds.specs.Sayings.{saying_number, opposite_saying, plain}
+use Rattle.bounds.specs.Refusals.{Answer, ListAnswer, IsWord}
+use Rattle.bounds.specs.Sayings.{saying_number, opposite_saying, written, plain}
 use Rattle.bounds.specs.Widths.{nar_word, largest, smallest}
 use Rattle.word.specs.declared.reading.Reading.{Reading}
 use Rattle.word.specs.Takum.{Takum, real, NaR, takum}
@@ -35,6 +32,7 @@ use Rattle.binary64.specs.Sayings.{WritesBinary64AndSays}
 use Rattle.column.specs.declared.moving.MovedColumn.{MovedColumn}
 use Rattle.column.specs.Columns.{MovesColumn}
 use Rattle.column.specs.Counts.{Counts, HoldsAndCounts}
+use Rattle.ledusprig.specs.Handed.{column_handed}
 use Rattle.promises.specs.Demands.{RefusedAs}
 use Rattle.promises.specs.Hub.{significand, long_numerator, long_denominator}
 use Rattle.promises.specs.Writing.{numerator, denominator, with_other_sign, of_sign, Says}
@@ -133,7 +131,7 @@ ByTheStrictRuleItIsExact = (n : ℕ) (o : Offered) (w : ℕ) (s : Saying) → Is
 
 -- The two rules tell the same story. Rounded gives a word and its saying; where that is exact, strict gives the same, and elsewhere it refuses as INEXACT.
 unfoldable pub TellTheSame : Answer Written → Answer Written → Type 0
-TellTheSame rounded strict = (w : ℕ) × (s : Saying) × (rounded ≡ written w s) × (((s ≡ Exact) × (strict ≡ rounded)) ⊎ ((s ≡ Exact → ⊥) × RefusedAs Written Err 4 strict))
+TellTheSame rounded strict = (w : ℕ) × (s : Saying) × (rounded ≡ written w s) × (((s ≡ Exact) × (strict ≡ rounded)) ⊎ ((s ≡ Exact → ⊥) × RefusedAs (Answer Written) Err 4 strict))
 
 unfoldable pub TheTwoRulesTellTheSameStory : Type 0
 TheTwoRulesTellTheSameStory = (n : ℕ) (o : Offered) (a b : Answer Written) → IsFit o → 2 ≤ n → n ≤ 64 → Gives n Rule.Rounded o a → Gives n Rule.Strict o b → TellTheSame a b
@@ -201,32 +199,31 @@ AfterExactTheWayBackIsOpen = (n n' : ℕ) (rule : Rule) (w w' : ℕ) (r : Answer
 
 -- what a move answers and says is what writing answers and says of what was read
 unfoldable pub AMoveSaysWhatWritingSays : Type 0
-AMoveSaysWhatWritingSays = (n n' w : ℕ) (rule : Rule) (a : Reading) (v : Value) (r : Answer Written) → IsWord n w → Reads n w a → Says a v → MovesAndSays n n' rule w r → WritesAndSays n' rule v r
+AMoveSaysWhatWritingSays = (n n' w : ℕ) (rule : Rule) (a : Reading) (v : Value) (r : Answer Written) → IsWord n w → Reads n w (Ok a) → Says a v → MovesAndSays n n' rule w r → WritesAndSays n' rule v r
 
 -- ---- columns
 -- a column that was moved, with what its results hold afterwards
-pub record Moved (n n' : ℕ) (rule : Rule) (words before after : List ℕ) (a : MovedColumn) (count : ℕ) : Type 0 where
-  pub moved : a.answer ≡ Ok count
-  pub answers : MovesColumn n n' rule words (length before) a.answer
-  pub holds : HoldsAndCounts n n' rule words before a after
+pub record Moved (n n' : ℕ) (rule : Rule) (words before after : List ℕ) (a : MovedColumn) : Type 0 where
+  pub answers : MovesColumn n n' rule words (length before) (Ok a)
+  pub holds : HoldsAndCounts n n' rule words before (Ok a) after
 
 -- the count is that of the positions at which the move says exact
 unfoldable pub AColumnCountsWhatItsMovesSay : Type 0
-AColumnCountsWhatItsMovesSay = (n n' : ℕ) (rule : Rule) (words before after : List ℕ) (a : MovedColumn) (count : ℕ) → Moved n n' rule words before after a count → Counts (λ i. MovesAndSays n n' rule (get_or words i 0) (written (get_or after i 0) Exact)) (length words) a.exact
+AColumnCountsWhatItsMovesSay = (n n' : ℕ) (rule : Rule) (words before after : List ℕ) (a : MovedColumn) → Moved n n' rule words before after a → Counts (λ i. MovesAndSays n n' rule (get_or words i 0) (written (get_or after i 0) Exact)) (length words) a.exact
 
 -- all are exact if and only if the strict column move of the same words is not refused
 unfoldable pub AllAreExactWhereStrictMovesThem : Type 0
-AllAreExactWhereStrictMovesThem = (n n' : ℕ) (words before after : List ℕ) (a : MovedColumn) (count : ℕ) (strict : ListAnswer ℕ) → Moved n n' Rule.Rounded words before after a count → MovesColumn n n' Rule.Strict words (length before) strict
-    → (a.exact ≡ count → strict ≡ Ok count) × ((other : ℕ) → strict ≡ Ok other → a.exact ≡ count)
+AllAreExactWhereStrictMovesThem = (n n' : ℕ) (words before after : List ℕ) (a : MovedColumn) (strict : ListAnswer MovedColumn) → Moved n n' Rule.Rounded words before after a → MovesColumn n n' Rule.Strict words (length before) strict
+    → (a.exact ≡ a.moved → (c : MovedColumn) × (strict ≡ Ok c) × (c.moved ≡ a.moved)) × ((c : MovedColumn) → strict ≡ Ok c → a.exact ≡ a.moved)
 
 -- by the strict rule all are exact
 unfoldable pub AStrictColumnIsExactThroughout : Type 0
-AStrictColumnIsExactThroughout = (n n' : ℕ) (words before after : List ℕ) (a : MovedColumn) (count : ℕ) → Moved n n' Rule.Strict words before after a count → a.exact ≡ count
+AStrictColumnIsExactThroughout = (n n' : ℕ) (words before after : List ℕ) (a : MovedColumn) → Moved n n' Rule.Strict words before after a → a.exact ≡ a.moved
 
 -- to a width at least as wide all are, by either rule
 unfoldable pub AWiderColumnIsExactThroughout : Type 0
-AWiderColumnIsExactThroughout = (n more : ℕ) (rule : Rule) (words before after : List ℕ) (a : MovedColumn) (count : ℕ) → n + more ≤ 64 → Moved n (n + more) rule words before after a count → a.exact ≡ count
+AWiderColumnIsExactThroughout = (n more : ℕ) (rule : Rule) (words before after : List ℕ) (a : MovedColumn) → n + more ≤ 64 → Moved n (n + more) rule words before after a → a.exact ≡ a.moved
 
--- a refused column counts none
+-- a refused column counts none: its answer has no count, and 0 is handed over
 unfoldable pub ARefusedColumnCountsNone : Type 0
-ARefusedColumnCountsNone = (n n' : ℕ) (rule : Rule) (words before after : List ℕ) (a : MovedColumn) → HoldsAndCounts n n' rule words before a after → ((count : ℕ) → a.answer ≡ Ok count → ⊥) → a.exact ≡ 0
+ARefusedColumnCountsNone = (a : ListAnswer MovedColumn) → ((c : MovedColumn) → a ≡ Ok c → ⊥) → (column_handed a).exact ≡ 0

@@ -2,6 +2,7 @@
 use Rattle.std.specs.Prelude.{Ok, Err}
 use Rattle.bounds.specs.Refusals.{passed, Answer}
 use Rattle.std.specs.Prelude.{◌≡◌, ◌⊎◌, ℕ, ◌+◌, ◌≤◌, ◌<◌, ℤ, pos, neg_ℤ, nat_abs}
+use Rattle.bounds.specs.declared.width.Width.{Width}
 use Rattle.bounds.specs.Widths.{GivesLimit}
 use Rattle.round.specs.declared.value.Rule.{Rule}
 use Rattle.whole.specs.Wholes.{over_test, WritesWhole}

@@ -40,7 +40,7 @@ TheNegatedWordGoesOutAsTheNegatedNumber = (n w : ℕ) (rule : Taking) (x : ℤ) 
 
 -- but that of -2^63 is 2^63, which is OVER
 unfoldable pub TheNegatedWordOfTheLeastNumberIsOver : Type 0
-TheNegatedWordOfTheLeastNumberIsOver = (n w : ℕ) (rule : Taking) (a : Answer ℤ) → TakesWhole n rule w (Ok (neg_ℤ (pos (2 ^ 63)))) → TakesWhole n rule (negated n w) a → RefusedAs Whole Err 5 a
+TheNegatedWordOfTheLeastNumberIsOver = (n w : ℕ) (rule : Taking) (a : Answer ℤ) → TakesWhole n rule w (Ok (neg_ℤ (pos (2 ^ 63)))) → TakesWhole n rule (negated n w) a → RefusedAs (Answer ℤ) Err 5 a
 
 -- ---- the line in the ledger
 -- no word whose value is past the exact-count limit of its width goes out as an odd whole number, by either rule

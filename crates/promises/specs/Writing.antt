@@ -1,13 +1,10 @@
 -- What the letter demands of writing and of moves, as statements about what the public contracts allow.
-use Rattle.std.specs.Prelude.{Ok, Err}
-use Rattle.bounds.specs.Refusals.{Answer}
-use Rattle.bounds.specs.Sayings.{written}
-use Rattle.std.specs.Prelude.{◌≡◌, Bool, false, not, cond, List, [], ◌∷◌, ◌⊎◌, ℕ, ◌+◌, ◌*◌, ◌^◌, ◌≤◌, ◌<◌, ℤ, pos, ◌+ℤ◌, ◌-ℤ◌}
+use Rattle.std.specs.Prelude.{◌≡◌, Bool, false, not, cond, List, [], ◌∷◌, ◌⊎◌, ℕ, ◌+◌, ◌*◌, ◌^◌, ◌≤◌, ◌<◌, ℤ, pos, ◌+ℤ◌, ◌-ℤ◌, Ok, Err}
 use Rattle.word.specs.declared.reading.Kind.{Kind}
 use Rattle.word.specs.declared.reading.Reading.{Reading}
 use Rattle.bounds.specs.declared.refusal.Refusal.{Refusal}
 use Rattle.word.specs.Takum.{real, NaR, takum}
-use Rattle.bounds.specs.Refusals.{IsWord}
+use Rattle.bounds.specs.Refusals.{Answer, IsWord}
 use Rattle.bounds.specs.Widths.{nar_word, largest, smallest}
 use Rattle.word.specs.Reads.{num, den, IsSize, signed_size, Reads}
 use Rattle.word.specs.Orders.{signed, order, negated}
@@ -80,7 +77,6 @@ unfoldable pub KindSays : Kind → Value → Type 0
 KindSays Kind.Zero v = v.m ≡ 0
 KindSays (Kind.Number s h m p) v = v ≡ record { negative = s; m = m; k = h -ℤ pos p }
 KindSays Kind.Nar v = ⊥
-KindSays (Err q) v = ⊥
 
 -- the value v is what the reading a says
 unfoldable pub Says : Reading → Value → Type 0
@@ -88,7 +84,7 @@ Says a v = KindSays a.kind v
 
 -- what was read is written back as the word it was read from, by either rule
 unfoldable pub WhatWasReadIsWrittenBack : Type 0
-WhatWasReadIsWrittenBack = (n w : ℕ) (rule : Rule) (a : Reading) (v : Value) (r : Answer ℕ) → IsWord n w → Reads n w a → Says a v → Writes n rule v r → r ≡ Ok w
+WhatWasReadIsWrittenBack = (n w : ℕ) (rule : Rule) (a : Reading) (v : Value) (r : Answer ℕ) → IsWord n w → Reads n w (Ok a) → Says a v → Writes n rule v r → r ≡ Ok w
 
 -- the opposite value is written as the negated word
 unfoldable pub RoundingCommutesWithNegation : Type 0
@@ -100,7 +96,7 @@ order_of u v = order (signed_size u.negative (numerator u * denominator v)) (sig
 
 -- of the values of two words it is the order of the words
 unfoldable pub TheOrderOfValuesIsThatOfTheirWords : Type 0
-TheOrderOfValuesIsThatOfTheirWords = (n x y : ℕ) (a b : Reading) (u v : Value) → IsWord n x → IsWord n y → Reads n x a → Reads n y b → Says a u → Says b v → order_of u v ≡ order (signed n x) (signed n y)
+TheOrderOfValuesIsThatOfTheirWords = (n x y : ℕ) (a b : Reading) (u v : Value) → IsWord n x → IsWord n y → Reads n x (Ok a) → Reads n y (Ok b) → Says a u → Says b v → order_of u v ≡ order (signed n x) (signed n y)
 
 -- and a value that is not greater is written as a word that is not greater
 unfoldable pub RoundingKeepsOrder : Type 0
@@ -108,7 +104,7 @@ RoundingKeepsOrder = (n : ℕ) (u v : Value) (x y : ℕ) → 2 ≤ n → n ≤ 6
 
 -- ---- moves: what is read at the one width is written at the other, by either rule
 unfoldable pub AMoveIsAReadingAndAWriting : Type 0
-AMoveIsAReadingAndAWriting = (n n' w : ℕ) (rule : Rule) (a : Reading) (v : Value) (r : Answer ℕ) → IsWord n w → Reads n w a → Says a v → Moves n n' rule w r → Writes n' rule v r
+AMoveIsAReadingAndAWriting = (n n' w : ℕ) (rule : Rule) (a : Reading) (v : Value) (r : Answer ℕ) → IsWord n w → Reads n w (Ok a) → Says a v → Moves n n' rule w r → Writes n' rule v r
 
 -- ---- demand 3, moves
 -- a strict move keeps the value

@@ -1,10 +1,9 @@
 // What the calls over lent slices hand over: of a moved column, of a block that was written, and of one that was read.
 ghost use Rattle.std.specs.Prelude.{◌≡◌};
-ghost use Rattle.ledusprig.specs.Handed.{column_handed, block_handed, writing_handed};
 
-use column::moving::{Column, MovedColumn};
+use bounds::refusal::{ListRefusal, Refusal};
+use column::moving::MovedColumn;
 use sheet::block::Block;
-use sheet::writing::Writing;
 
 // The position of the word that was refused; 0 where no word was. Of the words that were moved, `exact` is how many are exact.
 #[repr(C)]
@@ -16,30 +15,32 @@ pub struct HandedColumn {
     pub exact: usize,
 }
 
-pub(crate) fn hand_column(column: MovedColumn) -> HandedColumn
-    ensures { result ≡ column_handed column }
-{
-    let answer = column.answer;
-    let exact = column.exact;
-    match answer {
-        Column::Moved(moved) => HandedColumn {
-            refusal: 0,
-            position: 0,
-            moved,
-            exact,
-        },
-        Column::Refused(q) => HandedColumn {
-            refusal: q.number(),
-            position: 0,
-            moved: 0,
-            exact,
-        },
-        Column::RefusedAt { position, refusal } => HandedColumn {
-            refusal: refusal.number(),
-            position,
-            moved: 0,
-            exact,
-        },
+impl From<Result<MovedColumn, ListRefusal>> for HandedColumn {
+    ghost use Rattle.ledusprig.specs.Handed.{column_handed};
+
+    ghost from_gives = { λ answer handed. handed ≡ column_handed answer };
+
+    fn from(answer: Result<MovedColumn, ListRefusal>) -> HandedColumn {
+        match answer {
+            Ok(column) => HandedColumn {
+                refusal: 0,
+                position: 0,
+                moved: column.moved,
+                exact: column.exact,
+            },
+            Err(ListRefusal::Whole(q)) => HandedColumn {
+                refusal: q.number(),
+                position: 0,
+                moved: 0,
+                exact: 0,
+            },
+            Err(ListRefusal::At { position, refusal }) => HandedColumn {
+                refusal: refusal.number(),
+                position,
+                moved: 0,
+                exact: 0,
+            },
+        }
     }
 }
 
@@ -51,22 +52,26 @@ pub struct HandedWriting {
     pub position: usize,
 }
 
-pub(crate) fn hand_writing(answer: Writing) -> HandedWriting
-    ensures { result ≡ writing_handed answer }
-{
-    match answer {
-        Writing::Written => HandedWriting {
-            refusal: 0,
-            position: 0,
-        },
-        Writing::Refused(q) => HandedWriting {
-            refusal: q.number(),
-            position: 0,
-        },
-        Writing::RefusedAt { position, refusal } => HandedWriting {
-            refusal: refusal.number(),
-            position,
-        },
+impl From<Result<(), ListRefusal>> for HandedWriting {
+    ghost use Rattle.ledusprig.specs.Handed.{writing_handed};
+
+    ghost from_gives = { λ answer handed. handed ≡ writing_handed answer };
+
+    fn from(answer: Result<(), ListRefusal>) -> HandedWriting {
+        match answer {
+            Ok(()) => HandedWriting {
+                refusal: 0,
+                position: 0,
+            },
+            Err(ListRefusal::Whole(q)) => HandedWriting {
+                refusal: q.number(),
+                position: 0,
+            },
+            Err(ListRefusal::At { position, refusal }) => HandedWriting {
+                refusal: refusal.number(),
+                position,
+            },
+        }
     }
 }
 
@@ -79,25 +84,25 @@ pub struct HandedBlock {
     pub count: u32,
 }
 
-pub(crate) fn hand_block(answer: Block) -> HandedBlock
-    ensures { result ≡ block_handed answer }
-{
-    match answer {
-        Block::Read {
-            width,
-            number,
-            count,
-        } => HandedBlock {
-            refusal: 0,
-            width,
-            number,
-            count,
-        },
-        Block::Refused(q) => HandedBlock {
-            refusal: q.number(),
-            width: 0,
-            number: 0,
-            count: 0,
-        },
+impl From<Result<Block, Refusal>> for HandedBlock {
+    ghost use Rattle.ledusprig.specs.Handed.{block_handed};
+
+    ghost from_gives = { λ answer handed. handed ≡ block_handed answer };
+
+    fn from(answer: Result<Block, Refusal>) -> HandedBlock {
+        match answer {
+            Ok(block) => HandedBlock {
+                refusal: 0,
+                width: block.width,
+                number: block.number,
+                count: block.count,
+            },
+            Err(q) => HandedBlock {
+                refusal: q.number(),
+                width: 0,
+                number: 0,
+                count: 0,
+            },
+        }
     }
 }

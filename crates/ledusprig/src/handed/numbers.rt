@@ -1,9 +1,8 @@
 // What is taken out of a word: a whole number, or a binary64 number.
 ghost use Rattle.std.specs.Prelude.{◌≡◌};
-ghost use Rattle.ledusprig.specs.Handed.{whole_handed, number_handed};
 
 use binary64::taking::Binary64;
-use whole::taking::Whole;
+use bounds::refusal::Refusal;
 
 #[repr(C)]
 #[derive(Clone, Copy)]
@@ -12,15 +11,19 @@ pub struct HandedWhole {
     pub whole: i64,
 }
 
-pub(crate) fn hand_whole(answer: Whole) -> HandedWhole
-    ensures { result ≡ whole_handed answer }
-{
-    match answer {
-        Whole::Is(whole) => HandedWhole { refusal: 0, whole },
-        Whole::Refused(q) => HandedWhole {
-            refusal: q.number(),
-            whole: 0,
-        },
+impl From<Result<i64, Refusal>> for HandedWhole {
+    ghost use Rattle.ledusprig.specs.Handed.{whole_handed};
+
+    ghost from_gives = { λ answer handed. handed ≡ whole_handed answer };
+
+    fn from(answer: Result<i64, Refusal>) -> HandedWhole {
+        match answer {
+            Ok(whole) => HandedWhole { refusal: 0, whole },
+            Err(q) => HandedWhole {
+                refusal: q.number(),
+                whole: 0,
+            },
+        }
     }
 }
 
@@ -33,25 +36,30 @@ pub struct HandedNumber {
     pub number: f64,
 }
 
-// The NaN is a quotient, because f64::from_bits takes no pattern of a NaN, and a constant can't be one. It is divided when this is compiled, not in a call.
-pub(crate) fn hand_number(answer: Binary64) -> HandedNumber
-    ensures { result ≡ number_handed answer }
-{
-    match answer {
-        Binary64::Number(number) => HandedNumber {
-            refusal: 0,
-            real: true,
-            number,
-        },
-        Binary64::Nar => HandedNumber {
-            refusal: 0,
-            real: false,
-            number: 0.0 / 0.0,
-        },
-        Binary64::Refused(q) => HandedNumber {
-            refusal: q.number(),
-            real: false,
-            number: 0.0,
-        },
+impl From<Binary64> for HandedNumber {
+    ghost use Rattle.ledusprig.specs.Handed.{number_handed};
+
+    ghost from_gives = { λ answer handed. handed ≡ number_handed answer };
+
+    // The NaN is a quotient, because f64::from_bits takes no pattern of a NaN, and a constant can't be one. It is divided when this is compiled, not in a
+    // call.
+    fn from(answer: Binary64) -> HandedNumber {
+        match answer {
+            Binary64::Number(number) => HandedNumber {
+                refusal: 0,
+                real: true,
+                number,
+            },
+            Binary64::Nar => HandedNumber {
+                refusal: 0,
+                real: false,
+                number: 0.0 / 0.0,
+            },
+            Binary64::Refused(q) => HandedNumber {
+                refusal: q.number(),
+                real: false,
+                number: 0.0,
+            },
+        }
     }
 }

@@ -1,8 +1,8 @@
 // What the calls about widths hand over beside words: the exact-count limit, and a width.
 ghost use Rattle.std.specs.Prelude.{◌≡◌};
-ghost use Rattle.ledusprig.specs.Handed.{limit_handed, width_handed};
 
-use bounds::width::{Limit, Made};
+use bounds::refusal::Refusal;
+use bounds::width::Width;
 
 #[repr(C)]
 #[derive(Clone, Copy)]
@@ -11,15 +11,19 @@ pub struct HandedLimit {
     pub limit: u64,
 }
 
-pub(crate) fn hand_limit(answer: Limit) -> HandedLimit
-    ensures { result ≡ limit_handed answer }
-{
-    match answer {
-        Limit::Count(limit) => HandedLimit { refusal: 0, limit },
-        Limit::Refused(q) => HandedLimit {
-            refusal: q.number(),
-            limit: 0,
-        },
+impl From<Result<u64, Refusal>> for HandedLimit {
+    ghost use Rattle.ledusprig.specs.Handed.{limit_handed};
+
+    ghost from_gives = { λ answer handed. handed ≡ limit_handed answer };
+
+    fn from(answer: Result<u64, Refusal>) -> HandedLimit {
+        match answer {
+            Ok(limit) => HandedLimit { refusal: 0, limit },
+            Err(q) => HandedLimit {
+                refusal: q.number(),
+                limit: 0,
+            },
+        }
     }
 }
 
@@ -30,17 +34,21 @@ pub struct HandedWidth {
     pub width: u32,
 }
 
-pub(crate) fn hand_width(answer: Made) -> HandedWidth
-    ensures { result ≡ width_handed answer }
-{
-    match answer {
-        Made::Width(width) => HandedWidth {
-            refusal: 0,
-            width: width.bits,
-        },
-        Made::Refused(q) => HandedWidth {
-            refusal: q.number(),
-            width: 0,
-        },
+impl From<Result<Width, Refusal>> for HandedWidth {
+    ghost use Rattle.ledusprig.specs.Handed.{width_handed};
+
+    ghost from_gives = { λ answer handed. handed ≡ width_handed answer };
+
+    fn from(answer: Result<Width, Refusal>) -> HandedWidth {
+        match answer {
+            Ok(width) => HandedWidth {
+                refusal: 0,
+                width: width.bits,
+            },
+            Err(q) => HandedWidth {
+                refusal: q.number(),
+                width: 0,
+            },
+        }
     }
 }

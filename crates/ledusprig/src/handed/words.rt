@@ -1,10 +1,11 @@
 // What one word's calls hand over: a word, alone or with its saying, a reading, an order. Calls of widths and numbers that give a word hand it over by
 // the same structs.
 ghost use Rattle.std.specs.Prelude.{◌≡◌};
-ghost use Rattle.ledusprig.specs.Handed.{word_handed, saying_handed, reading_handed, comparison_handed};
+ghost use Rattle.ledusprig.specs.Handed.{kind_handed};
 
-use bounds::answer::{Answer, Written};
-use order::order::Comparison;
+use bounds::answer::Written;
+use bounds::refusal::Refusal;
+use std::cmp::Ordering;
 use word::reading::{Kind, Reading};
 
 #[repr(C)]
@@ -14,15 +15,19 @@ pub struct HandedWord {
     pub word: u64,
 }
 
-pub(crate) fn hand_word(answer: Answer) -> HandedWord
-    ensures { result ≡ word_handed answer }
-{
-    match answer {
-        Answer::Word(word) => HandedWord { refusal: 0, word },
-        Answer::Refused(q) => HandedWord {
-            refusal: q.number(),
-            word: 0,
-        },
+impl From<Result<u64, Refusal>> for HandedWord {
+    ghost use Rattle.ledusprig.specs.Handed.{word_handed};
+
+    ghost from_gives = { λ answer handed. handed ≡ word_handed answer };
+
+    fn from(answer: Result<u64, Refusal>) -> HandedWord {
+        match answer {
+            Ok(word) => HandedWord { refusal: 0, word },
+            Err(q) => HandedWord {
+                refusal: q.number(),
+                word: 0,
+            },
+        }
     }
 }
 
@@ -35,20 +40,24 @@ pub struct HandedSaying {
     pub word: u64,
 }
 
-pub(crate) fn hand_saying(answer: Written) -> HandedSaying
-    ensures { result ≡ saying_handed answer }
-{
-    match answer {
-        Written::Word { word, saying } => HandedSaying {
-            refusal: 0,
-            saying: saying.number(),
-            word,
-        },
-        Written::Refused(q) => HandedSaying {
-            refusal: q.number(),
-            saying: 0,
-            word: 0,
-        },
+impl From<Result<Written, Refusal>> for HandedSaying {
+    ghost use Rattle.ledusprig.specs.Handed.{saying_handed};
+
+    ghost from_gives = { λ answer handed. handed ≡ saying_handed answer };
+
+    fn from(answer: Result<Written, Refusal>) -> HandedSaying {
+        match answer {
+            Ok(written) => HandedSaying {
+                refusal: 0,
+                saying: written.saying.number(),
+                word: written.word,
+            },
+            Err(q) => HandedSaying {
+                refusal: q.number(),
+                saying: 0,
+                word: 0,
+            },
+        }
     }
 }
 
@@ -66,11 +75,30 @@ pub struct HandedReading {
     pub own: u32,
 }
 
-pub(crate) fn hand_reading(answer: Reading) -> HandedReading
-    ensures { result ≡ reading_handed answer }
+impl From<Result<Reading, Refusal>> for HandedReading {
+    ghost use Rattle.ledusprig.specs.Handed.{reading_handed};
+
+    ghost from_gives = { λ answer handed. handed ≡ reading_handed answer };
+
+    fn from(answer: Result<Reading, Refusal>) -> HandedReading {
+        match answer {
+            Ok(reading) => of_kind(reading.kind, reading.own),
+            Err(q) => HandedReading {
+                refusal: q.number(),
+                kind: 0,
+                negative: false,
+                h: 0,
+                m: 0,
+                p: 0,
+                own: 0,
+            },
+        }
+    }
+}
+
+fn of_kind(kind: Kind, own: u32) -> HandedReading
+    ensures { result ≡ kind_handed kind own }
 {
-    let kind = answer.kind;
-    let own = answer.own;
     match kind {
         Kind::Zero => HandedReading {
             refusal: 0,
@@ -99,18 +127,10 @@ pub(crate) fn hand_reading(answer: Reading) -> HandedReading
             p,
             own,
         },
-        Kind::Refused(q) => HandedReading {
-            refusal: q.number(),
-            kind: 0,
-            negative: false,
-            h: 0,
-            m: 0,
-            p: 0,
-            own,
-        },
     }
 }
 
+// The order is -1, 0 or 1, as the paper has it.
 #[repr(C)]
 #[derive(Clone, Copy)]
 pub struct HandedComparison {
@@ -118,14 +138,21 @@ pub struct HandedComparison {
     pub order: i32,
 }
 
-pub(crate) fn hand_comparison(answer: Comparison) -> HandedComparison
-    ensures { result ≡ comparison_handed answer }
-{
-    match answer {
-        Comparison::Is(order) => HandedComparison { refusal: 0, order },
-        Comparison::Refused(q) => HandedComparison {
-            refusal: q.number(),
-            order: 0,
-        },
+impl From<Result<Ordering, Refusal>> for HandedComparison {
+    ghost use Rattle.ledusprig.specs.Handed.{comparison_handed};
+
+    ghost from_gives = { λ answer handed. handed ≡ comparison_handed answer };
+
+    fn from(answer: Result<Ordering, Refusal>) -> HandedComparison {
+        match answer {
+            Ok(order) => HandedComparison {
+                refusal: 0,
+                order: order as i32,
+            },
+            Err(q) => HandedComparison {
+                refusal: q.number(),
+                order: 0,
+            },
+        }
     }
 }

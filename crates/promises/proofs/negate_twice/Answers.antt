@@ -9,28 +9,29 @@ use Rattle.order.specs.Orders.{Negates}
 use Rattle.word.proofs.Values.{negated_word, negated_twice}
 use Rattle.promises.specs.Demands.{ComesBack}
 use Rattle.bounds.specs.declared.refusal.Refusal.{Refusal}
-use Rattle.bounds.proofs.Verdicts.{word_through, word_passes, answered}
-use Rattle.bounds.specs.Refusals.{IsWord, through, refused}
+use Rattle.bounds.proofs.Verdicts.{word_through, word_passes, answered, handed_on}
+use Rattle.bounds.specs.Refusals.{IsWord, word_test, through, refused}
 use Rattle.promises.proofs.negate_twice.Goals as goal
 
-back : (n w o : ℕ) (r a : Answer ℕ) → Negates n w r → r ≡ Ok o → Negates n o a → ComesBack n w a
+back : (n w o : ℕ) (a : Answer ℕ) → Negates n w (Ok o) → Negates n o a → ComesBack n w a
 unfolding Negates ComesBack
-back n w o r a (through v h) q x = through v (answered (word_passes n o word) x ∙ ap Ok (ap (negated n) same ∙ negated_twice n w (word_through n w v)))
+back n w o a (through v h) x = through v (answered (word_passes n o word) x ∙ ap Ok (ap (negated n) same ∙ negated_twice n w (word_through n w v)))
   where
     same : o ≡ negated n w
     same = cc
 
     word : IsWord n o
     word = subst (λ (y : ℕ). IsWord n y) (sym same) (negated_word n w (word_through n w v))
-back n w o r a (refused v h) q x = let z : ◌≡◌ {A = ℕ} 0 1 = cc in absurd (omega arith)
+back n w o a (refused v h) x = absurd cc
 
-again : (n w : ℕ) (r : Answer ℕ) (q : Refusal) → Negates n w r → r ≡ Err q → ComesBack n w (Err q)
-unfolding Negates ComesBack
-again n w r q (through v h) e = let z : ◌≡◌ {A = ℕ} 0 1 = cc in absurd (omega arith)
-again n w r q (refused v h) e = refused v (sym e ∙ h)
+refusal : (n w : ℕ) (q : Refusal) → Negates n w (Err q) → word_test n w ≡ Err q
+unfolding Negates
+refusal n w q (through v h) = absurd cc
+refusal n w q (refused {q = p} v h) = let same : p ≡ q = cc in v ∙ ap Err same
 
-pub returns-in-Word : goal.returns-in-Word
-returns-in-Word c = back _ _ _ _ _ c.negate.ensures c.in-Word.is c.negate-in-Word.ensures
+pub returns-in_err-opposite : goal.returns-in_err-opposite
+unfolding ComesBack
+returns-in_err-opposite c = handed_on _ _ c.from_residual.ensures.1 (refusal _ _ _ c.in_err-opposite.ensures)
 
-pub returns-in-Refused : goal.returns-in-Refused
-returns-in-Refused c = again _ _ _ _ c.negate.ensures c.in-Refused.is
+pub returns : goal.returns
+returns c = back _ _ _ _ c.in_ok-opposite.ensures c.negate-2.ensures

@@ -3,7 +3,7 @@ use Rattle.std.proofs.Common.{◌≡◌, ◌-◌, ◌^◌, length}
 use Rattle.lister.proofs.pieces.list_all.Given as goal
 
 abbrev pub invariant-loop-total : goal.invariant-loop-total
-invariant-loop-total l = (length l.piece ≡ 8192) × (length l.text ≡ 761856) × (length l.counts ≡ length l.initial.counts)
+invariant-loop-total l = (length l.piece ≡ 8192) × (length l.text ≡ 761856)
 
 abbrev pub decreases-loop-total : goal.decreases-loop-total
 decreases-loop-total l = 2 ^ 60 - l.total

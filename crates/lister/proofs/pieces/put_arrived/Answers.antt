@@ -49,7 +49,7 @@ returns c =
     let is = is_arrived _ _ _ c.args.piece.now c.requires.3 c.whole_until-end.ensures in
     let placed = e.1 ∙ ap (λ (n : ℕ). total / 512 + blocks n) (long _ _ _ c.args.piece.now c.requires.3 c.whole_until-end.ensures c.requires.0) in (
       subst (λ (bs : List ℕ). PutsSome (ListsBlocks bs (total / 512)) c.args.text.now 0 p.new.out p.result.length) is e.0,
-      subst (λ (bs : List ℕ). CountsBlocks bs c.args.counts.now p.new.counts) is e.2,
+      subst (λ (bs : List ℕ). CountsBlocks bs c.args.counts.now.by_number p.new.counts.by_number) is e.2,
       λ h. placed ∙ place_at_the_end total c.args.got h,
       λ h. placed ∙ place_after total c.args.got h,
     )

@@ -1,13 +1,8 @@
--- The invariant of the loop of `put_lines`: the lines of the words before i stand. Assumes nothing.
-use mathlib.Core.List.{List}
-use Prim.Native.Nat.{ℕ, ◌+◌, ◌-◌, ◌*◌, ◌≤◌}
-use lib.ListN.{take}
-use Rattle.listing.specs.Puts.{Puts}
+-- The invariant of the loop of `put_lines`: the lines of the words before this one stand. Assumes nothing.
+use Rattle.std.proofs.Common.{ℕ, ◌*◌, ◌≤◌, List, length}
+use Rattle.listing.specs.Adds.{Adds}
 use Rattle.listing.proofs.Listed.{SoFar}
 use Rattle.listing.proofs.blocks.put_lines.Given as goal
 
-abbrev pub invariant-loop-i : goal.invariant-loop-i
-invariant-loop-i l = (l.i ≤ l.count) × (l.next ≤ l.at + 96 * l.i) × (t : List ℕ) × Puts l.initial.out l.at t l.out l.next × SoFar l.number l.width (take l.count l.words) l.i t
-
-abbrev pub decreases-loop-i : goal.decreases-loop-i
-decreases-loop-i l = l.count - l.i
+abbrev pub invariant-loop-position : goal.invariant-loop-position
+invariant-loop-position l = (t : List ℕ) × (length t ≤ 96 * l.position) × Adds l.initial.text t l.text × SoFar l.block.number l.block.width l.words l.position t

@@ -1,23 +1,20 @@
 -- `put_refusal` meets its contract: refusal 5 is `over`, another `nar`. Assumes nothing.
-use mathlib.Core.Path.{sym, ap, subst}
-use mathlib.Core.Bool.{Bool, cond}
-use mathlib.Core.List.{List}
-use Prim.Native.Nat.{ℕ}
-use native.Mathlib.Omega.{arith}
-use borrow.Author.Tests.{eq-eqb, ne_eqb}
-use Rattle.bounds.specs.Refusals.{number_of}
-use Rattle.listing.specs.Puts.{Puts}
-use Rattle.listing.specs.Text.{nar, over, refusal_text}
+use Rattle.std.proofs.Common.{◌≡◌, sym, ap, ◌∙◌, lit≤, true≢false, rules}
+use denote.Enum.Bare.{same_true, sameb}
+use Rattle.bounds.specs.contracts.refusal.Refusal.{the_type}
+use Rattle.bounds.specs.declared.refusal.Refusal.{Refusal}
+use Rattle.listing.specs.Text.{nar, over}
+use Rattle.listing.proofs.Refusals.{is_over, isn't_over}
 use Rattle.listing.proofs.lines.put_refusal.Goals as goal
 
-pub returns-then-number-eq5 : goal.returns-then-number-eq5
-unfolding refusal_text nar over
-returns-then-number-eq5 c =
-    let p = c.put_text in
-    subst (λ (t : List ℕ). Puts c.args.out.now c.args.at t p.new.out p.result) (sym (ap (λ (b : Bool). cond b over nar) (eq-eqb (number_of c.args.q) 5 (omega arith)))) p.ensures
+pub returns-then-eq : goal.returns-then-eq
+unfolding over
+returns-then-eq c =
+    let same : c.args.q ≡ Refusal.Over = same_true the_type (search rules) _ _ (sym c.if-eq.ensures) in
+    record { text = _; is = sym (is_over c.args.q same); short = lit≤ tt; adds = c.put_text.ensures }
 
 pub returns : goal.returns
-unfolding refusal_text nar over
+unfolding nar
 returns c =
-    let p = c.put_text-2 in
-    subst (λ (t : List ℕ). Puts c.args.out.now c.args.at t p.new.out p.result) (sym (ap (λ (b : Bool). cond b over nar) (ne_eqb (number_of c.args.q) 5 (λ e. omega (arith, e))))) p.ensures
+    let other : c.args.q ≡ Refusal.Over → ⊥ = λ e. true≢false (sym (c.if-eq.ensures ∙ ap (λ (q : Refusal). sameb the_type q Refusal.Over) e)) in
+    record { text = _; is = sym (isn't_over c.args.q other); short = lit≤ tt; adds = c.put_text-2.ensures }

@@ -1,18 +1,16 @@
 -- `move_negated` meets its contract: it negates, then moves, and the law follows. Assumes nothing.
-use mathlib.Core.Path.{refl, subst}
-use Rattle.order.specs.Orders.{Negates}
 use Rattle.promises.specs.Moving.{goes_on, stops, GoesNegated}
-use Rattle.promises.proofs.Moving.{goes_negated}
+use Rattle.promises.proofs.Moving.{goes_negated, handed}
 use Rattle.promises.proofs.laws.move_negated.Goals as goal
 
-pub returns-in-Word : goal.returns-in-Word
+pub returns-in_err-opposite : goal.returns-in_err-opposite
 unfolding GoesNegated
-returns-in-Word c =
+returns-in_err-opposite c =
     let at = c.args in
-    goes_negated at.from.bits at.to.bits at.word _ (goes_on _ (subst (Negates _ _) c.in-Word.is c.negate.ensures) c.move_word.ensures)
+    goes_negated at.from.bits at.to.bits at.word _ (stops _ c.in_err-opposite.ensures (handed _ _ c.from_residual.ensures.1))
 
-pub returns-in-Refused : goal.returns-in-Refused
+pub returns : goal.returns
 unfolding GoesNegated
-returns-in-Refused c =
+returns c =
     let at = c.args in
-    goes_negated at.from.bits at.to.bits at.word _ (stops _ (subst (Negates _ _) c.in-Refused.is c.negate.ensures) refl)
+    goes_negated at.from.bits at.to.bits at.word _ (goes_on _ c.in_ok-opposite.ensures c.move_word.ensures)

@@ -1,8 +1,0 @@
--- `hand_number` meets its contract: 0 divided by 0 is the NaN. The other cases are found by themselves. Assumes nothing.
-use mathlib.Core.Path.{refl}
-use lib.Ieee.{of_bits, div}
-use Rattle.ledusprig.proofs.handed.numbers.hand_number.Goals as goal
-
-pub returns-in-Nar : goal.returns-in-Nar
-unfolding div of_bits
-returns-in-Nar c = rw c.in-Nar.is refl

@@ -8,7 +8,7 @@ use Rattle.lister.specs.Endings.{unread, failed}
 use Rattle.lister.proofs.pieces.cut_by.Goals as goal
 
 pub returns-then-eq : goal.returns-then-eq
-returns-then-eq c = unread (sym c.kind.ensures ∙ same_true the_type (search rules) _ _ (sym c.if-eq.ensures))
+returns-then-eq c = unread (sym c.kind.ensures ∙ same_true the_type (search rules) c.kind.result BrokenPipe (sym c.if-eq.ensures))
 
 pub returns : goal.returns
 returns c = failed (λ e. true≢false (sym (c.if-eq.ensures ∙ ap (λ (k : ErrorKind). sameb the_type k BrokenPipe) (c.kind.ensures ∙ e))))

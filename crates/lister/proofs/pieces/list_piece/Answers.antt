@@ -1,5 +1,6 @@
 -- `list_piece` meets its contract: it goes on only where bytes came, and is complete only where none did and the text is written. Assumes nothing.
-use Rattle.std.proofs.Common.{◌<◌, ◌≤◌, length, sym, arith, rules, length-take-le}
+use Rattle.std.proofs.Common.{◌≡◌, ℕ, ◌<◌, ◌≤◌, length, Option, sym, ap, ◌∙◌, arith, length-take-le}
+use Rattle.std.specs.Option.{unwrap_or}
 use Rattle.listing.specs.Puts.{PutsSome}
 use Rattle.listing.proofs.Placed as Placed
 use Rattle.lister.specs.Endings.{IsEnding, GoesOn}
@@ -28,8 +29,11 @@ returns-in-None c = tt
 
 pub returns-in-Some-eq0 : goal.returns-in-Some-eq0
 unfolding GoesOn IsEnding
-returns-in-Some-eq0 c = c.put_arrived-run.ensures.2 (search rules)
+returns-in-Some-eq0 c =
+    let some = c.in-Some-eq0 in
+    c.put_arrived-run.ensures.2 (c.unwrap_or.ensures ∙ ap (λ (o : Option ℕ). unwrap_or o 0) some.is ∙ sym some.field-0-is ∙ some.field-0-test)
 
 pub returns-in-Some : goal.returns-in-Some
-unfolding GoesOn
-returns-in-Some c = let some : 0 < c.in-Some.count = search rules in omega arith
+unfolding GoesOn IsEnding
+returns-in-Some c = let not_0 = rw c.in-Some.is at c.in-Some.count-test.1 in
+    omega (arith, not_0)

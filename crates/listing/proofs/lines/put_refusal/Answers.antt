@@ -10,7 +10,7 @@ use Rattle.listing.proofs.lines.put_refusal.Goals as goal
 pub returns-then-eq : goal.returns-then-eq
 unfolding over
 returns-then-eq c =
-    let same : c.args.q ≡ Refusal.Over = same_true the_type (search rules) _ _ (sym c.if-eq.ensures) in
+    let same : c.args.q ≡ Refusal.Over = same_true the_type (search rules) c.args.q Refusal.Over (sym c.if-eq.ensures) in
     record { text = _; is = sym (is_over c.args.q same); short = lit≤ tt; adds = c.put_text.ensures }
 
 pub returns : goal.returns

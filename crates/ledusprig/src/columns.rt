@@ -4,12 +4,14 @@ ghost use Rattle.sheet.specs.Reads.{ReadsBlock, FillsResults};
 ghost use Rattle.ledusprig.specs.Handed.{HandsOver, MovesTheColumn, WritesTheBlock, column_handed, block_handed, writing_handed, rule_of};
 
 use crate::handed::columns::{HandedBlock, HandedColumn, HandedWriting};
-use crate::rules::by_rule;
 use bounds::width::Width;
 use column::moving::move_column;
+use round::value::Rule;
 use sheet::block::read_block;
 use sheet::writing::write_block;
 
+// The rule's number is asked here, so that each rule has a loop of its own. `by_rule` can't do it: what is known of a closure that was called says nothing of
+// what it left in a slice.
 #[tactic(auto, unfolding(crate::specs::Handed::MovesTheColumn))]
 pub fn takum_move_column(
     from: u32,
@@ -20,16 +22,12 @@ pub fn takum_move_column(
 ) -> HandedColumn
     ensures { HandsOver column_handed (MovesTheColumn from to (rule_of rule) words.now results.old results.new) result }
 {
-    by_rule(rule, |rule| {
-        move_column(
-            Width { bits: from },
-            Width { bits: to },
-            rule,
-            words,
-            results,
-        )
-    })
-    .into()
+    let from = Width { bits: from };
+    let to = Width { bits: to };
+    if rule == 0 {
+        return move_column(from, to, Rule::Rounded, words, results).into();
+    }
+    move_column(from, to, Rule::Strict, words, results).into()
 }
 
 pub fn takum_read_block(block: &[u8], results: &mut [u64]) -> HandedBlock

@@ -1,4 +1,4 @@
-// The rule that a number names, asked once and before the call: each rule's call is compiled by itself, and a column has a loop of its own for each.
+// The rule that a number names, asked once and before the call, so that each rule's call is compiled by itself.
 ghost use Rattle.round.specs.declared.value.Rule.{Rule};
 ghost use Rattle.ledusprig.specs.Handed.{rule_of};
 

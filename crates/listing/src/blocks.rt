@@ -29,22 +29,22 @@ pub fn list_block(block: &[u8], place: u64, out: &mut [u8]) -> Result<Listed, Re
     ensures { ListsInto block.now place out.old out.new result }
 {
     test_room(ROOM, out.len())?;
-    // None is read before it is written. Zeros would be a call of the C library's memset for each block, and under the emulator that is slow.
-    let mut words = [1u64; WORDS];
     let mut text = Text { out, at: 0 };
-    let refused = put_block(&mut text, &mut words, block, place);
+    let refused = put_block(&mut text, block, place);
     Ok(Listed {
         length: text.at,
         refused,
     })
 }
 
-// The text of a block, for which there is room; the answer is why it is refused, if it is. The lent words are for its words.
-fn put_block(text: &mut Text<'_>, words: &mut [u64], block: &[u8], place: u64) -> Option<Refusal>
-    requires { (length words.old ≡ most) × HasRoom text_room text.old }
+// The text of a block, for which there is room; the answer is why it is refused, if it is.
+fn put_block(text: &mut Text<'_>, block: &[u8], place: u64) -> Option<Refusal>
+    requires { HasRoom text_room text.old }
     ensures { AddsSome text_room (ListsBlock block.now place) text.old text.new × (result ≡ refusal_of (block_test block.now most)) }
 {
-    match read_block(block, words) {
+    // None is read before it is written. Zeros would be a call of the C library's memset for each block, and under the emulator that is slow.
+    let mut words = [1u64; WORDS];
+    match read_block(block, &mut words) {
         Ok(read) => {
             put_lines(text, read, &words[..read.count as usize]);
             None

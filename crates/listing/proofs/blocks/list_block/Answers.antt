@@ -23,8 +23,8 @@ returns-in_err-test_room c =
     refused (sym c.in_err-test_room.ensures) (p.1 ∙ ap (λ (q : Refusal). Err q) p.2, refl)
 
 pub put_block-refused-requires : goal.put_block-refused-requires
-unfolding most text_room
-put_block-refused-requires c = (refl, room_through 47616 _ (sym c.in_ok-test_room.ensures))
+unfolding text_room
+put_block-refused-requires c = room_through 47616 _ (sym c.in_ok-test_room.ensures)
 
 pub returns : goal.returns
 unfolding ListsInto IsListed text_room

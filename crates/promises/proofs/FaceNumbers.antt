@@ -1,7 +1,6 @@
 -- What the exported calls that write, move and take numbers hand over, from their contracts. Assumes nothing.
 use Rattle.std.specs.Prelude.{Ok, Err}
 use Rattle.bounds.specs.declared.width.Width.{Width}
-use Rattle.bounds.specs.Refusals.{passed, Answer}
 use mathlib.Core.Path.{◌≡◌, refl, sym, ap, ◌∙◌, subst}
 use mathlib.Core.Bool.{Bool, true, false, false≢true}
 use mathlib.Core.List.{List, [], ◌∷◌}
@@ -12,7 +11,7 @@ use lib.Ieee.{Float, nan, inf, fin, up, down, binary64, of_bits}
 use lib.IntN.{ℤ, pos, nat_abs, ◌+ℤ◌}
 use Rattle.bounds.specs.declared.refusal.Refusal.{Refusal}
 use Rattle.bounds.specs.declared.saying.Saying.TheVariants.{Exact}
-use Rattle.bounds.specs.Refusals.{width_test, IsWord, Decided}
+use Rattle.bounds.specs.Refusals.{width_test, IsWord, Decided, passed, Answer}
 use Rattle.bounds.specs.Sayings.{AndSays}
 use Rattle.bounds.specs.Widths.{nar_word, GivesWord}
 use Rattle.bounds.proofs.Verdicts.{width_through, word_through, move_through}

@@ -1,7 +1,6 @@
 -- What the exported call that writes a block hands over and leaves in the buffer, from its contract. Assumes nothing.
 use Rattle.std.specs.Prelude.{⊤, Ok, Err}
 use Rattle.bounds.specs.declared.refusal.ListRefusal.{ListRefusal}
-use Rattle.bounds.specs.Refusals.{passed, ListAnswer}
 use mathlib.Core.Path.{◌≡◌, refl, ap}
 use mathlib.Core.List.{List, [], ◌∷◌}
 use mathlib.Core.Logic.{◌⊎◌, inl, inr}
@@ -9,7 +8,7 @@ use Prim.Native.Nat.{ℕ}
 use native.Mathlib.Omega.{arith}
 use lib.ListN.{length, get_or}
 use Rattle.bounds.specs.declared.refusal.Refusal.{Refusal}
-use Rattle.bounds.specs.Refusals.{number_of, stray_test}
+use Rattle.bounds.specs.Refusals.{number_of, stray_test, passed, ListAnswer}
 use Rattle.bounds.proofs.Verdicts.{stray_through}
 use Rattle.sheet.specs.Writes.{FitUpTo, IsTried, WritesBlock, FillsBuffer}
 use Rattle.ledusprig.specs.declared.handed.columns.HandedWriting.{HandedWriting}

@@ -1,7 +1,6 @@
 -- What the exported calls on lent slices hand over and leave there, from their contracts. Assumes nothing.
 use Rattle.std.specs.Prelude.{Ok, Err}
 use Rattle.bounds.specs.declared.refusal.ListRefusal.{ListRefusal}
-use Rattle.bounds.specs.Refusals.{passed, Answer, ListAnswer}
 use mathlib.Core.Path.{◌≡◌, refl, sym, ap, subst}
 use mathlib.Core.Bool.{Bool}
 use mathlib.Core.List.{List, [], ◌∷◌, ◌++◌}
@@ -9,7 +8,7 @@ use mathlib.Core.Logic.{◌⊎◌, inl, inr}
 use Prim.Native.Nat.{ℕ, ◌≤◌, ◌<◌}
 use lib.ListN.{length, get_or, drop}
 use Rattle.bounds.specs.declared.refusal.Refusal.{Refusal}
-use Rattle.bounds.specs.Refusals.{number_of, width_test, room_test, ◌then◌}
+use Rattle.bounds.specs.Refusals.{number_of, width_test, room_test, ◌then◌, passed, Answer, ListAnswer}
 use Rattle.bounds.proofs.Verdicts.{width_through, then_through, answered}
 use Rattle.write.specs.Writes.{Moves}
 use Rattle.column.specs.declared.moving.MovedColumn.{MovedColumn}

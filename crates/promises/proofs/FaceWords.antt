@@ -1,6 +1,5 @@
 -- What the exported calls on widths and words hand over, from their contracts. Assumes nothing.
 use Rattle.std.specs.Prelude.{Ok, Err}
-use Rattle.bounds.specs.Refusals.{Answer}
 use Rattle.std.specs.declared.cmp.Ordering.{Ordering}
 use Rattle.std.specs.Ordering.{int_cmp}
 use mathlib.Core.Path.{◌≡◌, refl, sym, ap, ◌∙◌, subst}
@@ -12,7 +11,7 @@ use native.Mathlib.Decide.{dec_lt}
 use native.Mathlib.Omega.{arith}
 use lib.IntN.{pos, nat_abs}
 use Rattle.bounds.specs.declared.refusal.Refusal.{Refusal}
-use Rattle.bounds.specs.Refusals.{IsWord}
+use Rattle.bounds.specs.Refusals.{IsWord, Answer}
 use Rattle.bounds.specs.Widths.{largest, smallest, nar_word, IsLimit, GivesWord, GivesLimit}
 use Rattle.bounds.proofs.Powers.{not_more}
 use Rattle.bounds.proofs.Verdicts.{width_through, word_through, words_through}

@@ -1,10 +1,7 @@
 -- The P figures hold, by one test that is computed over the whole table. Assumes nothing.
-use Rattle.std.specs.Prelude.{Ok, Err}
 use Rattle.bounds.specs.declared.width.Width.{Width}
 use Rattle.bounds.specs.declared.refusal.ListRefusal.{ListRefusal}
-use Rattle.bounds.specs.Refusals.{Answer, ListAnswer}
-use Rattle.std.specs.Prelude.{⊤}
-use Rattle.bounds.specs.Sayings.{written}
+use Rattle.std.specs.Prelude.{⊤, Ok, Err}
 use mathlib.Core.Path.{◌≡◌, refl, sym, ap, ◌∙◌, subst}
 use mathlib.Core.Bool.{Bool, true, false, ◌&&◌, ◌||◌, cond}
 use mathlib.Core.List.{List, [], ◌∷◌}
@@ -25,8 +22,8 @@ use Rattle.word.specs.Orders.{negated}
 use Rattle.word.proofs.Heads.{both}
 use Rattle.word.proofs.Integers.{same_integer, same_integer_is}
 use Rattle.word.proofs.Units.{unit_some}
-use Rattle.bounds.specs.Refusals.{through}
-use Rattle.bounds.specs.Sayings.{says_exact}
+use Rattle.bounds.specs.Refusals.{through, Answer, ListAnswer}
+use Rattle.bounds.specs.Sayings.{says_exact, written}
 use Rattle.bounds.proofs.Answers.{is_exact}
 use Rattle.bounds.proofs.Verdicts.{width_fits}
 use Rattle.round.specs.declared.value.Rule.{Rule}

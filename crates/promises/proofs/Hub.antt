@@ -1,13 +1,12 @@
 -- What specs/Hub.antt promises, from the hub's contracts and the laws of rounding. Assumes nothing.
 use Rattle.std.specs.Prelude.{Ok, Err}
-use Rattle.bounds.specs.Refusals.{Answer}
 use mathlib.Core.Path.{◌≡◌, refl, sym, ◌∙◌, subst, subst₂}
 use mathlib.Core.Bool.{Bool}
 use Prim.Native.Nat.{ℕ, ◌+◌, ◌*◌, ◌%◌, ◌^◌, ◌≤◌, ◌<◌}
 use native.Mathlib.Nat.{mul_comm}
 use native.Mathlib.Omega.{arith}
 use lib.IntN.{ℤ, pos, ◌+ℤ◌, ◌-ℤ◌}
-use Rattle.bounds.specs.Refusals.{through, refused}
+use Rattle.bounds.specs.Refusals.{through, refused, Answer}
 use Rattle.bounds.proofs.Verdicts.{width_fits, width_through, answered, refused_as}
 use Rattle.word.specs.Reads.{num}
 use Rattle.word.proofs.Units.{unit_some}

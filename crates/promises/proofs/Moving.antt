@@ -2,7 +2,6 @@
 -- Assumes nothing.
 use Rattle.std.specs.Prelude.{Ok, Err, IsErrAnd}
 use Rattle.std.proofs.lemmas.Result.{err_from_is_err_and}
-use Rattle.bounds.specs.Refusals.{Answer}
 use Rattle.std.specs.declared.cmp.Ordering.{Ordering}
 use Rattle.std.specs.declared.cmp.Ordering.TheVariants.{Less, Equal}
 use Rattle.std.specs.Ordering.{int_cmp}
@@ -17,7 +16,7 @@ use lib.Signed.{lt_z}
 use Rattle.bounds.specs.declared.answer.Written.{Written}
 use Rattle.bounds.specs.declared.refusal.Refusal.{Refusal}
 use Rattle.bounds.specs.declared.saying.Saying.TheVariants.{Exact, Below, Above}
-use Rattle.bounds.specs.Refusals.{IsWord, through, refused}
+use Rattle.bounds.specs.Refusals.{IsWord, through, refused, Answer}
 use Rattle.bounds.specs.Sayings.{plain}
 use Rattle.bounds.specs.Widths.{nar_word}
 use Rattle.bounds.proofs.Powers.{shl_below}

@@ -1,15 +1,14 @@
 -- The refusals of the laws of moving, as functions, follow the table: what one call gives is a word for the next, which can refuse only what is new to it, a
 -- width or the second word. Assumes nothing.
 use Rattle.std.specs.Prelude.{Ok, Err}
-use Rattle.bounds.specs.Refusals.{Answer}
 use Rattle.std.specs.declared.cmp.Ordering.{Ordering}
-use mathlib.Core.Path.{◌≡◌, sym, ap, subst}
+use mathlib.Core.Path.{sym, ap, subst}
 use mathlib.Core.List.{[], ◌∷◌}
 use mathlib.Core.Logic.{◌⊎◌}
 use Prim.Native.Nat.{ℕ, ◌^◌, ◌≤◌, ◌<◌}
 use native.Mathlib.Omega.{arith}
 use Rattle.bounds.specs.declared.answer.Written.{Written}
-use Rattle.bounds.specs.Refusals.{IsWord, through, refused}
+use Rattle.bounds.specs.Refusals.{IsWord, through, refused, Answer}
 use Rattle.bounds.specs.Sayings.{plain}
 use Rattle.bounds.proofs.Answers.{word_of, plain_refused}
 use Rattle.bounds.proofs.Verdicts.{word_through}

@@ -1,6 +1,5 @@
 -- The promises that specs/Numbers.antt states, from the laws of whole numbers and of binary64. Assumes nothing.
 use Rattle.std.specs.Prelude.{Ok, Err}
-use Rattle.bounds.specs.Refusals.{passed, Answer}
 use mathlib.Core.Path.{◌≡◌, refl, sym, ap, subst}
 use mathlib.Core.Bool.{false}
 use mathlib.Core.Logic.{⊎_elim}
@@ -12,7 +11,7 @@ use lib.Ieee.{Float, neg, round, binary64}
 use Rattle.word.specs.Takum.{Takum, real, NaR, takum}
 use Rattle.word.proofs.Values.{NaR_word}
 use Rattle.word.specs.Orders.{negated}
-use Rattle.bounds.specs.Refusals.{width_test, through, refused}
+use Rattle.bounds.specs.Refusals.{width_test, through, refused, passed, Answer}
 use Rattle.bounds.specs.Widths.{nar_word, IsLimit, GivesLimit}
 use Rattle.bounds.proofs.Consecutive.{rule_gives_inequality, inequality_gives_rule, greatest_of_inequality}
 use Rattle.bounds.proofs.Verdicts.{width_fits, width_through, word_passes, answered}

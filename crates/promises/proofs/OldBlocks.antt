@@ -1,7 +1,6 @@
 -- The promises that specs/OldBlocks.antt states, from the tests of a block that is to be written and of one that is read. Assumes nothing.
 use Rattle.std.specs.Prelude.{⊤, Err}
 use Rattle.bounds.specs.declared.refusal.ListRefusal.{ListRefusal}
-use Rattle.bounds.specs.Refusals.{Answer, ListAnswer, passed}
 use mathlib.Core.Path.{◌≡◌, refl, sym, ap, ap₂, ◌∙◌, subst}
 use mathlib.Core.Bool.{true, ◌&&◌}
 use mathlib.Core.List.{List, [], ◌∷◌, ◌++◌}
@@ -14,7 +13,7 @@ use lib.Dec.{lit≤}
 use lib.ListN.{length, replicate}
 use lib.Seq.{slice}
 use Rattle.bounds.specs.declared.refusal.Refusal.{Refusal}
-use Rattle.bounds.specs.Refusals.{number_of}
+use Rattle.bounds.specs.Refusals.{number_of, Answer, ListAnswer, passed}
 use Rattle.bounds.proofs.Rooms.{room_fits}
 use Rattle.bounds.proofs.Verdicts.{answered, refused_as}
 use Rattle.sheet.specs.declared.block.Block.{Block}

@@ -1,6 +1,5 @@
 -- The promises that specs/OldLines.antt states: no byte of a field ends a line, and a line that isn't old ends in a decimal digit. Assumes nothing.
 use Rattle.std.specs.Prelude.{Ok, Err}
-use Rattle.bounds.specs.Refusals.{Answer}
 use mathlib.Core.Path.{◌≡◌, refl, sym, ap, ap₂, ◌∙◌, subst}
 use mathlib.Core.Bool.{Bool, true, false, cond, not, ◌&&◌, and_assoc}
 use mathlib.Core.List.{List, [], ◌∷◌, ◌++◌, append-nil, reverse, reverse_aux-append, head-eq_of_cons-eq}
@@ -13,7 +12,7 @@ use lib.Seq.{append_snoc, take_all, take-append-le}
 use borrow.Author.Tests.{lt-ltb, ne_eqb, eqb-false, not-true}
 use Rattle.io.specs.Digits.{hex_digit_ascii, last_digits}
 use Rattle.bounds.specs.declared.refusal.Refusal.{Refusal}
-use Rattle.bounds.specs.Refusals.{number_of, through, refused}
+use Rattle.bounds.specs.Refusals.{number_of, through, refused, Answer}
 use Rattle.bounds.proofs.Verdicts.{both}
 use Rattle.sheet.specs.Layout.{width, count, block_number, words}
 use Rattle.sheet.specs.Writes.{is_retired}

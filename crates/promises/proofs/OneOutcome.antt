@@ -1,6 +1,5 @@
 -- Two outcomes that a public contract allows are equal, for each public call. Assumes nothing.
 use Rattle.std.specs.Prelude.{Ok, Err}
-use Rattle.bounds.specs.Refusals.{Answer, Verdict}
 use Rattle.std.specs.declared.cmp.Ordering.{Ordering}
 use Rattle.std.specs.Ordering.{int_cmp}
 use mathlib.Core.Bool.{Bool}
@@ -18,11 +17,11 @@ use Rattle.word.specs.declared.reading.Reading.{Reading}
 use Rattle.bounds.specs.declared.saying.Saying.{Saying}
 use Rattle.word.specs.Cuts.{Cuts}
 use Rattle.sizes.specs.Sizes.{Sizes}
-use Rattle.bounds.specs.Refusals.{number_of, width_test, word_test, room_test, ◌then◌}
+use Rattle.bounds.specs.Refusals.{number_of, width_test, word_test, room_test, ◌then◌, Answer, Verdict}
 use Rattle.bounds.specs.Sayings.{saying_number, says_exact, opposite_saying, exactly}
 use Rattle.bounds.specs.Widths.{Greatest, greatest, none, IsLimit, Makes, GivesWord, GivesLimit}
 use Rattle.word.specs.Reads.{Reads}
-use Rattle.word.specs.Orders.{signed, order, negated}
+use Rattle.word.specs.Orders.{signed, negated}
 use Rattle.order.specs.Orders.{Compares, Negates}
 use Rattle.bounds.proofs.Answers.{word_of, GivesAWord}
 use Rattle.bounds.proofs.Verdicts.{decided_one}

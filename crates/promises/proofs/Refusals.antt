@@ -1,7 +1,5 @@
 -- Every call's refusals follow the table. Assumes nothing.
-use mathlib.Core.Path.{◌≡◌, subst}
-use Prim.Native.Nat.{ℕ}
-use native.Mathlib.Omega.{arith}
+use mathlib.Core.Path.{subst}
 use Rattle.bounds.specs.Widths.{Makes, GivesWord, GivesLimit}
 use Rattle.word.specs.Takum.{takum}
 use Rattle.word.specs.Reads.{Reads}

@@ -1,8 +1,6 @@
 -- The promises that specs/Sayings.antt states: each law once, of whatever is meant, since each call writes what is meant. Assumes nothing.
 use Rattle.std.specs.Prelude.{Ok, Err}
 use Rattle.bounds.specs.declared.refusal.ListRefusal.{ListRefusal}
-use Rattle.bounds.specs.Refusals.{Answer, ListAnswer}
-use Rattle.bounds.specs.Sayings.{written}
 use mathlib.Core.Path.{◌≡◌, refl, sym, ap, ap₂, ◌∙◌, subst, subst₂}
 use mathlib.Core.Bool.{Bool, true, false, true≢false, not}
 use mathlib.Core.List.{List}
@@ -21,12 +19,12 @@ use lib.Signed.{lt_z}
 use Rattle.bounds.specs.declared.answer.Written.{Written}
 use Rattle.bounds.specs.declared.saying.Saying.{Saying}
 use Rattle.bounds.specs.declared.saying.Saying.TheVariants.{Exact, Below, Above, PastTheEnd}
-use Rattle.bounds.specs.Refusals.{number_of, IsWord, through, refused}
-use Rattle.bounds.specs.Sayings.{saying_number, says_exact, opposite_saying, plain, AndSays}
+use Rattle.bounds.specs.Refusals.{number_of, IsWord, through, refused, Answer, ListAnswer}
+use Rattle.bounds.specs.Sayings.{saying_number, says_exact, opposite_saying, plain, AndSays, written}
 use Rattle.bounds.specs.Widths.{nar_word, largest, smallest}
 use Rattle.bounds.proofs.Answers.{word_of, GivesAWord, same_word, plain_word, word_said, said_one}
 use Rattle.bounds.proofs.Powers.{twice, shl_below}
-use Rattle.bounds.proofs.Verdicts.{word_passes, width_fits, width_through, move_passes, move_through, answered}
+use Rattle.bounds.proofs.Verdicts.{width_fits, width_through, move_passes, move_through, answered}
 use Rattle.word.specs.declared.reading.Kind.{Kind}
 use Rattle.word.specs.Takum.{Takum, real, NaR, takum, fraction_bits}
 use Rattle.word.specs.Reads.{num, den, signed_size, IsKind, Reads}
@@ -63,7 +61,7 @@ use Rattle.whole.specs.Sayings.{WritesWholeAndSays}
 use Rattle.binary64.specs.Writes.{IsWrittenBinary64, WritesBinary64}
 use Rattle.binary64.specs.Sayings.{SaysBinary64, WritesBinary64AndSays}
 use Rattle.column.specs.declared.moving.MovedColumn.{MovedColumn}
-use Rattle.column.specs.Columns.{Movable, MovableUpTo, IsTried, MovesColumn, Holds}
+use Rattle.column.specs.Columns.{how_many, Movable, MovableUpTo, IsTried, MovesColumn, Holds}
 use Rattle.column.specs.Counts.{Counts, KeepsTheMeaning, CountsExact, HoldsAndCounts}
 use Rattle.column.proofs.Counts.{counts_one, counts_all, counted_all, counts_alike}
 use Rattle.column.proofs.Positions.{passes, moved_passed, every_word_counted, word_at}
@@ -530,8 +528,8 @@ all_are_exact_where_strict_moves_them n n' words before after a strict x y = (λ
     given i r l q z = let t = moved_words n n' Rule.Rounded (get_or words i 0) (get_or after i 0) (each_moved n n' Rule.Rounded words before after a x i l) in
         moved_to_the_same n n' (get_or words i 0) (get_or after i 0) Rule.Strict r t.0 t.1 q z
 
-    none_refused : a.exact ≡ a.moved → (c : ListAnswer MovedColumn) → IsTried n n' Rule.Strict words c → (d : MovedColumn) × (c ≡ Ok d) × (d.moved ≡ a.moved)
-    none_refused q (Ok d) z = (d, refl, z.0 ∙ sym (all_words n n' Rule.Rounded words before after a x))
+    none_refused : a.exact ≡ a.moved → (c : ListAnswer MovedColumn) → IsTried n n' Rule.Strict words c → how_many c ≡ Ok a.moved
+    none_refused q (Ok d) z = ap Ok (z.0 ∙ sym (all_words n n' Rule.Rounded words before after a x))
     none_refused q (Err (ListRefusal.Whole u)) z = absurd z
     none_refused q (Err (ListRefusal.At position u)) z =
         let l : position < a.moved = omega (arith, z.inside, all_words n n' Rule.Rounded words before after a x) in

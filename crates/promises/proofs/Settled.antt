@@ -1,8 +1,6 @@
 -- A positive word is the nearest to a / b where neither of the words beside it is nearer, and its size tells which way it went: tests that are computed,
 -- and what follows from them. Assumes nothing.
 use Rattle.std.specs.Prelude.{Ok, Err}
-use Rattle.bounds.specs.Refusals.{passed, Answer}
-use Rattle.bounds.specs.Sayings.{written}
 use mathlib.Core.Path.{◌≡◌, refl, sym, ap, ◌∙◌, subst, subst₂}
 use mathlib.Core.Bool.{Bool, true, false, ◌&&◌, ◌||◌}
 use mathlib.Core.Logic.{◌⊎◌, inl, inr, ⊎_elim}
@@ -11,11 +9,10 @@ use native.Mathlib.Nat.{zero-lt-suc, le_of_eq, lt_of_le_of_lt, lt_of_lt_of_le, m
 use native.Mathlib.Omega.{arith}
 use lib.Dec.{T, eqb, leb, ltb, eqb→eq, leb→le, ltb→lt}
 use lib.IntN.{nat_abs}
-use Rattle.bounds.specs.declared.answer.Written.{Written}
 use Rattle.bounds.specs.declared.saying.Saying.{Saying}
 use Rattle.bounds.specs.declared.saying.Saying.TheVariants.{Exact, Below, Above, PastTheEnd}
-use Rattle.bounds.specs.Refusals.{width_test, IsWord, Decided, through}
-use Rattle.bounds.specs.Sayings.{opposite_saying, AndSays}
+use Rattle.bounds.specs.Refusals.{width_test, IsWord, Decided, through, Answer}
+use Rattle.bounds.specs.Sayings.{opposite_saying, AndSays, written}
 use Rattle.bounds.proofs.Answers.{word_said}
 use Rattle.bounds.proofs.Verdicts.{width_fits, move_passes}
 use Rattle.word.specs.Takum.{Takum, real, NaR, takum}

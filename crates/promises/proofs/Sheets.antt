@@ -1,7 +1,6 @@
 -- The promises that specs/Sheets.antt states, from the laws of blocks and of columns. Assumes nothing.
 use Rattle.std.specs.Prelude.{⊤, Ok, Err}
 use Rattle.bounds.specs.declared.refusal.ListRefusal.{ListRefusal}
-use Rattle.bounds.specs.Refusals.{passed, ListAnswer}
 use mathlib.Core.Path.{◌≡◌, refl, sym, ap, ap₂, ◌∙◌, subst, subst₂}
 use mathlib.Core.List.{List, ◌++◌}
 use mathlib.Core.Logic.{◌⊎◌, inl, inr}
@@ -10,7 +9,7 @@ use native.Mathlib.Omega.{arith}
 use lib.ListN.{length, get_or, take, drop}
 use lib.Seq.{take-append_seam, get_or-take}
 use Rattle.bounds.specs.declared.refusal.Refusal.{Refusal}
-use Rattle.bounds.specs.Refusals.{stray_test, through, refused}
+use Rattle.bounds.specs.Refusals.{stray_test, through, refused, passed, ListAnswer}
 use Rattle.bounds.proofs.Verdicts.{stray_fits}
 use Rattle.round.specs.declared.value.Rule.{Rule}
 use Rattle.write.proofs.Moves.{strict_keeps}
@@ -18,7 +17,6 @@ use Rattle.column.specs.declared.moving.MovedColumn.{MovedColumn}
 use Rattle.column.specs.Columns.{MovesColumn, Holds}
 use Rattle.column.proofs.Positions.{every_word_counted, word_at}
 use Rattle.column.proofs.Strict.{column_comes_home, results_counted}
-use Rattle.sheet.specs.declared.block.Block.{Block}
 use Rattle.sheet.specs.Layout.{AreBytes, width, block_number, words}
 use Rattle.sheet.specs.Reads.{block_test, block_read}
 use Rattle.sheet.specs.Writes.{IsBlockOf, IsTried, WritesBlock, FillsBuffer}
@@ -33,9 +31,9 @@ use Rattle.promises.specs.Sheets.{BlockIsWritten, BlockIsRead}
 
 pub a_refused_write_leaves_the_buffer : promise.ARefusedWriteLeavesTheBuffer
 unfolding promise.ARefusedWriteLeavesTheBuffer FillsBuffer
-a_refused_write_leaves_the_buffer n number words before after (Ok _) x f = absurd (f refl)
-a_refused_write_leaves_the_buffer n number words before after (Err (ListRefusal.Whole q)) x f = x
-a_refused_write_leaves_the_buffer n number words before after (Err (ListRefusal.At position q)) x f = x
+a_refused_write_leaves_the_buffer n number ws before after (Ok _) x f = absurd (f refl)
+a_refused_write_leaves_the_buffer n number ws before after (Err (ListRefusal.Whole q)) x f = x
+a_refused_write_leaves_the_buffer n number ws before after (Err (ListRefusal.At position q)) x f = x
 
 -- ---- written, then read
 -- what the answer tells of the content

@@ -1,7 +1,6 @@
 -- The refusals of a column and of a block follow the table. Assumes nothing.
 use Rattle.std.specs.Prelude.{Ok, Err}
 use Rattle.bounds.specs.declared.refusal.ListRefusal.{ListRefusal}
-use Rattle.bounds.specs.Refusals.{passed, Answer, Verdict, ListAnswer}
 use mathlib.Core.Path.{◌≡◌, refl, sym, ap, ◌∙◌, subst}
 use mathlib.Core.Bool.{Bool, true, false, ◌&&◌, false≢true}
 use mathlib.Core.List.{List, [], ◌∷◌}
@@ -14,7 +13,7 @@ use lib.Dec.{eqb}
 use lib.ListN.{length, get_or, take, length-take, get_or-eq_default}
 use lib.Seq.{slice, get_or-take, get_or-drop}
 use Rattle.bounds.specs.declared.refusal.Refusal.{Refusal}
-use Rattle.bounds.specs.Refusals.{width_test, room_test, unless, ◌then◌, through, refused}
+use Rattle.bounds.specs.Refusals.{width_test, room_test, unless, ◌then◌, through, refused, passed, Answer, Verdict, ListAnswer}
 use Rattle.bounds.proofs.Powers.{not_more}
 use Rattle.bounds.proofs.Verdicts.{both, open_when, width_through, then_through}
 use Rattle.round.specs.declared.value.Rule.{Rule}

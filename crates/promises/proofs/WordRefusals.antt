@@ -1,6 +1,5 @@
 -- The refusals of the calls on words and numbers follow the table. Assumes nothing.
 use Rattle.std.specs.Prelude.{Ok, Err}
-use Rattle.bounds.specs.Refusals.{passed, Answer, Verdict}
 use Rattle.std.specs.declared.cmp.Ordering.{Ordering}
 use mathlib.Core.Path.{◌≡◌, refl, sym, ap, ◌∙◌, subst}
 use mathlib.Core.Bool.{Bool, true, false, cond}
@@ -16,17 +15,13 @@ use lib.Ieee.{Float, nan, inf, fin, up, down}
 use lib.IntN.{ℤ, pos, negsuc, nat_abs, ◌+ℤ◌, ◌-ℤ◌}
 use lib.Pow.{pow_pos}
 use Rattle.bounds.specs.declared.refusal.Refusal.{Refusal}
-use Rattle.bounds.specs.Refusals.{number_of, width_test, stray_test, word_test, ◌then◌, IsWord, Decided}
+use Rattle.bounds.specs.Refusals.{number_of, width_test, stray_test, word_test, ◌then◌, IsWord, Decided, passed, Answer, Verdict}
 use Rattle.bounds.specs.declared.width.Width.{Width}
 use Rattle.bounds.specs.Widths.{nar_word}
-use Rattle.bounds.proofs.Powers.{not_more}
 use Rattle.bounds.proofs.Verdicts.{width_through, word_through}
-use Rattle.word.specs.declared.reading.Reading.{Reading}
 use Rattle.sizes.specs.declared.size.Size.{Size}
-use Rattle.sizes.specs.declared.size.WordSize.{WordSize}
 use Rattle.word.specs.Takum.{Takum, real, NaR, takum}
-use Rattle.word.specs.Reads.{num, den, IsReading}
-use Rattle.sizes.specs.Sizes.{IsWordSize}
+use Rattle.word.specs.Reads.{num, den}
 use Rattle.order.specs.Orders.{Compares}
 use Rattle.word.proofs.Words.{takum_NaR}
 use Rattle.word.proofs.Values.{real_inj, not_NaR}
@@ -36,7 +31,7 @@ use Rattle.write.specs.declared.value.Value.{Value}
 use Rattle.nearest.specs.Nearest.{HasValue}
 use Rattle.round.specs.Writes.{IsExact, IsWritten, WritesShort, WritesSize, WritesLong}
 use Rattle.write.specs.Writes.{is_negative, IsMoved, Writes, Moves}
-use Rattle.bounds.proofs.Powers.{twice}
+use Rattle.bounds.proofs.Powers.{twice, not_more}
 use Rattle.write.proofs.Moves.{moved_to_the_same, strict_keeps}
 use Rattle.whole.specs.declared.taking.Taking.{Taking}
 use Rattle.whole.specs.Wholes.{IsNearestWhole, over_test, inexact_test, IsTakenWhole, WritesWhole, TakesWhole}

@@ -1,6 +1,5 @@
 -- The demands that specs/Writing.antt states, from the laws of writing. Assumes nothing.
 use Rattle.std.specs.Prelude.{Ok, Err}
-use Rattle.bounds.specs.Refusals.{passed, Answer, Verdict}
 use mathlib.Core.Path.{◌≡◌, refl, sym, ap, ap₂, ◌∙◌, subst}
 use mathlib.Core.Bool.{Bool, true, false, not}
 use mathlib.Core.List.{List, [], ◌∷◌}
@@ -13,13 +12,13 @@ use Rattle.bounds.specs.declared.refusal.Refusal.{Refusal}
 use Rattle.word.specs.Takum.{Takum, real, takum, fraction_bits}
 use Rattle.word.specs.declared.reading.Kind.{Kind}
 use Rattle.word.specs.declared.reading.Reading.{Reading}
-use Rattle.bounds.specs.Refusals.{width_test, stray_test, ◌then◌, IsWord, through, refused}
+use Rattle.bounds.specs.Refusals.{width_test, stray_test, ◌then◌, IsWord, through, refused, passed, Answer, Verdict}
 use Rattle.bounds.specs.Widths.{nar_word, largest, smallest}
 use Rattle.word.specs.Reads.{num, IsSize, signed_size, IsKind, Reads}
 use Rattle.word.specs.Orders.{order, negated}
 use Rattle.bounds.proofs.Answers.{GivesAWord}
 use Rattle.bounds.proofs.Powers.{twice}
-use Rattle.bounds.proofs.Verdicts.{width_fits, width_through, stray_fits, word_passes, move_passes, move_through, answered}
+use Rattle.bounds.proofs.Verdicts.{width_fits, width_through, stray_fits, move_passes, move_through, answered}
 use Rattle.word.proofs.Signed.{negated_other}
 use Rattle.word.proofs.Values.{grown, words_differ, no_sign, order_of_values}
 use Rattle.word.proofs.Words.{zeros_appended}

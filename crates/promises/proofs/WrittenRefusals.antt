@@ -1,7 +1,6 @@
 -- The refusals of a block that is to be written follow the table. Assumes nothing.
 use Rattle.std.specs.Prelude.{⊤, Ok, Err}
 use Rattle.bounds.specs.declared.refusal.ListRefusal.{ListRefusal}
-use Rattle.bounds.specs.Refusals.{passed, Verdict, ListAnswer}
 use mathlib.Core.Path.{◌≡◌, refl, sym, subst}
 use mathlib.Core.Bool.{Bool, true, false, not}
 use mathlib.Core.List.{List, [], ◌∷◌}
@@ -12,7 +11,7 @@ use borrow.Author.Tests.{eqb-true, eqb-false}
 use lib.Dec.{eqb}
 use lib.ListN.{length, get_or}
 use Rattle.bounds.specs.declared.refusal.Refusal.{Refusal}
-use Rattle.bounds.specs.Refusals.{stray_test, unless, through, refused}
+use Rattle.bounds.specs.Refusals.{stray_test, unless, through, refused, passed, Verdict, ListAnswer}
 use Rattle.bounds.proofs.Powers.{not_more}
 use Rattle.sheet.specs.Writes.{is_retired, content_test, FitUpTo, IsTried, WritesBlock}
 use Rattle.promises.specs.Refusals.{FollowsUpTo, Follows, stray, size, written_width, retired, written_count}

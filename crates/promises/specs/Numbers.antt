@@ -1,12 +1,10 @@
 -- What the letter demands of whole numbers, and what is promised of binary64, as statements about what the public contracts allow.
-use Rattle.std.specs.Prelude.{Ok, Err}
-use Rattle.bounds.specs.Refusals.{passed, Answer}
-use Rattle.std.specs.Prelude.{◌≡◌, Bool, false, ℕ, ◌+◌, ◌-◌, ◌*◌, ◌%◌, ◌^◌, ◌≤◌, ◌<◌, T, ℤ, pos, negsuc, nat_abs, Float}
+use Rattle.std.specs.Prelude.{◌≡◌, Bool, false, ℕ, ◌+◌, ◌-◌, ◌*◌, ◌%◌, ◌^◌, ◌≤◌, ◌<◌, T, ℤ, pos, negsuc, nat_abs, Float, Ok, Err}
 use Rattle.std.specs.Float.{nan, inf, fin}
 use Rattle.std.specs.Float.Ieee.{neg, lt, le}
 use Rattle.std.specs.Float.Ieee.Exact as Ieee
 use Rattle.word.specs.Takum.{real, takum}
-use Rattle.bounds.specs.Refusals.{IsWord}
+use Rattle.bounds.specs.Refusals.{IsWord, passed, Answer}
 use Rattle.bounds.specs.Widths.{nar_word, Within, GivesLimit}
 use Rattle.word.specs.Orders.{signed, order, negated}
 use Rattle.round.specs.declared.value.Rule.{Rule}

@@ -30,7 +30,7 @@ use Rattle.whole.specs.Sayings.{WritesWholeAndSays}
 use Rattle.binary64.specs.Writes.{WritesBinary64}
 use Rattle.binary64.specs.Sayings.{WritesBinary64AndSays}
 use Rattle.column.specs.declared.moving.MovedColumn.{MovedColumn}
-use Rattle.column.specs.Columns.{MovesColumn}
+use Rattle.column.specs.Columns.{how_many, MovesColumn}
 use Rattle.column.specs.Counts.{Counts, HoldsAndCounts}
 use Rattle.ledusprig.specs.Handed.{column_handed}
 use Rattle.promises.specs.Demands.{RefusedAs}
@@ -214,7 +214,7 @@ AColumnCountsWhatItsMovesSay = (n n' : ℕ) (rule : Rule) (words before after : 
 -- all are exact if and only if the strict column move of the same words is not refused
 unfoldable pub AllAreExactWhereStrictMovesThem : Type 0
 AllAreExactWhereStrictMovesThem = (n n' : ℕ) (words before after : List ℕ) (a : MovedColumn) (strict : ListAnswer MovedColumn) → Moved n n' Rule.Rounded words before after a → MovesColumn n n' Rule.Strict words (length before) strict
-    → (a.exact ≡ a.moved → (c : MovedColumn) × (strict ≡ Ok c) × (c.moved ≡ a.moved)) × ((c : MovedColumn) → strict ≡ Ok c → a.exact ≡ a.moved)
+    → (a.exact ≡ a.moved → how_many strict ≡ Ok a.moved) × ((c : MovedColumn) → strict ≡ Ok c → a.exact ≡ a.moved)
 
 -- by the strict rule all are exact
 unfoldable pub AStrictColumnIsExactThroughout : Type 0

@@ -5,7 +5,7 @@ use Rattle.bounds.specs.declared.refusal.Refusal.{Refusal}
 use Rattle.bounds.specs.Refusals.{Answer, ListAnswer}
 use Rattle.round.specs.declared.value.Rule.{Rule}
 use Rattle.column.specs.declared.moving.MovedColumn.{MovedColumn}
-use Rattle.column.specs.Columns.{MovesColumn, Holds}
+use Rattle.column.specs.Columns.{how_many, MovesColumn, Holds}
 use Rattle.sheet.specs.declared.block.Block.{Block}
 use Rattle.sheet.specs.Layout.{AreBytes}
 use Rattle.sheet.specs.Reads.{block_read, ReadsBlock, FillsResults}
@@ -54,4 +54,4 @@ StrictColumnsComeHomeThroughASheet = (n n' : ℕ) (words before moved : List ℕ
     → (number : ℕ) (buffer block : List ℕ) (w : ListAnswer ⊤) → WritesBlock n' (take c.moved moved) buffer w → FillsBuffer n' number (take c.moved moved) buffer w block → ((q : Refusal) → w ≡ Err (ListRefusal.Whole q) → ⊥)
     → (results read : List ℕ) (b : Answer Block) → c.moved ≤ length results → ReadsBlock block (length results) b → FillsResults block results read
     → (before' home : List ℕ) (a : ListAnswer MovedColumn) → c.moved ≤ length before' → MovesColumn n' n Rule.Strict (take c.moved read) (length before') a → Holds n' n Rule.Strict (take c.moved read) before' a home
-    → (w ≡ Ok tt) × (b ≡ block_read n' number c.moved) × ((d : MovedColumn) × (a ≡ Ok d) × (d.moved ≡ c.moved)) × (take c.moved home ≡ words)
+    → (w ≡ Ok tt) × (b ≡ block_read n' number c.moved) × (how_many a ≡ Ok c.moved) × (take c.moved home ≡ words)

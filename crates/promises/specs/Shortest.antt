@@ -1,7 +1,6 @@
 -- The shortest word for a count (paper 02, Wish 9), as statements about what the public contracts allow.
-use Rattle.std.specs.Prelude.{Ok, Err}
 use Rattle.bounds.specs.Refusals.{passed, Answer}
-use Rattle.std.specs.Prelude.{◌≡◌, ◌⊎◌, ℕ, ◌+◌, ◌≤◌, ◌<◌, ℤ, pos, neg_ℤ, nat_abs}
+use Rattle.std.specs.Prelude.{◌≡◌, ◌⊎◌, ℕ, ◌+◌, ◌≤◌, ◌<◌, ℤ, pos, neg_ℤ, nat_abs, Ok, Err}
 use Rattle.bounds.specs.declared.width.Width.{Width}
 use Rattle.bounds.specs.Widths.{GivesLimit}
 use Rattle.round.specs.declared.value.Rule.{Rule}

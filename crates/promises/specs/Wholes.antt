@@ -1,8 +1,6 @@
 -- Whole numbers by nearest (paper 02, Wish 2), as statements about what the public contracts allow. A value is z * 2^-307.
-use Rattle.std.specs.Prelude.{Ok, Err}
-use Rattle.bounds.specs.Refusals.{passed, Answer}
-use Rattle.std.specs.Prelude.{◌≡◌, List, [], ◌∷◌, ◌⊎◌, ℕ, ◌*◌, ◌%◌, ◌^◌, ◌≤◌, ◌<◌, ℤ, pos, negsuc, neg_ℤ, nat_abs, ◌+ℤ◌, length}
-use Rattle.bounds.specs.Refusals.{IsWord}
+use Rattle.std.specs.Prelude.{◌≡◌, List, [], ◌∷◌, ◌⊎◌, ℕ, ◌*◌, ◌%◌, ◌^◌, ◌≤◌, ◌<◌, ℤ, pos, negsuc, neg_ℤ, nat_abs, ◌+ℤ◌, length, Ok, Err}
+use Rattle.bounds.specs.Refusals.{IsWord, passed, Answer}
 use Rattle.bounds.specs.Widths.{GivesLimit}
 use Rattle.word.specs.Takum.{real, takum}
 use Rattle.word.specs.Orders.{negated}

@@ -1,16 +1,14 @@
 -- `negate_twice` meets its contract, by the contract of `negate` and the laws of words. Assumes nothing.
 use Rattle.std.specs.Prelude.{Ok, Err}
-use Rattle.bounds.specs.Refusals.{Answer}
 use mathlib.Core.Path.{◌≡◌, sym, ap, ◌∙◌, subst}
 use Prim.Native.Nat.{ℕ}
-use native.Mathlib.Omega.{arith}
 use Rattle.word.specs.Orders.{negated}
 use Rattle.order.specs.Orders.{Negates}
 use Rattle.word.proofs.Values.{negated_word, negated_twice}
 use Rattle.promises.specs.Demands.{ComesBack}
 use Rattle.bounds.specs.declared.refusal.Refusal.{Refusal}
 use Rattle.bounds.proofs.Verdicts.{word_through, word_passes, answered, handed_on}
-use Rattle.bounds.specs.Refusals.{IsWord, word_test, through, refused}
+use Rattle.bounds.specs.Refusals.{IsWord, word_test, through, refused, Answer}
 use Rattle.promises.proofs.negate_twice.Goals as goal
 
 back : (n w o : ℕ) (a : Answer ℕ) → Negates n w (Ok o) → Negates n o a → ComesBack n w a

@@ -8,7 +8,7 @@ use Rattle.bounds.proofs.Rooms.{room_through}
 use Rattle.listing.specs.declared.text.Text.{Text}
 use Rattle.listing.specs.Adds.{AddsSome}
 use Rattle.listing.specs.Puts.{Puts, PutsSome}
-use Rattle.listing.specs.Listing.{most, text_room, ListsInto, IsListed}
+use Rattle.listing.specs.Listing.{text_room, ListsInto, IsListed}
 use Rattle.listing.proofs.blocks.list_block.Goals as goal
 
 -- the slice afterwards is what the buffer held

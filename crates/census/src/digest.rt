@@ -1,5 +1,5 @@
 // A digest: it takes in one number after another, so that a change in one number always changes it. A sequence is made the same way.
-use bounds::answer::{Answer, Written};
+use bounds::answer::Written;
 use bounds::refusal::Refusal;
 
 // D0 of docs/CENSUS.md: the digest that has taken in nothing.
@@ -37,17 +37,17 @@ pub fn take_refusal(digest: u64, refusal: Refusal) -> u64 {
     take_kind(digest, 3, refusal.number() as u64)
 }
 
-pub fn take_answer(digest: u64, answer: Answer) -> u64 {
+pub fn take_answer(digest: u64, answer: Result<u64, Refusal>) -> u64 {
     match answer {
-        Answer::Word(word) => take_kind(digest, 0, word),
-        Answer::Refused(refusal) => take_refusal(digest, refusal),
+        Ok(word) => take_kind(digest, 0, word),
+        Err(refusal) => take_refusal(digest, refusal),
     }
 }
 
 // A word that was written or moved comes with its saying.
-pub fn take_written(digest: u64, written: Written) -> u64 {
+pub fn take_written(digest: u64, written: Result<Written, Refusal>) -> u64 {
     match written {
-        Written::Word { word, saying } => take(take_kind(digest, 0, word), saying.number() as u64),
-        Written::Refused(refusal) => take_refusal(digest, refusal),
+        Ok(Written { word, saying }) => take(take_kind(digest, 0, word), saying.number() as u64),
+        Err(refusal) => take_refusal(digest, refusal),
     }
 }

@@ -1,13 +1,13 @@
 // The answers of the ways out, taken into a digest.
 use crate::numbers::pattern_of;
 use binary64::taking::Binary64;
+use bounds::refusal::Refusal;
 use census::digest::{take, take_kind, take_refusal, take_signed};
-use whole::taking::Whole;
 
-pub(crate) fn take_whole_out(digest: u64, out: Whole) -> u64 {
+pub(crate) fn take_whole_out(digest: u64, out: Result<i64, Refusal>) -> u64 {
     match out {
-        Whole::Is(z) => take_signed(take(digest, 0), z),
-        Whole::Refused(refusal) => take_refusal(digest, refusal),
+        Ok(z) => take_signed(take(digest, 0), z),
+        Err(refusal) => take_refusal(digest, refusal),
     }
 }
 

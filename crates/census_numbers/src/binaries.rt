@@ -5,7 +5,6 @@ use crate::around::{Ways, take_both, take_both_of_three, take_three};
 use crate::numbers::{INFINITY, NAN};
 use crate::patterns::{drawn_of_words, drawn_pattern, pattern_out};
 use crate::ways::take_binary64_in;
-use bounds::answer::Answer;
 use bounds::width::Width;
 use census::bits::TOP_BIT;
 use census::digest::{EMPTY, scramble};
@@ -61,8 +60,8 @@ pub(crate) fn print_extreme(name: &[u8], n: u32)
 // Where the library refuses it, the word 0 has to show it.
 fn largest_of(n: u32) -> u64 {
     match (Width { bits: n }).largest() {
-        Answer::Word(word) => word,
-        Answer::Refused(_) => 0,
+        Ok(word) => word,
+        Err(_) => 0,
     }
 }
 

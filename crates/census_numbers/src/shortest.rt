@@ -10,7 +10,7 @@ use census::bits::{TOP_BIT, power_of_two};
 use census::digest::{EMPTY, scramble};
 use census::line::{print_digest, print_number, print_of_one, print_text};
 use census::run::{Run, words_of};
-use whole::taking::{Taking, Whole, take_whole};
+use whole::taking::{Taking, take_whole};
 
 // Part 54: the line of k, which is n - 1.
 pub(crate) fn print_short_power(name: &[u8], n: u32)
@@ -70,7 +70,7 @@ pub(crate) fn print_short_words(name: &[u8], n: u32) {
     let mut count = 0;
     let mut word = 0;
     while word < end {
-        if let Whole::Is(z) = take_whole(Width { bits: n }, Taking::Strict, word) {
+        if let Ok(z) = take_whole(Width { bits: n }, Taking::Strict, word) {
             digest = take_shortest(digest, z);
             count += 1;
         }

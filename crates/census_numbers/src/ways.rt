@@ -4,7 +4,8 @@ use crate::numbers::{number_of, whole_of};
 use binary64::taking::take_binary64;
 use binary64::writing::write_binary64;
 use bounds::answer::Written;
-use bounds::width::{Made, Width};
+use bounds::refusal::Refusal;
+use bounds::width::Width;
 use census::digest::{take_kind, take_refusal, take_written};
 use round::value::Rule;
 use whole::shortest::shortest_width;
@@ -44,15 +45,15 @@ pub(crate) fn take_round(digest: u64, n: u32, bits: u64) -> u64 {
 // The shortest width of a whole number.
 pub(crate) fn take_shortest(digest: u64, z: i64) -> u64 {
     match shortest_width(z) {
-        Made::Width(width) => take_kind(digest, 0, width.bits as u64),
-        Made::Refused(refusal) => take_refusal(digest, refusal),
+        Ok(width) => take_kind(digest, 0, width.bits as u64),
+        Err(refusal) => take_refusal(digest, refusal),
     }
 }
 
 // The word that was written, or another where the library has refused; what is taken in of it has to show a wrong refusal.
-pub(crate) fn word_or(written: Written, other: u64) -> u64 {
-    match written {
-        Written::Word { word, saying: _ } => word,
-        Written::Refused(_) => other,
+pub(crate) fn word_or(answer: Result<Written, Refusal>, other: u64) -> u64 {
+    match answer {
+        Ok(written) => written.word,
+        Err(_) => other,
     }
 }

@@ -3,7 +3,7 @@ ghost use Rattle.std.specs.Prelude.{◌≤◌};
 
 use crate::around::{Ways, take_both_of_five, take_both_of_three, take_three, take_ways};
 use crate::drawn::without_lowest;
-use bounds::width::{Limit, Width};
+use bounds::width::Width;
 use census::bits::{ALL_BITS, TOP_BIT, bounded, power_of_two};
 use census::digest::{EMPTY, scramble};
 use census::line::print_of_one;
@@ -27,8 +27,8 @@ pub(crate) fn print_limit(name: &[u8], n: u32)
 // Where the library refuses the width, the limit 0 has to show it.
 fn limit_of(n: u32) -> u64 {
     match (Width { bits: n }).limit() {
-        Limit::Count(count) => count,
-        Limit::Refused(_) => 0,
+        Ok(count) => count,
+        Err(_) => 0,
     }
 }
 

@@ -2,10 +2,11 @@
 ghost use Rattle.std.specs.Prelude.{◌≤◌, length};
 
 use crate::row::{BESIDE, fill_row, take_refusal_at, take_row};
+use bounds::refusal::ListRefusal;
 use bounds::width::Width;
 use census::bits::{low_bits, power_of_two};
 use census::digest::{scramble, take, take_kind, take_refusal};
-use column::moving::{Column, MovedColumn, move_column};
+use column::moving::{MovedColumn, move_column};
 use round::value::Rule;
 
 // The widths that a column is moved from and to, and how many words it has.
@@ -120,11 +121,12 @@ fn take_lent(digest: u64, rule: Rule, column: &[u64], shape: Shape, room: usize)
 }
 
 // How many were exact comes last; a refused column has none.
-fn take_column(digest: u64, moved: MovedColumn) -> u64 {
-    let answer = moved.answer;
+fn take_column(digest: u64, answer: Result<MovedColumn, ListRefusal>) -> u64 {
     match answer {
-        Column::Moved(count) => take(take_kind(digest, 0, count as u64), moved.exact as u64),
-        Column::Refused(refusal) => take_refusal(digest, refusal),
-        Column::RefusedAt { position, refusal } => take_refusal_at(digest, position, refusal),
+        Ok(MovedColumn { moved, exact }) => {
+            take(take_kind(digest, 0, moved as u64), exact as u64)
+        }
+        Err(ListRefusal::Whole(refusal)) => take_refusal(digest, refusal),
+        Err(ListRefusal::At { position, refusal }) => take_refusal_at(digest, position, refusal),
     }
 }

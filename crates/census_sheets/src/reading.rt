@@ -3,6 +3,7 @@ ghost use Rattle.std.specs.Prelude.{◌≤◌, length};
 
 use crate::block::SIZE;
 use crate::row::{BESIDE, fill_row, take_row};
+use bounds::refusal::Refusal;
 use census::digest::{take_kind, take_refusal};
 use sheet::block::{Block, read_block};
 
@@ -11,7 +12,7 @@ use sheet::block::{Block, read_block};
 pub(crate) struct Reading {
     pub(crate) digest: u64,
     pub(crate) row: [u64; 1024],
-    pub(crate) block: Block,
+    pub(crate) answer: Result<Block, Refusal>,
 }
 
 // With each of the rooms around a number of words.
@@ -48,25 +49,27 @@ pub(crate) fn read_lent(digest: u64, bytes: &[u8], lent: usize, room: usize) -> 
     let mut row = [0u64; 1024];
     fill_row(&mut row);
     let end = BESIDE + room;
-    let block = read_block(&bytes[..lent], &mut row[BESIDE..end]);
-    let after_answer = take_block(digest, block);
+    let answer = read_block(&bytes[..lent], &mut row[BESIDE..end]);
+    let after_answer = take_block(digest, answer);
     Reading {
         digest: take_row(after_answer, &row, end + BESIDE),
         row,
-        block,
+        answer,
     }
 }
 
-fn take_block(digest: u64, block: Block) -> u64 {
-    match block {
-        Block::Read {
-            width,
-            number,
-            count,
-        } => {
+fn take_block(digest: u64, answer: Result<Block, Refusal>) -> u64 {
+    match answer {
+        Ok(
+            Block {
+                width,
+                number,
+                count,
+            },
+        ) => {
             let after_width = take_kind(digest, 0, width as u64);
             take_kind(after_width, number as u64, count as u64)
         }
-        Block::Refused(refusal) => take_refusal(digest, refusal),
+        Err(refusal) => take_refusal(digest, refusal),
     }
 }

@@ -3,9 +3,10 @@ ghost use Rattle.std.specs.Prelude.{◌≤◌, length};
 
 use crate::buffer::{sentinels, take_bytes};
 use crate::row::{BESIDE, take_refusal_at};
+use bounds::refusal::ListRefusal;
 use bounds::width::Width;
 use census::digest::{take, take_refusal};
-use sheet::writing::{Writing, write_block};
+use sheet::writing::write_block;
 
 // What is written: a width, a number, and how many of the words that are handed over with it.
 #[derive(Clone, Copy)]
@@ -35,7 +36,7 @@ pub(crate) fn write_lent(digest: u64, content: Content, words: &[u64], size: usi
     let mut row = sentinels();
     let count = content.count;
     let end = BESIDE + size;
-    let writing = write_block(
+    let answer = write_block(
         Width {
             bits: content.width,
         },
@@ -43,17 +44,17 @@ pub(crate) fn write_lent(digest: u64, content: Content, words: &[u64], size: usi
         &words[..count],
         &mut row[BESIDE..end],
     );
-    let after_answer = take_answer(digest, writing);
+    let after_answer = take_answer(digest, answer);
     Written {
         digest: take_bytes(after_answer, &row, end + BESIDE),
         row,
     }
 }
 
-fn take_answer(digest: u64, writing: Writing) -> u64 {
-    match writing {
-        Writing::Written => take(digest, 0),
-        Writing::Refused(refusal) => take_refusal(digest, refusal),
-        Writing::RefusedAt { position, refusal } => take_refusal_at(digest, position, refusal),
+fn take_answer(digest: u64, answer: Result<(), ListRefusal>) -> u64 {
+    match answer {
+        Ok(()) => take(digest, 0),
+        Err(ListRefusal::Whole(refusal)) => take_refusal(digest, refusal),
+        Err(ListRefusal::At { position, refusal }) => take_refusal_at(digest, position, refusal),
     }
 }

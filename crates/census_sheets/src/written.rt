@@ -8,6 +8,7 @@ use crate::faults::{count_of, times_in};
 use crate::reading::read_lent;
 use crate::row::BESIDE;
 use crate::writing::{Content, take_writing, write_lent};
+use bounds::refusal::Refusal;
 use census::bits::bounded;
 use census::digest::sequence;
 use census::run::Run;
@@ -94,19 +95,21 @@ fn take_copy(digest: u64, block: [u8; 520], room: usize) -> u64
     requires { room ≤ 1008 }
 {
     let reading = read_lent(digest, &block, SIZE, room);
-    let answer = reading.block;
+    let answer = reading.answer;
     let row = reading.row;
     take_read(reading.digest, answer, row)
 }
 
 // No block of part 50 is refused.
-fn take_read(digest: u64, answer: Block, row: [u64; 1024]) -> u64 {
+fn take_read(digest: u64, answer: Result<Block, Refusal>, row: [u64; 1024]) -> u64 {
     match answer {
-        Block::Read {
-            width,
-            number,
-            count,
-        } => {
+        Ok(
+            Block {
+                width,
+                number,
+                count,
+            },
+        ) => {
             let content = Content {
                 width,
                 number,
@@ -115,6 +118,6 @@ fn take_read(digest: u64, answer: Block, row: [u64; 1024]) -> u64 {
             let written = write_lent(digest, content, &row[BESIDE..], SIZE);
             written.digest
         }
-        Block::Refused(_) => digest,
+        Err(_) => digest,
     }
 }

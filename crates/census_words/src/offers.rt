@@ -4,7 +4,7 @@ ghost use Rattle.std.specs.Prelude.{◌+◌, ◌≤◌};
 use bounds::width::Width;
 use census::bits::{ALL_BITS, TOP_BIT, bounded};
 use census::exponent::ORIGIN;
-use word::reading::{Kind, read};
+use word::reading::{Kind, Reading, read};
 
 // The size m * 2^(place - ORIGIN).
 #[derive(Clone, Copy)]
@@ -17,13 +17,17 @@ pub(crate) struct Size {
 pub(crate) fn size_of(n: u32, word: u64) -> Size
     ensures { (400 ≤ result.place) × (result.place ≤ 1400) }
 {
-    let kind = read(Width { bits: n }, word).kind;
-    let Kind::Number {
-        negative: _,
-        h,
-        m,
-        p,
-    } = kind
+    let Ok(
+        Reading {
+            kind: Kind::Number {
+                negative: _,
+                h,
+                m,
+                p,
+            },
+            own: _,
+        },
+    ) = read(Width { bits: n }, word)
     else {
         return Size {
             m: 0,

@@ -1,5 +1,5 @@
 // Reading and comparing where it is refused: at a bad width, and of a stray word.
-use crate::answers::{take_comparison, take_limit, take_made};
+use crate::answers::{take_comparison, take_made};
 use crate::facts::take_itself;
 use bounds::width::Width;
 use census::bits::{ALL_BITS, TOP_BIT};
@@ -20,7 +20,7 @@ fn take_of_width(digest: u64, width: Width) -> u64 {
     let after_largest = take_answer(after_new, width.largest());
     let after_smallest = take_answer(after_largest, width.smallest());
     let after_nar = take_answer(after_smallest, width.nar());
-    take_limit(after_nar, width.limit())
+    take_answer(after_nar, width.limit())
 }
 
 fn take_at_bad_width(digest: u64, width: Width, word: u64) -> u64 {

@@ -3,7 +3,8 @@ ghost use Rattle.std.specs.Prelude.{◌≤◌};
 
 use crate::answers::take_comparison;
 use crate::draws::drawn_width;
-use bounds::answer::{Answer, Written};
+use bounds::answer::Written;
+use bounds::refusal::Refusal;
 use bounds::width::Width;
 use census::bits::low_bits;
 use census::digest::{scramble, take_written};
@@ -71,21 +72,21 @@ fn take_way(start: u64, way: Way, w: u64, x: u64) -> u64 {
     take_comparison(digest, compare(way.b, word_of(there), word_of(beside)))
 }
 
-fn rounded(from: Width, to: Width, word: u64) -> Written {
+fn rounded(from: Width, to: Width, word: u64) -> Result<Written, Refusal> {
     move_word(from, to, Rule::Rounded, word)
 }
 
 // No word is refused here, since the widths are good and the words are cut to them: 0 stands for what doesn't come up.
-fn word_of(written: Written) -> u64 {
-    match written {
-        Written::Word { word, .. } => word,
-        Written::Refused(_) => 0,
+fn word_of(answer: Result<Written, Refusal>) -> u64 {
+    match answer {
+        Ok(written) => written.word,
+        Err(_) => 0,
     }
 }
 
 fn opposite_of(width: Width, word: u64) -> u64 {
     match negate(width, word) {
-        Answer::Word(opposite) => opposite,
-        Answer::Refused(_) => 0,
+        Ok(opposite) => opposite,
+        Err(_) => 0,
     }
 }

@@ -1,6 +1,6 @@
 // Part 1: the numbers that belong to each width.
-use bounds::answer::Answer;
-use bounds::width::{Limit, Width};
+use bounds::refusal::Refusal;
+use bounds::width::Width;
 use census::line::{print_end, print_number, print_text};
 
 pub(crate) fn print_width(name: &[u8], n: u32) {
@@ -10,21 +10,14 @@ pub(crate) fn print_width(name: &[u8], n: u32) {
     print_word(width.largest());
     print_word(width.smallest());
     print_word(width.nar());
-    print_limit(width.limit());
+    print_word(width.limit());
     print_end();
 }
 
 // A width of this part is never refused; where the library refuses it all the same, the line has to show it.
-fn print_word(answer: Answer) {
+fn print_word(answer: Result<u64, Refusal>) {
     match answer {
-        Answer::Word(word) => print_number(word),
-        Answer::Refused(_) => print_text(b" refused"),
-    }
-}
-
-fn print_limit(limit: Limit) {
-    match limit {
-        Limit::Count(count) => print_number(count),
-        Limit::Refused(_) => print_text(b" refused"),
+        Ok(word) => print_number(word),
+        Err(_) => print_text(b" refused"),
     }
 }

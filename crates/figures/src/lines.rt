@@ -4,38 +4,41 @@ use crate::value::print_value;
 use bounds::answer::Written;
 use bounds::refusal::Refusal;
 use bounds::saying::Saying;
-use bounds::width::{Limit, Made, Width};
+use bounds::width::Width;
 use round::value::Rule;
-use word::reading::{Kind, read};
+use word::reading::{Kind, Reading, read};
 use write::moving::move_word;
 use write::value::Value;
 use write::writing::write;
 
 pub(crate) fn print_word(n: u32, word: u64) {
-    let kind = read(Width { bits: n }, word).kind;
     print_word_of_width(n, word);
     print_bytes(b" is ");
-    match kind {
-        Kind::Zero => print_number(0),
-        Kind::Nar => print_bytes(b"nar"),
-        Kind::Number { negative, h, m, p } => print_value(negative, h, m, p),
-        Kind::Refused(refusal) => print_refusal(refusal),
+    match read(Width { bits: n }, word) {
+        Ok(reading) => print_reading(reading),
+        Err(refusal) => print_refusal(refusal),
     }
     print_bytes(b"\n");
 }
 
+fn print_reading(reading: Reading) {
+    match reading.kind {
+        Kind::Zero => print_number(0),
+        Kind::Nar => print_bytes(b"nar"),
+        Kind::Number { negative, h, m, p } => print_value(negative, h, m, p),
+    }
+}
+
 // How many fraction bits of a word are its own.
 pub(crate) fn print_own_bits(n: u32, word: u64) {
-    let reading = read(Width { bits: n }, word);
-    let kind = reading.kind;
     print_word_of_width(n, word);
     print_bytes(b" own bits ");
-    match kind {
-        Kind::Refused(refusal) => {
+    match read(Width { bits: n }, word) {
+        Ok(reading) => print_number(reading.own as u64),
+        Err(refusal) => {
             print_bytes(b"is ");
             print_refusal(refusal);
         }
-        _ => print_number(reading.own as u64),
     }
     print_bytes(b"\n");
 }
@@ -45,8 +48,8 @@ pub(crate) fn print_limit(n: u32) {
     print_width(n);
     print_bytes(b" limit ");
     match width.limit() {
-        Limit::Count(count) => print_number(count),
-        Limit::Refused(refusal) => print_refusal(refusal),
+        Ok(count) => print_number(count),
+        Err(refusal) => print_refusal(refusal),
     }
     print_bytes(b"\n");
 }
@@ -56,8 +59,8 @@ pub(crate) fn print_made(n: u32) {
     print_width(n);
     print_bytes(b" is ");
     match Width::new(n) {
-        Made::Width(_) => print_bytes(b"made"),
-        Made::Refused(refusal) => print_refusal(refusal),
+        Ok(_) => print_bytes(b"made"),
+        Err(refusal) => print_refusal(refusal),
     }
     print_bytes(b"\n");
 }
@@ -81,15 +84,15 @@ pub(crate) fn print_move(from: u32, to: u32, rule: Rule, word: u64) {
 }
 
 // The rest of a line, from the rule on.
-pub(crate) fn print_written(rule: Rule, written: Written) {
+pub(crate) fn print_written(rule: Rule, answer: Result<Written, Refusal>) {
     print_rule(rule);
-    match written {
-        Written::Word { word, saying } => {
+    match answer {
+        Ok(Written { word, saying }) => {
             print_bytes(b" gives ");
             print_hex(word);
             print_saying(saying);
         }
-        Written::Refused(refusal) => {
+        Err(refusal) => {
             print_bytes(b" is ");
             print_refusal(refusal);
         }

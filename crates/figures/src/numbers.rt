@@ -3,10 +3,10 @@ use crate::lines::{print_refusal, print_width, print_word_of_width, print_writte
 use crate::text::{print_bytes, print_hex, print_signed};
 use binary64::taking::{Binary64, take_binary64};
 use binary64::writing::write_binary64;
-use bounds::width::{Made, Width};
+use bounds::width::Width;
 use round::value::Rule;
 use whole::shortest::shortest_width;
-use whole::taking::{Taking, Whole, take_whole};
+use whole::taking::{Taking, take_whole};
 use whole::writing::write_whole;
 
 pub(crate) fn print_whole_in(n: u32, rule: Rule, x: i64) {
@@ -21,8 +21,8 @@ pub(crate) fn print_whole_out(n: u32, rule: Taking, word: u64) {
     print_taking(rule);
     print_bytes(b" is ");
     match take_whole(Width { bits: n }, rule, word) {
-        Whole::Is(x) => print_signed(x),
-        Whole::Refused(refusal) => print_refusal(refusal),
+        Ok(x) => print_signed(x),
+        Err(refusal) => print_refusal(refusal),
     }
     print_bytes(b"\n");
 }
@@ -39,11 +39,11 @@ pub(crate) fn print_shortest(x: i64) {
     print_bytes(b"whole number ");
     print_signed(x);
     match shortest_width(x) {
-        Made::Width(width) => {
+        Ok(width) => {
             print_bytes(b" needs ");
             print_width(width.bits);
         }
-        Made::Refused(refusal) => {
+        Err(refusal) => {
             print_bytes(b" is ");
             print_refusal(refusal);
         }

@@ -1,1 +1,4 @@
--- The functions' proofs alone: the laws of order and negation are those of crate word, Signed and Values.
+-- The laws of order and negation are those of crate word, Signed and Values; here stands what the numbers are for an order.
+
+-- the paper's -1, 0 and 1
+pub mod Numbers

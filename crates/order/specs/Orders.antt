@@ -1,10 +1,16 @@
 -- What comparing and negating words answer (paper 01).
-use Rattle.std.specs.Prelude.{Ok, Err}
-use Rattle.bounds.specs.Refusals.{Answer}
-use Rattle.std.specs.Ordering.{Ordering, int_cmp}
-use Rattle.std.specs.Prelude.{◌≡◌, ℕ}
-use Rattle.bounds.specs.Refusals.{width_test, stray_test, word_test, ◌then◌, Decided}
-use Rattle.word.specs.Orders.{signed, order, negated}
+use Rattle.std.specs.declared.cmp.Ordering.{Ordering}
+use Rattle.std.specs.declared.cmp.Ordering.TheVariants.{Less, Equal, Greater}
+use Rattle.std.specs.Ordering.{int_cmp}
+use Rattle.std.specs.Prelude.{◌≡◌, ℕ, ℤ, pos, negsuc, Ok, Err}
+use Rattle.bounds.specs.Refusals.{Answer, width_test, stray_test, word_test, ◌then◌, Decided}
+use Rattle.word.specs.Orders.{signed, negated}
+
+-- the paper's number for an order: -1 below, 0 equal, 1 above
+abbrev pub order_number : Ordering → ℤ
+order_number Less = negsuc 0
+order_number Equal = pos 0
+order_number Greater = pos 1
 
 -- ---- what the calls answer
 unfoldable pub Compares : ℕ → ℕ → ℕ → Answer Ordering → Type 0

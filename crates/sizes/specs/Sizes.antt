@@ -1,7 +1,6 @@
 -- The sign of a string of 64 bits, and its size without it, as the call gives them; and the same of a word.
-use Rattle.std.specs.Prelude.{Err}
-use Rattle.std.specs.Prelude.{◌≡◌, cond, ℕ, ◌+◌, ◌-◌, ◌*◌, ◌^◌, ltb, pos}
-use Rattle.bounds.specs.Refusals.{word_test, Decided}
+use Rattle.std.specs.Prelude.{Ok, Err, ◌≡◌, cond, ℕ, ◌+◌, ◌-◌, ◌*◌, ◌^◌, ltb, pos}
+use Rattle.bounds.specs.Refusals.{Answer, word_test, Decided}
 use Rattle.sizes.specs.declared.size.Size.{Size}
 use Rattle.sizes.specs.declared.size.WordSize.{WordSize}
 use Rattle.word.specs.Takum.{Takum, real, NaR, takum, p, F, c}
@@ -16,12 +15,11 @@ unfoldable pub IsWordSize : Takum → WordSize → Type 0
 IsWordSize meaning WordSize.Zero = meaning ≡ real (pos 0)
 IsWordSize meaning WordSize.Nar = meaning ≡ NaR
 IsWordSize meaning (WordSize.Number s) = IsNumber meaning 63 s.negative s.h s.m 63
-IsWordSize meaning (Err q) = ⊥
 
 -- ---- what the calls answer
 -- WIDTH, then STRAY
-unfoldable pub ReadsSize : ℕ → ℕ → WordSize → Type 0
-ReadsSize n w a = Decided (word_test n w) (λ q. a ≡ Err q) (IsWordSize (takum n w) a)
+unfoldable pub ReadsSize : ℕ → ℕ → Answer WordSize → Type 0
+ReadsSize n w a = Decided (word_test n w) (λ q. a ≡ Err q) ((s : WordSize) × (a ≡ Ok s) × IsWordSize (takum n w) s)
 
 -- the string without its sign has the size (1 + F / 2^p) * 2^c, which is m * 2^(h - 63)
 pub record Sizes (T : ℕ) (x : Size) : Type 0 where

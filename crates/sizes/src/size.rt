@@ -57,5 +57,5 @@ fn without_sign(t: u64) -> u64
     if t < 1 << 63 {
         return t;
     }
-    (u64::MAX - t) + 1
+    t.wrapping_neg()
 }

@@ -1,11 +1,9 @@
 -- What reading a word answers: zero, NaR, or sign, exponent h and significand m with its fraction bit count p (paper 01), and how fine it is: the word's
 -- own fraction bits (paper 02, Wish 3).
-use Rattle.std.specs.Prelude.{Err}
-use Rattle.std.specs.Prelude.{◌≡◌, Bool, true, false, ℕ, suc, ◌+◌, ◌*◌, ◌^◌, ◌≤◌, ◌<◌, ℤ, pos, negsuc, neg_ℤ, ◌+ℤ◌, ◌-ℤ◌}
+use Rattle.std.specs.Prelude.{Ok, Err, ◌≡◌, Bool, true, false, ℕ, suc, ◌+◌, ◌*◌, ◌^◌, ◌≤◌, ◌<◌, ℤ, pos, negsuc, neg_ℤ, ◌+ℤ◌, ◌-ℤ◌}
 use Rattle.word.specs.declared.reading.Kind.{Kind}
 use Rattle.word.specs.declared.reading.Reading.{Reading}
-use Rattle.bounds.specs.declared.refusal.Refusal.{Refusal}
-use Rattle.bounds.specs.Refusals.{word_test, Decided}
+use Rattle.bounds.specs.Refusals.{Answer, word_test, Decided}
 use Rattle.word.specs.Takum.{Takum, real, NaR, takum, fraction_bits, own_fraction_bits}
 
 -- 2^k as a fraction of two whole numbers
@@ -40,17 +38,12 @@ unfoldable pub IsKind : Takum → ℕ → Kind → Type 0
 IsKind meaning fraction_count Kind.Zero = meaning ≡ real (pos 0)
 IsKind meaning fraction_count Kind.Nar = meaning ≡ NaR
 IsKind meaning fraction_count (Kind.Number negative h m p) = IsNumber meaning fraction_count negative h m p
-IsKind meaning fraction_count (Err q) = ⊥
 
 -- a reading, of whatever kind, has the word's own fraction bits
 pub record IsReading (meaning : Takum) (fraction_count own_bits : ℕ) (a : Reading) : Type 0 where
   pub what : IsKind meaning fraction_count a.kind
   pub fine : a.own ≡ own_bits
 
--- a refusal, and nothing else
-abbrev pub refused_reading : Refusal → Reading
-refused_reading q = record { kind = Err q; own = 0 }
-
 -- ---- what the call answers
-unfoldable pub Reads : ℕ → ℕ → Reading → Type 0
-Reads n w a = Decided (word_test n w) (λ q. a ≡ refused_reading q) (IsReading (takum n w) (fraction_bits n w) (own_fraction_bits n w) a)
+unfoldable pub Reads : ℕ → ℕ → Answer Reading → Type 0
+Reads n w a = Decided (word_test n w) (λ q. a ≡ Err q) ((r : Reading) × (a ≡ Ok r) × IsReading (takum n w) (fraction_bits n w) (own_fraction_bits n w) r)

@@ -2,7 +2,7 @@
 ghost use Rattle.std.specs.Prelude.{cond, ◌≡◌, ◌-◌, ◌/◌, ◌%◌, ◌≤◌, ◌^◌, pos, neg_ℤ, ◌+ℤ◌, ◌-ℤ◌};
 ghost use Rattle.std.specs.Int.Signed.{mag};
 ghost use Rattle.word.specs.Takum as Takum;
-ghost use Rattle.word.specs.Takum.{real, N, or_zero};
+ghost use Rattle.word.specs.Takum.{real, or_zero};
 ghost use Rattle.word.specs.Reads.{IsKind, Reads};
 
 use crate::bits::low_bits;
@@ -50,20 +50,12 @@ pub fn read(width: Width, word: u64) -> Result<Reading, Refusal>
             own: 0,
         });
     }
+    // Below 12 bits zeros are appended.
+    let length = good.bits.max(12);
     Ok(Reading {
-        kind: number(string_length(good.bits), string),
+        kind: number(length, string),
         own: own_bits(good.bits, string),
     })
-}
-
-// How long a word's string is: below 12 bits zeros are appended.
-fn string_length(n: u32) -> u32
-    ensures { result ≡ N n }
-{
-    if n < 12 {
-        return 12;
-    }
-    n
 }
 
 // How many of the n bits of a word that is a number are fraction bits; it stands at the top of t.
@@ -71,10 +63,7 @@ fn own_bits(n: u32, t: u64) -> u32
     ensures { result ≡ or_zero (pos n -ℤ pos (Takum.r 64 t) -ℤ pos 5) }
 {
     let others = regime_of(t) + 5;
-    if n < others {
-        return 0;
-    }
-    n - others
+    n.saturating_sub(others)
 }
 
 // The number of a string of n bits, n at least 12, that is neither zero nor NaR; it stands at the top of t, with zeros behind it. Where the sign is 1 and

@@ -9,9 +9,10 @@ use mir.Syntax.{w64}
 use mir.Val.{SFits, to_z, of_z}
 use mir.Facts.{to_z_pos, to_z-of_z}
 use Rattle.word.proofs.Signed.{signed_low, signed_high, minus_one_less}
-use Rattle.bounds.proofs.Powers.{one_shl, twice}
+use Rattle.bounds.proofs.Powers.{twice}
 use Rattle.word.specs.Orders.{signed}
 use Rattle.bounds.specs.Refusals.{IsWord}
+use Rattle.bounds.specs.Widths.{nar_word}
 use Rattle.order.proofs.order.as_signed.Goals as goal
 
 small : (n w : ℕ) → IsWord n w → w < 2 ^ (n - 1) → w < 2 ^ 63
@@ -31,21 +32,19 @@ module _ (n w all : ℕ) (is : all ≡ 2 ^ n - 1) (word : IsWord n w) (half : 2 
   high : to_z w64 (of_z w64 (negsuc 0 -ℤ to_z w64 (all - w))) ≡ signed n w
   high = to_z-of_z high_fits ∙ less ∙ ap (λ (x : ℕ). negsuc (x - w)) is ∙ sym (signed_high n w half word.fits)
 
--- the word of NaR, as the machine shifts a bit to it
-nar : (n w : ℕ) → IsWord n w → 1 * 2 ^ (n - 1) % 2 ^ 64 ≡ 2 ^ (n - 1)
-nar n w i = one_shl 64 (n - 1) (omega (arith, i.most, i.least))
+below : (c : goal.Then-word-nar) → c.args.word < 2 ^ (c.args.good.bits - 1)
+unfolding nar_word
+below c = omega (arith, c.nar.ensures, c.if-word-nar.true)
 
-below : (c : goal.Then-word-n) → c.args.word < 2 ^ (c.args.n - 1)
-below c = omega (arith, nar c.args.n c.args.word c.requires)
-
-from_half : (c : goal.After-ones) → 2 ^ (c.args.n - 1) ≤ c.args.word
-from_half c = omega (arith, nar c.args.n c.args.word c.requires)
+from_half : (c : goal.After-ones) → 2 ^ (c.args.good.bits - 1) ≤ c.args.word
+unfolding nar_word
+from_half c = omega (arith, c.nar.ensures, c.if-word-nar.false)
 
 pub overflow_cast-result : goal.overflow_cast-result
 overflow_cast-result c = record { sfits = small _ _ c.requires (below c) }
 
-pub returns-then-word-n : goal.returns-then-word-n
-returns-then-word-n c = to_z_pos w64 (small _ _ c.requires (below c)) ∙ sym (signed_low _ _ (below c))
+pub returns-then-word-nar : goal.returns-then-word-nar
+returns-then-word-nar c = to_z_pos w64 (small _ _ c.requires (below c)) ∙ sym (signed_low _ _ (below c))
 
 pub overflow_cast-result-2 : goal.overflow_cast-result-2
 overflow_cast-result-2 c = record { sfits = gap _ _ _ c.ones.ensures c.requires (from_half c) }

@@ -143,3 +143,34 @@ module _ {A : Type 0} (R : Refusal → A) (Q : A → Type 0) (one : (a b : A) �
 -- what is answered where a `?` hands a refusal on: that refusal, and no other
 pub handed_on : {A : Type 0} {v : Verdict} {Q : Type 0} (q : Refusal) (r : Answer A) → IsErrAnd r (λ e. e ≡ q) → v ≡ Err q → Decided v (λ p. r ≡ Err p) Q
 handed_on q r e h = let p = err_from_is_err_and r e in refused h (p.1 ∙ ap Err p.2)
+
+-- ---- what an answer tells of the verdict, where what is let through is answered with a value that a property tells
+module _ {A : Type 0} where
+  IsValue : Answer A → Type 0
+  IsValue (Ok x) = Unit {0}
+  IsValue (Err q) = ⊥
+
+  value_of : A → Answer A → A
+  value_of d (Ok x) = x
+  value_of d (Err q) = d
+
+  refusal_of : Refusal → Answer A → Refusal
+  refusal_of d (Ok x) = d
+  refusal_of d (Err q) = q
+
+  abbrev pub Tells : Verdict → (A → Type 0) → Answer A → Type 0
+  Tells v P a = Decided v (λ q. a ≡ Err q) ((x : A) × (a ≡ Ok x) × P x)
+
+  pub ok_tells : {v : Verdict} (P : A → Type 0) (x : A) → Tells v P (Ok x) → (v ≡ passed) × P x
+  unfolding IsValue value_of
+  ok_tells P x (through e y) = (e, subst P (sym (ap (λ (a : Answer A). value_of x a) y.1)) y.2)
+  ok_tells P x (refused e y) = absurd (subst IsValue y tt)
+
+  pub err_tells : {v : Verdict} {P : A → Type 0} (q : Refusal) → Tells v P (Err q) → v ≡ Err q
+  unfolding IsValue refusal_of
+  err_tells q (through e y) = absurd (subst IsValue (sym y.1) tt)
+  err_tells q (refused e y) = e ∙ ap Err (sym (ap (λ (a : Answer A). refusal_of q a) y))
+
+  -- and it allows one outcome, where the property tells one value
+  pub value_of_one : (P : A → Type 0) → ((x y : A) → P x → P y → x ≡ y) → {v : Verdict} (a b : Answer A) → Tells v P a → Tells v P b → a ≡ b
+  value_of_one P one = decided_one Err (λ (a : Answer A). (x : A) × (a ≡ Ok x) × P x) (λ a b x y. x.1 ∙ ap Ok (one x.0 y.0 x.2 y.2) ∙ sym y.1)

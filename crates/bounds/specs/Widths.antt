@@ -1,5 +1,5 @@
 -- What belongs to a width n: its end words, its NaR word and its exact-count limit (paper 01).
-use Rattle.std.specs.Prelude.{◌≡◌, ℕ, ◌+◌, ◌-◌, ◌^◌, ◌≤◌, ◌<◌, Ok, Err}
+use Rattle.std.specs.Prelude.{◌≡◌, ℕ, ◌+◌, ◌-◌, ◌*◌, ◌%◌, ◌^◌, ◌≤◌, ◌<◌, Ok, Err}
 use Rattle.bounds.specs.declared.good.GoodWidth.{GoodWidth}
 use Rattle.bounds.specs.declared.width.Width.{Width}
 use Rattle.bounds.specs.Refusals.{Answer, width_test, Decided}
@@ -12,6 +12,14 @@ smallest n = 1
 
 unfoldable pub nar_word : ℕ → ℕ
 nar_word n = 2 ^ (n - 1)
+
+-- as many ones as the width has bits
+abbrev pub ones : ℕ → ℕ
+ones n = 2 ^ n - 1
+
+-- a word at the top of 64 bits, with zeros behind it; a bit at or above the width is lost
+abbrev pub at_top : ℕ → ℕ → ℕ
+at_top n w = w * 2 ^ (64 - n) % 2 ^ 64
 
 -- v >= 1 and v + floor(log2 v) <= n - 4, L being floor(log2 v)
 pub record Within (n v : ℕ) : Type 0 where

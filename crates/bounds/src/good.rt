@@ -1,5 +1,5 @@
 // A width that has passed its test, from 2 to 64: what asks for one needs no test, and its words come with no refusal.
-ghost use Rattle.std.specs.Prelude.{◌≡◌, ◌-◌, ◌*◌, ◌%◌, ◌^◌, ◌≤◌};
+ghost use Rattle.std.specs.Prelude.{◌≡◌, ◌≤◌};
 
 use crate::refusal::Refusal;
 
@@ -12,11 +12,11 @@ pub struct GoodWidth {
 
 impl GoodWidth {
     ghost use Rattle.bounds.specs.Refusals.{stray_test};
-    ghost use Rattle.bounds.specs.Widths.{largest, nar_word};
+    ghost use Rattle.bounds.specs.Widths.{ones, largest, nar_word, at_top};
 
     // As many ones as the width has bits: the greatest number that is a word.
     pub fn ones(self) -> u64
-        ensures { result ≡ 2 ^ self.bits - 1 }
+        ensures { result ≡ ones self.bits }
     {
         u64::MAX >> (64 - self.bits)
     }
@@ -37,7 +37,7 @@ impl GoodWidth {
 
     // The word at the top of 64 bits, zeros behind it. Bits that the width doesn't have are lost.
     pub fn string(self, word: u64) -> u64
-        ensures { result ≡ word * 2 ^ (64 - self.bits) % 2 ^ 64 }
+        ensures { result ≡ at_top self.bits word }
     {
         word << (64 - self.bits)
     }

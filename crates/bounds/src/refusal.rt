@@ -19,7 +19,8 @@ pub enum Refusal {
 }
 
 impl Refusal {
-    // The number that the papers fix for the refusal.
+    // The number that the papers fix for the refusal. It is no discriminant of the enum: two that are equal, as in the wrong edits number_shared and
+    // number_of_stray, would not compile, and the contract would not be tried.
     pub fn number(self) -> u32
         ensures { result ≡ number_of self }
     {

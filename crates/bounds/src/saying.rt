@@ -12,7 +12,7 @@ pub enum Saying {
 }
 
 impl Saying {
-    // The number that stands for the saying in C and Rust.
+    // The number that stands for the saying in C and Rust. It is no discriminant of the enum, as a refusal's number is none (`Refusal::number`).
     pub fn number(self) -> u32
         ensures { result ≡ saying_number self }
     {

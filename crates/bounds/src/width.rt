@@ -31,7 +31,7 @@ impl Width {
         Ok(())
     }
 
-    // The width as one that needs no more tests.
+    // The width as one that needs no more tests. Every call begins with `width.good()?`, which says more than a TryFrom would.
     pub fn good(self) -> Result<GoodWidth, Refusal>
         ensures { IsGood self.bits result }
     {
@@ -46,7 +46,7 @@ impl Width {
         self.good()?.test_word(word)
     }
 
-    // A width of a number.
+    // A width of a number: a constructor, whose name the wrong edit new_makes_one_width has, and no TryFrom.
     pub fn new(bits: u32) -> Result<Width, Refusal>
         ensures { Makes bits result }
     {
@@ -94,7 +94,7 @@ fn limit_exponent(n: u32) -> u32
         return 0;
     }
     let room = n - 4;
-    let log = 31 - u32::leading_zeros(room);
+    let log = room.ilog2();
     let v = room - log;
     if v + 1 < 1 << log {
         return v + 1;

@@ -1,19 +1,16 @@
 -- The size in the normal form is the kind of a reading with 63 fraction bits: what a word means has one, and its exponent is from -255 to 254. Assumes nothing.
-use Rattle.std.specs.Prelude.{Err}
-use Rattle.bounds.specs.Refusals.{passed}
 use mathlib.Core.Path.{◌≡◌, refl, sym, ap, ◌∙◌, subst}
 use Prim.Native.Nat.{ℕ, ◌+◌, ◌-◌, ◌*◌, ◌^◌, ◌≤◌}
-use native.Mathlib.Omega.{arith}
 use lib.Dec.{ltb}
 use lib.IntN.{ℤ, pos}
 use lib.Signed.{mag}
-use Rattle.bounds.specs.Refusals.{word_test, IsWord, through, refused}
+use Rattle.bounds.specs.Refusals.{IsWord}
 use Rattle.word.specs.declared.reading.Kind.{Kind}
 use Rattle.sizes.specs.declared.size.Size.{Size}
 use Rattle.sizes.specs.declared.size.WordSize.{WordSize}
-use Rattle.word.specs.Takum.{Takum, real, NaR, takum, p, F, c}
+use Rattle.word.specs.Takum.{Takum, takum, p, F, c}
 use Rattle.word.specs.Reads.{IsNumber, IsKind}
-use Rattle.sizes.specs.Sizes.{without_sign, IsWordSize, ReadsSize}
+use Rattle.sizes.specs.Sizes.{without_sign, IsWordSize}
 use Rattle.word.proofs.Words.{takum_zero, takum_NaR}
 use Rattle.word.proofs.Numbers.{characteristic_of_string}
 use Rattle.sizes.proofs.Tops.{word_number}
@@ -24,56 +21,33 @@ kind_of : WordSize → Kind
 kind_of WordSize.Zero = Kind.Zero
 kind_of WordSize.Nar = Kind.Nar
 kind_of (WordSize.Number s) = Kind.Number s.negative s.h s.m 63
-kind_of (Err q) = Err q
 
 size_of : Kind → WordSize
 size_of Kind.Zero = WordSize.Zero
 size_of Kind.Nar = WordSize.Nar
 size_of (Kind.Number negative h m p) = WordSize.Number (record { negative = negative; h = h; m = m })
-size_of (Err q) = Err q
 
 back : (a : WordSize) → size_of (kind_of a) ≡ a
 unfolding kind_of size_of
 back WordSize.Zero = refl
 back WordSize.Nar = refl
 back (WordSize.Number s) = refl
-back (Err q) = refl
 
 reads : (t : Takum) (a : WordSize) → IsWordSize t a → IsKind t 63 (kind_of a)
 unfolding IsWordSize IsKind kind_of
 reads t WordSize.Zero x = x
 reads t WordSize.Nar x = x
 reads t (WordSize.Number s) x = x
-reads t (Err q) x = x
 
 -- two sizes of one meaning are the same
 pub word_size_one : (t : Takum) (a b : WordSize) → IsWordSize t a → IsWordSize t b → a ≡ b
 word_size_one t a b x y = sym (back a) ∙ ap size_of (kind_one t 63 (kind_of a) (kind_of b) (reads t a x) (reads t b y)) ∙ back b
-
--- what an answer of `read_size` tells of the word
-unfoldable pub TellsWord : ℕ → ℕ → WordSize → Type 0
-TellsWord n w WordSize.Zero = (word_test n w ≡ passed) × (takum n w ≡ real (pos 0))
-TellsWord n w WordSize.Nar = (word_test n w ≡ passed) × (takum n w ≡ NaR)
-TellsWord n w (WordSize.Number s) = (word_test n w ≡ passed) × IsNumber (takum n w) 63 s.negative s.h s.m 63
-TellsWord n w (Err q) = word_test n w ≡ Err q
-
-pub tells : (n w : ℕ) (a : WordSize) → ReadsSize n w a → TellsWord n w a
-unfolding ReadsSize IsWordSize TellsWord
-tells n w WordSize.Zero (through h x) = (h, x)
-tells n w WordSize.Zero (refused h x) = let z : ◌≡◌ {A = ℕ} 0 1 = cc in absurd (omega arith)
-tells n w WordSize.Nar (through h x) = (h, x)
-tells n w WordSize.Nar (refused h x) = let z : ◌≡◌ {A = ℕ} 0 1 = cc in absurd (omega arith)
-tells n w (WordSize.Number s) (through h x) = (h, x)
-tells n w (WordSize.Number s) (refused h x) = let z : ◌≡◌ {A = ℕ} 0 1 = cc in absurd (omega arith)
-tells n w (Err q) (through h x) = absurd x
-tells n w (Err q) (refused h x) = cc
 
 -- the exponent is a characteristic
 exponent : WordSize → ℤ
 exponent WordSize.Zero = pos 0
 exponent WordSize.Nar = pos 0
 exponent (WordSize.Number s) = s.h
-exponent (Err q) = pos 0
 
 module _ (n w : ℕ) (i : IsWord n w) (s : Size) (x : IsNumber (takum n w) 63 s.negative s.h s.m 63) where
   T : ℕ

@@ -14,6 +14,8 @@ pub struct Size {
     pub m: u64,
 }
 
+// The same as a reading's `Kind`, with a size in place of its number. They are two enums: one for both would name the type of its number wherever it is
+// taken, where these say by their names what was asked for.
 #[derive(Clone, Copy)]
 pub enum WordSize {
     Zero,

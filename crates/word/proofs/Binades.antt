@@ -1,6 +1,5 @@
 -- A size has one exponent and one significand of a given length: m 2^k = m' 2^k' with m and m' both from 2^p up to 2^(p + 1) leaves m = m' and
 -- k = k'. So a reading is determined by what it means. Assumes nothing.
-use Rattle.std.specs.Prelude.{Err}
 use mathlib.Core.Path.{◌≡◌, refl, sym, ap, ap₂, ◌∙◌, subst}
 use mathlib.Core.Bool.{Bool, true, false}
 use Prim.Native.Nat.{ℕ, zero, suc, ◌+◌, ◌*◌, ◌^◌, ◌≤◌, ◌<◌}
@@ -11,9 +10,10 @@ use lib.Pow.{pow_pos, pow-add, pow_mono}
 use Rattle.word.specs.declared.reading.Kind.{Kind}
 use Rattle.word.specs.declared.reading.Reading.{Reading}
 use Rattle.word.specs.Takum.{Takum, real, NaR, takum, fraction_bits, own_fraction_bits}
-use Rattle.word.specs.Reads.{num, den, IsSize, signed_size, IsNumber, IsKind, IsReading, refused_reading, Reads}
+use Rattle.word.specs.Reads.{num, den, IsSize, signed_size, IsNumber, IsKind, IsReading, Reads}
+use Rattle.bounds.specs.Refusals.{Answer}
 use Rattle.bounds.proofs.Powers.{not_more}
-use Rattle.bounds.proofs.Verdicts.{decided_one}
+use Rattle.bounds.proofs.Verdicts.{value_of_one}
 use Rattle.word.proofs.Values.{real_inj, not_NaR}
 
 -- 2^k as 2^up / 2^down
@@ -144,25 +144,21 @@ module _ (t : Takum) (k : ℕ) where
   kind_one Kind.Zero Kind.Zero x y = refl
   kind_one Kind.Zero Kind.Nar x y = absurd (not_NaR (pos 0) (sym x ∙ y))
   kind_one Kind.Zero (Kind.Number s h m p) x y = absurd (number_not_zero s h m p y x)
-  kind_one Kind.Zero (Err q) x y = absurd y
   kind_one Kind.Nar Kind.Zero x y = absurd (not_NaR (pos 0) (sym y ∙ x))
   kind_one Kind.Nar Kind.Nar x y = refl
   kind_one Kind.Nar (Kind.Number s h m p) x y = absurd (number_not_NaR s h m p y x)
-  kind_one Kind.Nar (Err q) x y = absurd y
   kind_one (Kind.Number s h m p) Kind.Zero x y = absurd (number_not_zero s h m p x y)
   kind_one (Kind.Number s h m p) Kind.Nar x y = absurd (number_not_NaR s h m p x y)
   kind_one (Kind.Number s h m p) (Kind.Number s' h' m' p') x y = numbers_one s s' h h' m m' p p' x y
-  kind_one (Kind.Number s h m p) (Err q) x y = absurd y
-  kind_one (Err q) b x y = absurd x
 
   -- two readings of one meaning, equally fine, are the same
   pub reading_one : (o : ℕ) (a b : Reading) → IsReading t k o a → IsReading t k o b → a ≡ b
   reading_one o a b x y = λ j. record { kind = kind_one a.kind b.kind x.what y.what j; own = (x.fine ∙ sym y.fine) j }
 
 -- what reading answers is one thing
-pub reads_one : (n w : ℕ) (a b : Reading) → Reads n w a → Reads n w b → a ≡ b
+pub reads_one : (n w : ℕ) (a b : Answer Reading) → Reads n w a → Reads n w b → a ≡ b
 unfolding Reads
-reads_one n w = decided_one refused_reading (IsReading (takum n w) (fraction_bits n w) (own_fraction_bits n w)) (reading_one (takum n w) (fraction_bits n w) (own_fraction_bits n w))
+reads_one n w = value_of_one (IsReading (takum n w) (fraction_bits n w) (own_fraction_bits n w)) (reading_one (takum n w) (fraction_bits n w) (own_fraction_bits n w))
 
 -- a reading has one meaning
 pub meaning_one : (t u : Takum) (k l : ℕ) (a : Kind) → IsKind t k a → IsKind u l a → t ≡ u
@@ -170,4 +166,3 @@ unfolding IsKind
 meaning_one t u k l Kind.Zero x y = x ∙ sym y
 meaning_one t u k l Kind.Nar x y = x ∙ sym y
 meaning_one t u k l (Kind.Number s h m p) x y = x.means ∙ ap (λ (v : ℕ). real (signed_size s v)) (value_one m (h -ℤ pos p) x.v y.v x.size y.size) ∙ sym y.means
-meaning_one t u k l (Err q) x y = absurd x

@@ -1,5 +1,5 @@
 -- A word as a two's complement number, and its negation, by where it lies. Assumes nothing.
-use mathlib.Core.Path.{◌≡◌, refl, sym, ap, ap₂, ◌∙◌}
+use mathlib.Core.Path.{◌≡◌, refl, sym, ap, ◌∙◌}
 use mathlib.Core.Bool.{Bool, true, false, cond}
 use Prim.Native.Nat.{ℕ, zero, suc, ◌+◌, ◌-◌, ◌%◌, ◌^◌, ◌≤◌, ◌<◌}
 use native.Mathlib.Nat.{sub-zero, mod_self, mod-eq_of_lt, zero-add, sub-add_cancel}
@@ -9,9 +9,6 @@ use lib.Dec.{ltb}
 use lib.IntN.{ℤ, pos, negsuc, ◌+ℤ◌, ◌-ℤ◌}
 use lib.Pow.{pow_pos}
 use lib.Signed.{lt_z, mag}
-use mir.Facts.{to_z-of_z}
-use mir.Syntax.{Width}
-use mir.Val.{SFits, to_z, of_z}
 use Rattle.word.specs.Orders.{signed, order, negated}
 use Rattle.word.proofs.Integers.{pos_sub}
 
@@ -40,10 +37,6 @@ negated_other n w h b = mod-eq_of_lt (omega (arith, pow_pos n))
 pub minus_one_less : (x : ℕ) → negsuc 0 -ℤ pos x ≡ negsuc x
 minus_one_less zero = refl
 minus_one_less (suc x) = ap (λ (n : ℕ). negsuc (suc n)) (zero-add x)
-
--- a test of two numbers as the machine holds them
-pub machine_lt : {w : Width} {x y : ℤ} {b : Bool} → SFits w x → SFits w y → lt_z (to_z w (of_z w x)) (to_z w (of_z w y)) ≡ b → lt_z x y ≡ b
-machine_lt fx fy h = sym (ap₂ lt_z (to_z-of_z fx) (to_z-of_z fy)) ∙ h
 
 pub order_below : (x y : ℤ) → lt_z x y ≡ true → order x y ≡ negsuc 0
 unfolding order

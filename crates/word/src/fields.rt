@@ -34,6 +34,7 @@ pub(crate) fn regime_of(t: u64) -> u32
     regime(direction(t), low_bits(t >> 59, 3))
 }
 
+// A number and no bool: it is the letter D, of which the definitions of the regime and of the characteristic speak.
 fn direction(t: u64) -> u64
     ensures { result ≡ Takum.D 64 t }
 {

@@ -50,7 +50,7 @@ pub fn read(width: Width, word: u64) -> Result<Reading, Refusal>
             own: 0,
         });
     }
-    // Below 12 bits zeros are appended.
+    // How long the word's string is: below 12 bits zeros are appended.
     let length = good.bits.max(12);
     Ok(Reading {
         kind: number(length, string),

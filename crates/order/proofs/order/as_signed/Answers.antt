@@ -1,6 +1,6 @@
 -- `as_signed` meets its contract: below half the words the number is the word, above it is the word less 2^n. Assumes nothing.
 use mathlib.Core.Path.{◌≡◌, sym, ap, ◌∙◌, subst}
-use Prim.Native.Nat.{ℕ, ◌-◌, ◌*◌, ◌%◌, ◌^◌, ◌≤◌, ◌<◌}
+use Prim.Native.Nat.{ℕ, ◌-◌, ◌^◌, ◌≤◌, ◌<◌}
 use native.Mathlib.Nat.{lt_of_lt_of_le}
 use native.Mathlib.Omega.{arith}
 use lib.Pow.{pow_mono, pow_pos}
@@ -48,9 +48,6 @@ returns-then-word-nar c = to_z_pos w64 (small _ _ c.requires (below c)) ∙ sym 
 
 pub overflow_cast-result-2 : goal.overflow_cast-result-2
 overflow_cast-result-2 c = record { sfits = gap _ _ _ c.ones.ensures c.requires (from_half c) }
-
-pub overflow_sub-result-2 : goal.overflow_sub-result-2
-overflow_sub-result-2 c = high_fits _ _ _ c.ones.ensures c.requires (from_half c)
 
 pub returns : goal.returns
 returns c = high _ _ _ c.ones.ensures c.requires (from_half c)

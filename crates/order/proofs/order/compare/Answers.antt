@@ -1,35 +1,43 @@
--- `compare` meets its contract: a verdict that refuses is the answer, and one that lets both words through is followed by the order of their numbers. Assumes nothing.
-use Rattle.bounds.specs.Refusals.{passed}
-use mathlib.Core.Path.{◌≡◌, refl, sym, ap, ap₂, ◌∙◌}
+-- `compare` meets its contract: the first test that refuses is the answer, and words that both pass are followed by the order of their numbers. Assumes nothing.
+use mathlib.Core.Path.{refl, sym, ap, ap₂, ◌∙◌}
 use Prim.Native.Nat.{ℕ}
-use borrow.Author.Rules.{rules, sfits_of}
 use mir.Facts.{to_z-of_z}
-use mir.Syntax.{w32, w64}
-use Rattle.word.specs.Orders.{order}
+use mir.Syntax.{w64}
+use borrow.Author.Rules.{rules, sfits_of}
+use Rattle.std.specs.Prelude.{Ok}
+use Rattle.std.specs.Ordering.{int_cmp}
+use Rattle.bounds.specs.Refusals.{through}
+use Rattle.bounds.proofs.Goods.{good_refused, word_good, word_refused}
+use Rattle.bounds.proofs.Verdicts.{handed_on}
+use Rattle.word.specs.Orders.{signed}
 use Rattle.order.specs.Orders.{Compares}
-use Rattle.bounds.specs.Refusals.{width_test, stray_test, word_test, ◌then◌, IsWord, through, refused}
-use Rattle.bounds.proofs.Verdicts.{once, told_two, words_through}
 use Rattle.order.proofs.order.compare.Goals as goal
 
--- the verdict as the tests in their order
-told : (n x y : ℕ) {a b v u : Verdict} → a ≡ word_test n x → b ≡ word_test n y → v ≡ a then b → v ≡ u → word_test n x then stray_test n y ≡ u
-told n x y e f g h = sym (once (width_test n) (stray_test n x) (stray_test n y)) ∙ told_two e f g h
-
--- what is known once the verdict has let the words through
-words_in : (n x y : ℕ) {a b v : Verdict} → a ≡ word_test n x → b ≡ word_test n y → v ≡ a then b → v ≡ passed → IsWord n x × IsWord n y
-words_in n x y e f g h = words_through n x y (told n x y e f g h)
-
-pub returns-in-Refused : goal.returns-in-Refused
+pub returns-in_err-good : goal.returns-in_err-good
 unfolding Compares
-returns-in-Refused c = refused (told _ _ _ c.test_word.ensures c.test_word-2.ensures c.then-verdict.ensures c.in-Refused.is) refl
+returns-in_err-good c = handed_on _ _ c.from_residual.ensures.1 (rw (good_refused _ _ c.in_err-good.ensures) refl)
+
+pub returns-in_err-test_word : goal.returns-in_err-test_word
+unfolding Compares
+returns-in_err-test_word c = handed_on _ _ c.from_residual-in_err-test_word.ensures.1 (rw (word_refused _ _ _ _ c.in_ok-good.ensures c.in_err-test_word.ensures) refl)
+
+pub returns-in_err-test_word-2 : goal.returns-in_err-test_word-2
+unfolding Compares
+returns-in_err-test_word-2 c = let t = word_good _ _ _ c.in_ok-good.ensures c.in_ok-test_word.ensures in
+    handed_on _ _ c.from_residual-in_err-test_word-2.ensures.1 (rw (← t.2, t.1) (sym c.in_err-test_word-2.ensures))
 
 -- both are words, whichever is asked for: words in the wrong order would be refused where the answer is given and not here
 pub as_signed-requires : goal.as_signed-requires
-as_signed-requires c = let i = words_in _ _ _ c.test_word.ensures c.test_word-2.ensures c.then-verdict.ensures c.in_default.is in let x = i.0 in let y = i.1 in search rules
+as_signed-requires c = let x = (word_good _ _ _ c.in_ok-good.ensures c.in_ok-test_word.ensures).0 in
+    let y = (word_good _ _ _ c.in_ok-good.ensures c.in_ok-test_word-2.ensures).0 in
+    search rules
 
 pub as_signed-requires-2 : goal.as_signed-requires-2
-as_signed-requires-2 c = let i = words_in _ _ _ c.test_word.ensures c.test_word-2.ensures c.then-verdict.ensures c.in_default.is in let x = i.0 in let y = i.1 in search rules
+as_signed-requires-2 c = let x = (word_good _ _ _ c.in_ok-good.ensures c.in_ok-test_word.ensures).0 in
+    let y = (word_good _ _ _ c.in_ok-good.ensures c.in_ok-test_word-2.ensures).0 in
+    search rules
 
 pub returns : goal.returns
 unfolding Compares
-returns c = through (told _ _ _ c.test_word.ensures c.test_word-2.ensures c.then-verdict.ensures c.in_default.is) (ap Comparison.Is (to_z-of_z {w = w32} (sfits_of c.sign_of_difference.type_inv) ∙ c.sign_of_difference.ensures ∙ ap₂ order (to_z-of_z {w = w64} (sfits_of c.as_signed.type_inv) ∙ c.as_signed.ensures) (to_z-of_z {w = w64} (sfits_of c.as_signed-2.type_inv) ∙ c.as_signed-2.ensures)))
+returns c = let t = word_good _ _ _ c.in_ok-good.ensures c.in_ok-test_word.ensures in
+    through (rw (← t.2, t.1) (sym c.in_ok-test_word-2.ensures)) (ap Ok (c.cmp.ensures ∙ ap₂ int_cmp (to_z-of_z {w = w64} (sfits_of c.as_signed.type_inv) ∙ c.as_signed.ensures ∙ ap (λ (n : ℕ). signed n c.args.x) t.2) (to_z-of_z {w = w64} (sfits_of c.as_signed-2.type_inv) ∙ c.as_signed-2.ensures ∙ ap (λ (n : ℕ). signed n c.args.y) t.2)))

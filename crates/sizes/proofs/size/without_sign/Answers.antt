@@ -11,4 +11,4 @@ returns-then-t c = rw (lt-ltb _ _ c.if-t.true) refl
 
 pub returns : goal.returns
 unfolding without_sign
-returns c = rw (le-ltb _ _ c.if-t.false) (omega (arith, c.if-t.false, c.ranges.t.fits))
+returns c = rw (le-ltb _ _ c.if-t.false) (omega (arith, c.if-t.false, c.ranges.t.fits, c.wrapping_neg.ensures, c.wrapping_neg.type_inv))

@@ -66,32 +66,8 @@ module _ (r b : ℕ) (seven : r ≤ 7) (fits : b < 2 ^ r) where
     unfolding characteristic_of
     below d f = to_z-of_z below_fits ∙ less ∙ sym (rw (ne_eqb d 1 f) (ap (λ (n : ℕ). pos (b + 1) -ℤ pos n) (sym is)))
 
-pub overflow_cast-result : goal.overflow_cast-result
-overflow_cast-result c = record { sfits = small_power _ _ c.requires.0 c.requires.1 _ c.power_of_two.ensures }
-
-pub overflow_sub-result : goal.overflow_sub-result
-overflow_sub-result c = first_fits _ _ c.requires.0 c.requires.1 _ c.power_of_two.ensures
-
-pub overflow_cast-result-then-direction-eq1 : goal.overflow_cast-result-then-direction-eq1
-overflow_cast-result-then-direction-eq1 c = record { sfits = b_small _ _ c.requires.0 c.requires.1 }
-
-pub overflow_add-result : goal.overflow_add-result
-overflow_add-result c = sum_fits _ _ c.requires.0 c.requires.1 _ c.power_of_two.ensures
-
 pub returns-then-direction-eq1 : goal.returns-then-direction-eq1
 returns-then-direction-eq1 c = above _ _ c.requires.0 c.requires.1 _ c.power_of_two.ensures _ c.if-direction-eq1.true
-
-pub overflow_cast-result-2 : goal.overflow_cast-result-2
-overflow_cast-result-2 c = record { sfits = b_small _ _ c.requires.0 c.requires.1 }
-
-pub overflow_add-result-2 : goal.overflow_add-result-2
-overflow_add-result-2 c = next_fits _ _ c.requires.0 c.requires.1
-
-pub overflow_cast-result-3 : goal.overflow_cast-result-3
-overflow_cast-result-3 c = record { sfits = small_next _ _ c.requires.0 c.requires.1 _ c.power_of_two-2.ensures }
-
-pub overflow_sub-result-2 : goal.overflow_sub-result-2
-overflow_sub-result-2 c = below_fits _ _ c.requires.0 c.requires.1 _ c.power_of_two-2.ensures
 
 pub returns : goal.returns
 returns c = below _ _ c.requires.0 c.requires.1 _ c.power_of_two-2.ensures _ c.if-direction-eq1.false

@@ -17,8 +17,5 @@ left c = or_zero_lem _ _ ∙ ap (λ (k : ℕ). c.args.n - (k + 5)) (sym c.regime
 pub overflow_add-others : goal.overflow_add-others
 overflow_add-others c = record { fits = omega (arith, regime_small c) }
 
-pub returns-then-n-others : goal.returns-then-n-others
-returns-then-n-others c = sym (left c.before ∙ omega (arith, c.if-n-others.true))
-
 pub returns : goal.returns
-returns c = sym (left c.before)
+returns c = c.saturating_sub.ensures ∙ sym (left c.before)

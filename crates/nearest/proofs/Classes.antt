@@ -13,7 +13,7 @@ use Rattle.word.specs.Reads.{num, den}
 use Rattle.word.proofs.Units.{unit_some}
 use Rattle.word.proofs.Numbers.{characteristic_of_string}
 use Rattle.nearest.specs.declared.size.Rest.{Rest}
-use Rattle.nearest.specs.declared.size.Start.{Start}
+use Rattle.nearest.specs.declared.start.Start.{Start}
 use Rattle.nearest.specs.Offers.{Amounts, IsOffered, IsNearest}
 use Rattle.nearest.specs.Parts.{Begins, first_bits, IsRaised, chosen_of}
 use Rattle.nearest.proofs.Exponents.{raise}
@@ -61,14 +61,14 @@ some_size m rest k = (
 -- ---- and has a nearest word
 module _ (n : ℕ) (lo : 2 ≤ n) (hi : n ≤ 64) (m : ℕ) (rest : Rest) (full : 2 ^ 63 ≤ m) (top : m < 2 ^ 64) where
   -- ---- inside the range
-  module _ (h : ℤ) (e : ℕ) (start : Start) (is : IsRaised h e) (begins : Begins h start) (v : ℕ) (v_is : v ≡ first_bits start m / 2 ^ (64 - n)) where
+  module _ (h : ℤ) (e : ℕ) (start : Start) (is : IsRaised h e) (begins : Begins h start.bits start.r) (v : ℕ) (v_is : v ≡ first_bits start m / 2 ^ (64 - n)) where
     between : zero < v → suc v < 2 ^ (n - 1) → Dec (n < 5 + start.r) → (w : ℕ) × IsNearest n h m rest w
     unfolding IsRaised
     between first room (yes short) =
         let g = given n lo hi h e m rest start is begins full top v v_is first room in
         let i = raise (c 64 (v * 2 ^ (64 - n))) (characteristic_of_string 64 (v * 2 ^ (64 - n))) in
         let j = raise (c 64 ((v + 1) * 2 ^ (64 - n))) (characteristic_of_string 64 ((v + 1) * 2 ^ (64 - n))) in
-        let t = powers_side i.0 j.0 e m rest (lower_lt n v e m start g short i.0 j.0 i.1 j.1) (gap_le n v e m start g short i.0 j.0 i.1 j.1) (under_upper n v e m start g short i.0 j.0 i.1 j.1) full top in
+        let t = powers_side i.0 j.0 e m rest full top (lower_lt n v e m start g short i.0 j.0 i.1 j.1) (gap_le n v e m start g short i.0 j.0 i.1 j.1) (under_upper n v e m start g short i.0 j.0 i.1 j.1) in
         (chosen_of v t.0, by_powers n lo hi h e m rest start is begins full top v v_is first room i.0 j.0 short i.1 j.1 (chosen_of v t.0) t.0 t.1 refl)
     between first room (no f) =
         let x = cut_chooses v (m * 2 ^ (n - start.r - 4) % 2 ^ 64) rest in

@@ -1,6 +1,6 @@
 -- Exponents raised by 255, and what a unit of the offered significand is worth beside a power of two. Assumes nothing.
 use mathlib.Core.Path.{◌≡◌, refl, sym, ap, ◌∙◌}
-use mathlib.Core.Bool.{Bool, true, false, cond, true≢false}
+use mathlib.Core.Bool.{Bool, true, false, cond, ◌&&◌, true≢false}
 use Prim.Native.Nat.{ℕ, suc, ◌+◌, ◌-◌, ◌*◌, ◌^◌, ◌≤◌, ◌<◌}
 use native.Mathlib.Nat.{mul-one, mul_comm}
 use native.Mathlib.Omega.{arith}
@@ -8,12 +8,16 @@ use borrow.Author.Tests.{lt-ltb, le-ltb, ltb-true, ltb-false}
 use lib.Dec.{ltb}
 use lib.IntN.{ℤ, pos, negsuc, nat_abs, ◌+ℤ◌, ◌-ℤ◌, +ℤ_assoc, +ℤ_idr, +ℤ-neg_ℤ_cancel, pos-ne-negsuc}
 use lib.Pow.{pow-add}
-use lib.Signed.{mag, lt_z}
+use lib.Signed.{mag}
+use Rattle.std.specs.declared.cmp.Ordering.{Ordering}
+use Rattle.std.specs.Ordering.{is_le, is_lt, int_cmp}
+use mir.Syntax.{w64}
+use mir.Val.{SFits}
 use Rattle.word.specs.Reads.{num, den}
 use Rattle.bounds.proofs.Powers.{pow_sum}
 use Rattle.word.proofs.Integers.{balance, sub_add}
 use Rattle.word.proofs.Signed.{difference}
-use Rattle.nearest.specs.Parts.{IsRaised, TellsCharacteristic}
+use Rattle.nearest.specs.Parts.{IsRaised}
 
 pub raise : (h : ℤ) → mag h ≤ 254 → (e : ℕ) × (h +ℤ pos 255 ≡ pos e) × (e < 510)
 raise (pos n) b = (n + 255, refl, omega (arith, b))
@@ -51,15 +55,33 @@ offset_up i = sub_add (pos i) (pos 63) (pos 307) ∙ difference (i + 307) 63 (om
 pub offset_down : (i : ℕ) → 244 ≤ i → negsuc i -ℤ pos 63 +ℤ pos 307 ≡ negsuc (i - 244)
 offset_down i h = sub_add (negsuc i) (pos 63) (pos 307) ∙ +ℤ_assoc (negsuc i) (pos 307) (negsuc 62) ∙ rw (lt-ltb 244 (suc i) (omega (arith, h))) (ap negsuc (omega (arith, h)))
 
--- what the tests for the ends tell
-pub before_all : (h : ℤ) → lt_z h (negsuc 254) ≡ true → TellsCharacteristic h false
-unfolding TellsCharacteristic
-before_all (pos i) t = absurd (true≢false (sym t))
-before_all (negsuc i) t = ltb-true 254 i t
+-- what the test of the range tells
+abbrev pub is_inside : ℤ → Bool
+is_inside h = is_le (int_cmp (negsuc 254) h) && is_lt (int_cmp h (pos 255))
 
-pub by_last : (h : ℤ) → lt_z h (negsuc 254) ≡ false → (b : Bool) → lt_z h (pos 255) ≡ b → TellsCharacteristic h b
-unfolding TellsCharacteristic
-by_last (pos i) s true t = omega (arith, ltb-true i 255 t)
-by_last (pos i) s false t = omega (arith, ltb-false i 255 t)
-by_last (negsuc i) s true t = ltb-false 254 i s
-by_last (negsuc i) s false t = absurd (true≢false t)
+under : (a b : Bool) → is_lt (cond a Ordering.Less (cond b Ordering.Greater Ordering.Equal)) ≡ a
+under true b = refl
+under false true = refl
+under false false = refl
+
+pub inside_tells : (h : ℤ) → is_inside h ≡ true → mag h ≤ 254
+inside_tells (pos i) t = omega (arith, ltb-true i 255 (sym (under (ltb i 255) (ltb 255 i)) ∙ t))
+inside_tells (negsuc i) t = by (ltb i 254) (ltb 254 i) refl refl t
+  where
+    by : (a b : Bool) → ltb i 254 ≡ a → ltb 254 i ≡ b → is_le (cond a Ordering.Less (cond b Ordering.Greater Ordering.Equal)) && true ≡ true → i ≤ 254
+    by true b p q t = omega (arith, ltb-true i 254 p)
+    by false true p q t = absurd (true≢false (sym t))
+    by false false p q t = ltb-false 254 i q
+
+pub outside_tells : (h : ℤ) → is_inside h ≡ false → 254 < mag h
+outside_tells (pos i) t = omega (arith, ltb-false i 255 (sym (under (ltb i 255) (ltb 255 i)) ∙ t))
+outside_tells (negsuc i) t = by (ltb i 254) (ltb 254 i) refl refl t
+  where
+    by : (a b : Bool) → ltb i 254 ≡ a → ltb 254 i ≡ b → is_le (cond a Ordering.Less (cond b Ordering.Greater Ordering.Equal)) && true ≡ false → 254 < i
+    by true b p q t = absurd (true≢false t)
+    by false true p q t = ltb-true 254 i q
+    by false false p q t = absurd (true≢false t)
+
+-- the machine holds one
+pub small_fits : (h : ℤ) → mag h ≤ 254 → SFits w64 h
+small_fits h small = record { sfits = omega (arith, small) }

@@ -13,7 +13,7 @@ use Rattle.bounds.proofs.Powers.{pow_sum, shl_below}
 use Rattle.word.proofs.Sizes.{size, size_le}
 use Rattle.word.proofs.Values.{grown, grown_suc}
 use Rattle.nearest.specs.declared.size.Rest.{Rest}
-use Rattle.nearest.specs.declared.size.Side.{Side}
+use Rattle.std.specs.declared.cmp.Ordering.{Ordering}
 use Rattle.nearest.specs.Offers.{Amounts, IsOffered}
 use Rattle.nearest.specs.Parts.{TellsSide, TellsHalf}
 use Rattle.nearest.proofs.Exponents.{unit_law}
@@ -235,7 +235,7 @@ module _ (h : ℤ) (raised bits P K : ℕ) (binade : Binade h raised bits P K) (
               by (inr some_rest) = lt_of_le_of_lt (mul-le-mul_right unit (omega (arith, parts))) (past_unit m rest unit (a * den x) unit_is_some amounts some_rest)
 
           -- the bits that are cut off against their half tell the size against the midpoint
-          pub fine_side : (side : Side) → TellsHalf (m % 2 ^ (63 - P + (64 - n))) (2 ^ (62 - P + (64 - n))) rest side → TellsSide side (2 * a) ((grown n (floor_string bits P m / 2 ^ (64 - n)) + grown n (suc (floor_string bits P m / 2 ^ (64 - n)))) * b)
+          pub fine_side : (side : Ordering) → TellsHalf (m % 2 ^ (63 - P + (64 - n))) (2 ^ (62 - P + (64 - n))) rest side → TellsSide side (2 * a) ((grown n (floor_string bits P m / 2 ^ (64 - n)) + grown n (suc (floor_string bits P m / 2 ^ (64 - n)))) * b)
           unfolding TellsHalf cut Q
           fine_side side t =
               cancel side (den x) (2 * a) ((grown n (floor_string bits P m / 2 ^ (64 - n)) + grown n (suc (floor_string bits P m / 2 ^ (64 - n)))) * b) (unit_some x).1

@@ -1,6 +1,5 @@
 -- An exact size (m + rest) units, rest being below one unit, against a half and against the midpoint of two powers of two. Assumes nothing.
 use mathlib.Core.Path.{◌≡◌, refl, sym, ap, ◌∙◌, subst}
-use mathlib.Core.Bool.{true, false, true≢false}
 use Prim.Native.Nat.{ℕ, zero, ◌+◌, ◌-◌, ◌*◌, ◌^◌, ◌≤◌, ◌<◌}
 use native.Mathlib.Nat.{mul-le-mul_right, mul-lt-mul_of_pos_right, mul_right_comm, lt_of_mul-lt-mul_right, eq_of_mul-eq-mul_right, one-mul, mod-lt, le_antisymm}
 use native.Mathlib.Decide.{dec_lt}
@@ -9,9 +8,11 @@ use lib.Dec.{lit≤}
 use lib.Pow.{pow_pos, pow-add, pow_mono}
 use Rattle.bounds.proofs.Powers.{pow_sum, not_more}
 use Rattle.nearest.specs.declared.size.Rest.{Rest}
-use Rattle.nearest.specs.declared.size.Side.{Side}
+use Rattle.std.specs.declared.cmp.Ordering.{Ordering}
+use Rattle.std.specs.Ordering.{MatchOrdering, nat_cmp, ordering_then}
+use Rattle.std.proofs.lemmas.Cmp.{ranked}
 use Rattle.nearest.specs.Offers.{Amounts}
-use Rattle.nearest.specs.Parts.{TellsSide, TellsHalf, TellsPowers, chosen_of, margin_of, ChoosesByCut, is_none}
+use Rattle.nearest.specs.Parts.{TellsSide, TellsHalf, TellsPowers, chosen_of, margin_of, ChoosesByCut}
 
 -- the size lies from m units up to m + 1
 pub record Within (m unit a : ℕ) : Type 0 where
@@ -28,16 +29,6 @@ within m Rest.OverHalf unit a h x = record { low = omega (arith, x.0); high = x.
 neither : (x y : ℕ) → ¬ (x < y) → ¬ (y < x) → y ≡ x
 neither x y f g = le_antisymm (not_more f) (not_more g)
 
--- a rest is none, or isn't
-pub no_rest : (rest : Rest) → is_none rest ≡ true → rest ≡ Rest.Nothing
-no_rest Rest.Nothing q = refl
-no_rest Rest.UnderHalf q = absurd (true≢false (sym q))
-no_rest Rest.Half q = absurd (true≢false (sym q))
-no_rest Rest.OverHalf q = absurd (true≢false (sym q))
-
-pub some_rest : (rest : Rest) → is_none rest ≡ false → rest ≡ Rest.Nothing → ⊥
-some_rest rest q e = true≢false (sym (ap is_none e) ∙ q)
-
 -- with any rest it is more than m units
 pub past_unit : (m : ℕ) (rest : Rest) (unit a : ℕ) → zero < unit → Amounts m rest a unit → (rest ≡ Rest.Nothing → ⊥) → m * unit < a
 unfolding Amounts
@@ -47,15 +38,15 @@ past_unit m Rest.Half unit a some x f = omega (arith, x, some)
 past_unit m Rest.OverHalf unit a some x f = omega (arith, x.0, some)
 
 -- ---- against a half
-pub half_below : (beyond half : ℕ) (rest : Rest) → beyond < half → TellsHalf beyond half rest Side.Under
+pub half_below : (beyond half : ℕ) (rest : Rest) → beyond < half → TellsHalf beyond half rest Ordering.Less
 unfolding TellsHalf TellsSide
 half_below beyond half rest l = λ base unit a h x. let w = within (base + beyond) rest unit a h x in omega (arith, w.high, mul-le-mul_right unit l)
 
-pub half_above : (beyond half : ℕ) (rest : Rest) → half < beyond → TellsHalf beyond half rest Side.Over
+pub half_above : (beyond half : ℕ) (rest : Rest) → half < beyond → TellsHalf beyond half rest Ordering.Greater
 unfolding TellsHalf TellsSide
 half_above beyond half rest l = λ base unit a h x. let w = within (base + beyond) rest unit a h x in omega (arith, w.low, mul-le-mul_right unit l, h)
 
-pub half_midway : (beyond half : ℕ) → beyond ≡ half → TellsHalf beyond half Rest.Nothing Side.Midway
+pub half_midway : (beyond half : ℕ) → beyond ≡ half → TellsHalf beyond half Rest.Nothing Ordering.Equal
 unfolding TellsHalf TellsSide Amounts
 half_midway beyond half q = λ base unit a h x. x ∙ ap (λ (y : ℕ). (base + y) * unit) q
 
@@ -64,36 +55,45 @@ module _ (beyond half : ℕ) (q : beyond ≡ half) where
   scaled : (base unit : ℕ) → (base + beyond) * unit ≡ (base + half) * unit
   scaled base unit = ap (λ (y : ℕ). (base + y) * unit) q
 
-  pub past_under_half : TellsHalf beyond half Rest.UnderHalf Side.Over
+  pub past_under_half : TellsHalf beyond half Rest.UnderHalf Ordering.Greater
   unfolding TellsHalf TellsSide Amounts
   past_under_half = λ base unit a h x. omega (arith, x.0, scaled base unit)
 
-  pub past_half : TellsHalf beyond half Rest.Half Side.Over
+  pub past_half : TellsHalf beyond half Rest.Half Ordering.Greater
   unfolding TellsHalf TellsSide Amounts
   past_half = λ base unit a h x. omega (arith, x, scaled base unit, h)
 
-  pub past_over_half : TellsHalf beyond half Rest.OverHalf Side.Over
+  pub past_over_half : TellsHalf beyond half Rest.OverHalf Ordering.Greater
   unfolding TellsHalf TellsSide Amounts
   past_over_half = λ base unit a h x. omega (arith, x.0, scaled base unit, h)
 
--- the order of the two and the rest decide
-pub half_side : (beyond half : ℕ) (rest : Rest) → (side : Side) × TellsHalf beyond half rest side
-half_side beyond half rest = by rest (dec_lt beyond half) (dec_lt half beyond)
-  where
-    by : (rest : Rest) → Dec (beyond < half) → Dec (half < beyond) → (side : Side) × TellsHalf beyond half rest side
-    by rest (yes h) d = (Side.Under, half_below beyond half rest h)
-    by rest (no f) (yes h) = (Side.Over, half_above beyond half rest h)
-    by Rest.Nothing (no f) (no g) = (Side.Midway, half_midway beyond half (neither half beyond g f))
-    by Rest.UnderHalf (no f) (no g) = (Side.Over, past_under_half beyond half (neither half beyond g f))
-    by Rest.Half (no f) (no g) = (Side.Over, past_half beyond half (neither half beyond g f))
-    by Rest.OverHalf (no f) (no g) = (Side.Over, past_over_half beyond half (neither half beyond g f))
+-- the order of the two decides, and where they are equal, the rest
+abbrev pub some_side : Rest → Ordering
+some_side Rest.Nothing = Ordering.Equal
+some_side Rest.UnderHalf = Ordering.Greater
+some_side Rest.Half = Ordering.Greater
+some_side Rest.OverHalf = Ordering.Greater
+
+at_half : (beyond half : ℕ) (rest : Rest) → beyond ≡ half → TellsHalf beyond half rest (some_side rest)
+at_half beyond half Rest.Nothing q = half_midway beyond half q
+at_half beyond half Rest.UnderHalf q = past_under_half beyond half q
+at_half beyond half Rest.Half q = past_half beyond half q
+at_half beyond half Rest.OverHalf q = past_over_half beyond half q
+
+pub half_then : (beyond half : ℕ) (rest : Rest) (o : Ordering) → MatchOrdering o (beyond < half) (beyond ≡ half) (half < beyond) → TellsHalf beyond half rest (ordering_then o (some_side rest))
+half_then beyond half rest Ordering.Less l = half_below beyond half rest l
+half_then beyond half rest Ordering.Equal q = at_half beyond half rest q
+half_then beyond half rest Ordering.Greater l = half_above beyond half rest l
+
+pub half_side : (beyond half : ℕ) (rest : Rest) → (side : Ordering) × TellsHalf beyond half rest side
+half_side beyond half rest = let o = nat_cmp beyond half in
+    (ordering_then o (some_side rest), half_then beyond half rest o (ranked beyond half o refl))
 
 -- ---- what the bits cut off choose, which stand shifted to the top of 64 bits
 Chosen : ℕ → ℕ → ℕ → Rest → ℕ → Type 0
-Chosen low beyond half rest w = (side : Side) × TellsHalf beyond half rest side × (w ≡ chosen_of low side)
+Chosen low beyond half rest w = (side : Ordering) × TellsHalf beyond half rest side × (w ≡ chosen_of low side)
 
 pub margin_le : (low : ℕ) (rest : Rest) → margin_of low rest ≤ 1
-unfolding margin_of
 margin_le low Rest.Nothing = omega (arith, mod-lt low (lit≤ {m = 1} {n = 2} tt))
 margin_le low Rest.UnderHalf = lit≤ tt
 margin_le low Rest.Half = lit≤ tt
@@ -105,21 +105,21 @@ shifted_lt t x y h = mul-lt-mul_of_pos_right h (pow_pos t)
 
 module _ (low t beyond half : ℕ) (top : 2 ^ 63 ≡ half * 2 ^ t) where
   up : (rest : Rest) → 2 ^ 63 - margin_of low rest < beyond * 2 ^ t → Dec (half < beyond) → Dec (beyond < half) → Chosen low beyond half rest (low + 1)
-  unfolding Chosen chosen_of margin_of
-  up rest l (yes h) d = (Side.Over, half_above beyond half rest h, refl)
+  unfolding Chosen
+  up rest l (yes h) d = (Ordering.Greater, half_above beyond half rest h, refl)
   up rest l (no f) (yes h) = absurd (omega (arith, l, top, shifted_lt t beyond half h, margin_le low rest))
   up Rest.Nothing l (no f) (no g) = let q = neither half beyond f g in
-      (Side.Midway, half_midway beyond half q, omega (arith, l, top, ap (λ (x : ℕ). x * 2 ^ t) q, mod-lt low (lit≤ {m = 1} {n = 2} tt)))
-  up Rest.UnderHalf l (no f) (no g) = (Side.Over, past_under_half beyond half (neither half beyond f g), refl)
-  up Rest.Half l (no f) (no g) = (Side.Over, past_half beyond half (neither half beyond f g), refl)
-  up Rest.OverHalf l (no f) (no g) = (Side.Over, past_over_half beyond half (neither half beyond f g), refl)
+      (Ordering.Equal, half_midway beyond half q, omega (arith, l, top, ap (λ (x : ℕ). x * 2 ^ t) q, mod-lt low (lit≤ {m = 1} {n = 2} tt)))
+  up Rest.UnderHalf l (no f) (no g) = (Ordering.Greater, past_under_half beyond half (neither half beyond f g), refl)
+  up Rest.Half l (no f) (no g) = (Ordering.Greater, past_half beyond half (neither half beyond f g), refl)
+  up Rest.OverHalf l (no f) (no g) = (Ordering.Greater, past_over_half beyond half (neither half beyond f g), refl)
 
   down : (rest : Rest) → beyond * 2 ^ t ≤ 2 ^ 63 - margin_of low rest → Dec (beyond < half) → Dec (half < beyond) → Chosen low beyond half rest low
-  unfolding Chosen chosen_of margin_of
-  down rest l (yes h) d = (Side.Under, half_below beyond half rest h, refl)
+  unfolding Chosen
+  down rest l (yes h) d = (Ordering.Less, half_below beyond half rest h, refl)
   down rest l (no f) (yes h) = absurd (omega (arith, l, top, shifted_lt t half beyond h))
   down Rest.Nothing l (no f) (no g) = let q = neither half beyond g f in
-      (Side.Midway, half_midway beyond half q, omega (arith, l, top, ap (λ (x : ℕ). x * 2 ^ t) q))
+      (Ordering.Equal, half_midway beyond half q, omega (arith, l, top, ap (λ (x : ℕ). x * 2 ^ t) q))
   down Rest.UnderHalf l (no f) (no g) = absurd (omega (arith, l, top, ap (λ (x : ℕ). x * 2 ^ t) (neither half beyond g f)))
   down Rest.Half l (no f) (no g) = absurd (omega (arith, l, top, ap (λ (x : ℕ). x * 2 ^ t) (neither half beyond g f)))
   down Rest.OverHalf l (no f) (no g) = absurd (omega (arith, l, top, ap (λ (x : ℕ). x * 2 ^ t) (neither half beyond g f)))
@@ -140,18 +140,18 @@ cut_chooses low cut rest = by (dec_lt (2 ^ 63 - margin_of low rest) cut)
     by (no f) = (low, cut_down low cut rest (not_more f))
 
 -- ---- against the midpoint of two powers of two
-pub double : (s : Side) (a x : ℕ) → TellsSide s a x → TellsSide s (2 * a) (x + x)
+pub double : (s : Ordering) (a x : ℕ) → TellsSide s a x → TellsSide s (2 * a) (x + x)
 unfolding TellsSide
-double Side.Under a x h = omega (arith, h)
-double Side.Midway a x h = omega (arith, h)
-double Side.Over a x h = omega (arith, h)
+double Ordering.Less a x h = omega (arith, h)
+double Ordering.Equal a x h = omega (arith, h)
+double Ordering.Greater a x h = omega (arith, h)
 
 -- both sides may be divided by the same number
-pub cancel : (s : Side) (d x y : ℕ) → zero < d → TellsSide s (x * d) (y * d) → TellsSide s x y
+pub cancel : (s : Ordering) (d x y : ℕ) → zero < d → TellsSide s (x * d) (y * d) → TellsSide s x y
 unfolding TellsSide
-cancel Side.Under d x y h t = lt_of_mul-lt-mul_right d t
-cancel Side.Midway d x y h t = eq_of_mul-eq-mul_right d h x y t
-cancel Side.Over d x y h t = lt_of_mul-lt-mul_right d t
+cancel Ordering.Less d x y h t = lt_of_mul-lt-mul_right d t
+cancel Ordering.Equal d x y h t = eq_of_mul-eq-mul_right d h x y t
+cancel Ordering.Greater d x y h t = lt_of_mul-lt-mul_right d t
 
 -- a power of two that is given times 2^e
 lowered : (e f k unit y : ℕ) → f ≡ k + e → y * 2 ^ e ≡ 2 ^ f * unit → y ≡ 2 ^ k * unit
@@ -159,7 +159,7 @@ lowered e f k unit y q h = eq_of_mul-eq-mul_right (2 ^ e) (pow_pos e) y (2 ^ k *
 
 module _ (i j e m : ℕ) (rest : Rest) (top : m < 2 ^ 64) where
   -- two binades or more under the higher one
-  pub far_under : e + 1 < j → TellsPowers i j e m rest Side.Under
+  pub far_under : e + 1 < j → TellsPowers i j e m rest Ordering.Less
   unfolding TellsPowers TellsSide
   far_under l = λ unit a h x y z hy hz.
       let w = within m rest unit a h x in
@@ -173,7 +173,7 @@ module _ (i j e m : ℕ) (rest : Rest) (top : m < 2 ^ 64) where
     z_is : (unit z : ℕ) → z * 2 ^ e ≡ 2 ^ (63 + j) * unit → z ≡ 2 ^ 64 * unit
     z_is unit z hz = lowered e (63 + j) 64 unit z (omega arith) hz
 
-    pub near : (s : Side) → gap < 64 → 2 ^ 63 ≤ m → TellsHalf (m - 2 ^ 63) (2 ^ (63 - gap)) rest s → TellsPowers i j e m rest s
+    pub near : (s : Ordering) → gap < 64 → 2 ^ 63 ≤ m → TellsHalf (m - 2 ^ 63) (2 ^ (63 - gap)) rest s → TellsPowers i j e m rest s
     unfolding TellsPowers TellsHalf
     near s g full t = λ unit a h x y z hy hz.
         subst (TellsSide s (2 * a)) (sum unit y z (y_is unit y hy) (z_is unit z hz)) (double s a ((2 ^ 63 + 2 ^ (63 - gap)) * unit) (t (2 ^ 63) unit a h (subst (λ (k : ℕ). Amounts k rest a unit) split x)))
@@ -189,23 +189,23 @@ module _ (i j e m : ℕ) (rest : Rest) (top : m < 2 ^ 64) where
       one : (unit y : ℕ) → y * 2 ^ e ≡ 2 ^ (63 + i) * unit → y ≡ unit
       one unit y hy = y_is unit y hy ∙ ap (λ (k : ℕ). 2 ^ (64 - k) * unit) wide ∙ one-mul unit
 
-      pub wide_over : 2 ^ 63 < m → TellsPowers i j e m rest Side.Over
+      pub wide_over : 2 ^ 63 < m → TellsPowers i j e m rest Ordering.Greater
       unfolding TellsPowers TellsSide
       wide_over l = λ unit a h x y z hy hz. let w = within m rest unit a h x in omega (arith, w.low, one unit y hy, z_is unit z hz, mul-le-mul_right unit l, h)
 
 -- 64 binades apart and m = 2^63: the midpoint lies half a unit on, and the rest decides
-unfoldable pub rest_side : Rest → Side
-rest_side Rest.Nothing = Side.Under
-rest_side Rest.UnderHalf = Side.Under
-rest_side Rest.Half = Side.Midway
-rest_side Rest.OverHalf = Side.Over
+abbrev pub rest_side : Rest → Ordering
+rest_side Rest.Nothing = Ordering.Less
+rest_side Rest.UnderHalf = Ordering.Less
+rest_side Rest.Half = Ordering.Equal
+rest_side Rest.OverHalf = Ordering.Greater
 
 module _ (i j e : ℕ) (last : e + 1 ≡ j) (apart : i + 64 ≡ j) where
   ends : (unit y z : ℕ) → y * 2 ^ e ≡ 2 ^ (63 + i) * unit → z * 2 ^ e ≡ 2 ^ (63 + j) * unit → y + z ≡ (2 * 2 ^ 63 + 1) * unit
   ends unit y z hy hz = omega (arith, lowered e (63 + i) 0 unit y (omega arith) hy, lowered e (63 + j) 64 unit z (omega arith) hz)
 
   decided : (rest : Rest) (unit a : ℕ) → zero < unit → Amounts (2 ^ 63) rest a unit → TellsSide (rest_side rest) (2 * a) ((2 * 2 ^ 63 + 1) * unit)
-  unfolding Amounts TellsSide rest_side
+  unfolding Amounts TellsSide
   decided Rest.Nothing unit a h x = omega (arith, x, h)
   decided Rest.UnderHalf unit a h x = x.1
   decided Rest.Half unit a h x = x
@@ -216,21 +216,19 @@ module _ (i j e : ℕ) (last : e + 1 ≡ j) (apart : i + 64 ≡ j) where
   rest_decides m q rest = λ unit a h x y z hy hz. subst (TellsSide (rest_side rest) (2 * a)) (sym (ends unit y z hy hz)) (decided rest unit a h (subst (λ (k : ℕ). Amounts k rest a unit) q x))
 
 -- one of these decides
-module _ (i j e m : ℕ) (rest : Rest) (up : i < j) (narrow : j ≤ i + 64) (under : e < j) (full : 2 ^ 63 ≤ m) (top : m < 2 ^ 64) where
-  pub powers_side : (side : Side) × TellsPowers i j e m rest side
-  powers_side = by (dec_lt (e + 1) j) (dec_lt (j - i) 64) (dec_lt (2 ^ 63) m)
+module _ (i j e m : ℕ) (rest : Rest) (full : 2 ^ 63 ≤ m) (top : m < 2 ^ 64) where
+  pub wide_then : e + 1 ≡ j → i + 64 ≡ j → (o : Ordering) → MatchOrdering o (m < 2 ^ 63) (m ≡ 2 ^ 63) (2 ^ 63 < m) → TellsPowers i j e m rest (ordering_then o (rest_side rest))
+  wide_then last apart Ordering.Less l = absurd (omega (arith, l, full))
+  wide_then last apart Ordering.Equal q = rest_decides i j e last apart m q rest
+  wide_then last apart Ordering.Greater l = wide_over i j e m rest top last 64 apart (omega arith) refl l
+
+  pub powers_side : i < j → j ≤ i + 64 → e < j → (side : Ordering) × TellsPowers i j e m rest side
+  powers_side up narrow under = by (dec_lt (e + 1) j) (dec_lt (j - i) 64)
     where
-      by : Dec (e + 1 < j) → Dec (j - i < 64) → Dec (2 ^ 63 < m) → (side : Side) × TellsPowers i j e m rest side
-      by (yes h) d d' = (Side.Under, far_under i j e m rest top h)
-      by (no f) (yes h) d =
+      by : Dec (e + 1 < j) → Dec (j - i < 64) → (side : Ordering) × TellsPowers i j e m rest side
+      by (yes h) d = (Ordering.Less, far_under i j e m rest top h)
+      by (no f) (yes h) =
           let t = half_side (m - 2 ^ 63) (2 ^ (63 - (j - i))) rest in
-          (t.0, near i j e m rest top (omega (arith, not_more f)) (j - i) (omega (arith, up)) (omega (arith, h)) t.0 h full t.1)
-      by (no f) (no g) (yes h) = (Side.Over, wide_over i j e m rest top (omega (arith, not_more f)) (j - i) (omega (arith, up)) (omega (arith, narrow)) (omega (arith, narrow, not_more g)) h)
-      by (no f) (no g) (no k) = (rest_side rest, rest_decides i j e (omega (arith, not_more f)) (omega (arith, narrow, not_more g)) m (omega (arith, full, not_more k)) rest)
-
--- the same of a rest that is known by an equation
-pub for_half : (beyond half : ℕ) (s : Side) {r r' : Rest} → r ≡ r' → TellsHalf beyond half r' s → TellsHalf beyond half r s
-for_half beyond half s q x = subst (λ (r : Rest). TellsHalf beyond half r s) (sym q) x
-
-pub for_powers : (i j e m : ℕ) (s : Side) {r r' : Rest} → r ≡ r' → TellsPowers i j e m r' s → TellsPowers i j e m r s
-for_powers i j e m s q x = subst (λ (r : Rest). TellsPowers i j e m r s) (sym q) x
+          (t.0, near i j e m rest top (omega (arith, under, not_more f)) (j - i) (omega (arith, up)) (omega (arith, h)) t.0 h full t.1)
+      by (no f) (no g) = let o = nat_cmp m (2 ^ 63) in
+          (ordering_then o (rest_side rest), wide_then (omega (arith, under, not_more f)) (omega (arith, narrow, up, not_more g)) o (ranked m (2 ^ 63) o refl))

@@ -2,19 +2,19 @@
 use mathlib.Core.Path.{◌≡◌, refl, sym, ap, ◌∙◌, subst}
 use mathlib.Core.Bool.{false}
 use Prim.Native.Nat.{ℕ, zero, suc, ◌+◌, ◌-◌, ◌*◌, ◌/◌, ◌%◌, ◌^◌, ◌≤◌, ◌<◌}
-use native.Mathlib.Nat.{mul-one, add-mul, mul-le-mul_right, mul-le-mul, mul-lt-mul_of_pos_right, zero-mul, le_trans, le_of_eq, le_of_lt, lt_of_lt_of_le, lt_of_le_of_lt, lt_of_mul-lt-mul_right, zero-lt-suc, mul_assoc, mul_right_comm, mul-pos, one-mul, le-add_right}
+use native.Mathlib.Nat.{mul-one, add-mul, mul-le-mul_right, mul-le-mul, mul-lt-mul_of_pos_right, zero-mul, le_trans, le_of_eq, le_of_lt, lt_of_lt_of_le, lt_of_le_of_lt, lt_of_mul-lt-mul_right, zero-lt-suc, mul_assoc, mul_right_comm, mul-pos, one-mul}
 use native.Mathlib.Numerals.{add-one}
 use native.Mathlib.Omega.{arith}
 use lib.IntN.{ℤ, pos, negsuc, ◌-ℤ◌}
 use lib.Pow.{pow_pos, pow_mono, shr_lt, mod-mod-pow}
-use Rattle.word.specs.Takum.{S, c}
+use Rattle.word.specs.Takum.{c}
 use Rattle.word.specs.Reads.{num, den}
-use Rattle.bounds.proofs.Powers.{pow_sum, shl_below, shl_out, shr_none}
+use Rattle.bounds.proofs.Powers.{pow_sum, shl_below, shl_out}
 use Rattle.word.proofs.Sizes.{size_above, size_below}
 use Rattle.word.proofs.Values.{grown, grown_suc}
 use Rattle.nearest.specs.declared.size.Rest.{Rest}
-use Rattle.nearest.specs.declared.size.Side.{Side}
-use Rattle.nearest.specs.declared.size.Start.{Start}
+use Rattle.std.specs.declared.cmp.Ordering.{Ordering}
+use Rattle.nearest.specs.declared.start.Start.{Start}
 use Rattle.nearest.specs.Nearest.{HasValue, Nearest}
 use Rattle.nearest.specs.Offers.{Amounts, IsOffered, IsNearest}
 use Rattle.nearest.specs.Parts.{Begins, first_bits, IsRaised, TellsSide, TellsPowers, chosen_of, ChoosesByCut}
@@ -27,12 +27,6 @@ use Rattle.nearest.proofs.Sides.{TellsMidpoint, floor_is, Given, fine_cut, coars
 use Rattle.nearest.proofs.Places.{increasing, two, word_of, has_value, to_word}
 
 -- a start leaves room for its sign
-pub start_lt : (h : ℤ) (start : Start) → Begins h start → start.bits < 2 ^ (4 + start.r)
-unfolding S
-start_lt h start begins =
-    lt_of_mul-lt-mul_right (2 ^ (59 - start.r))
-    (subst (λ (x : ℕ). start.bits * 2 ^ (59 - start.r) < x) (sym (pow_sum (4 + start.r) (59 - start.r) 63 (omega (arith, begins.regime)))) (lt_of_le_of_lt (le-add_right (start.bits * 2 ^ (59 - start.r)) 0) (shr_none 63 (start.bits * 2 ^ (59 - start.r) + 0) (begins.sign 0 (pow_pos (59 - start.r))))))
-
 -- a shift by one and one by k drop what one shift by both drops
 pub two_shifts : (m k j : ℕ) → k ≤ 64 → j ≡ 1 + k → m * 2 ^ 1 % 2 ^ 64 * 2 ^ k % 2 ^ 64 ≡ m * 2 ^ j % 2 ^ 64
 two_shifts m k j h q =
@@ -100,24 +94,24 @@ module _ (n : ℕ) (lo : 2 ≤ n) (hi : n ≤ 64) where
       place a b 1 (at_first (grown n) (2 ^ (n - 1)) a b (increasing n lo hi) some (omega (arith, two n lo hi)) (le_of_lt (before_all i m rest far full top a b some offered).1))
 
   -- ---- inside the range
-  module _ (h : ℤ) (e m : ℕ) (rest : Rest) (start : Start) (is : IsRaised h e) (begins : Begins h start) (full : 2 ^ 63 ≤ m) (top : m < 2 ^ 64) (v : ℕ) (v_is : v ≡ first_bits start m / 2 ^ (64 - n)) where
+  module _ (h : ℤ) (e m : ℕ) (rest : Rest) (start : Start) (is : IsRaised h e) (begins : Begins h start.bits start.r) (full : 2 ^ 63 ≤ m) (top : m < 2 ^ 64) (v : ℕ) (v_is : v ≡ first_bits start m / 2 ^ (64 - n)) where
     word : v ≡ floor_string start.bits (59 - start.r) m / 2 ^ (64 - n)
     word = v_is ∙ ap (λ (x : ℕ). x / 2 ^ (64 - n)) (floor_is start m begins.regime)
 
     module _ (a b : ℕ) (some : zero < b) (offered : IsOffered m rest (h -ℤ pos 63) a b) where
       low : zero < v → grown n v * b ≤ a
       low p =
-          let K = binade_of h e start is begins in
+          let K = binade_of h e start.bits start.r is begins in
           subst (λ (x : ℕ). grown n x * b ≤ a) (sym word) (word_low h e start.bits (59 - start.r) K.0 K.1 m full top rest a b some offered n lo hi (subst (λ (x : ℕ). zero < x) word p))
 
       high : suc v < 2 ^ (n - 1) → a ≤ grown n (suc v) * b
       high p =
-          let K = binade_of h e start is begins in
+          let K = binade_of h e start.bits start.r is begins in
           subst (λ (x : ℕ). a ≤ grown n (suc x) * b) (sym word) (le_of_lt (word_high h e start.bits (59 - start.r) K.0 K.1 m full top rest a b some offered n lo hi (subst (λ (x : ℕ). suc x < 2 ^ (n - 1)) word p)))
 
     pub below_end : v < 2 ^ (n - 1)
     below_end =
-        let K = binade_of h e start is begins in
+        let K = binade_of h e start.bits start.r is begins in
         subst (λ (x : ℕ). x < 2 ^ (n - 1)) (sym word) (shr_lt (n - 1) (64 - n) (subst (λ (x : ℕ). floor_string start.bits (59 - start.r) m < 2 ^ x) length (floor_lt h e start.bits (59 - start.r) K.0 K.1 m full top)))
       where
         length : 63 ≡ n - 1 + (64 - n)
@@ -133,34 +127,33 @@ module _ (n : ℕ) (lo : 2 ≤ n) (hi : n ≤ 64) where
     at_end q = λ a b some offered. place a b v (at_last (grown n) (2 ^ (n - 1)) a b (increasing n lo hi) some v (omega (arith, q, two n lo hi)) (omega (arith, q, two n lo hi)) (low a b some offered (omega (arith, q, two n lo hi))))
 
     module _ (first : zero < v) (room : suc v < 2 ^ (n - 1)) where
-      tells : (side : Side) → TellsMidpoint n v e m rest side → (a b : ℕ) → zero < b → IsOffered m rest (h -ℤ pos 63) a b → TellsSide side (2 * a) (grown n v * b + grown n (suc v) * b)
+      tells : (side : Ordering) → TellsMidpoint n v e m rest side → (a b : ℕ) → zero < b → IsOffered m rest (h -ℤ pos 63) a b → TellsSide side (2 * a) (grown n v * b + grown n (suc v) * b)
       unfolding TellsMidpoint word_of
       tells side t a b some offered =
           subst (TellsSide side (2 * a)) (add-mul (grown n v) (grown n (suc v)) b)
           (t h a b (grown n v) (grown n (suc v)) is some offered (has_value n lo hi false v first (omega (arith, room))) (subst (HasValue n false (grown n (suc v))) (sym (add-one v)) (has_value n lo hi false (suc v) (zero-lt-suc v) room)))
 
-      side_under : TellsMidpoint n v e m rest Side.Under → IsNearest n h m rest v
+      side_under : TellsMidpoint n v e m rest Ordering.Less → IsNearest n h m rest v
       unfolding IsNearest TellsSide
       side_under t = λ a b some offered.
-          place a b v (nearer_below (grown n) (2 ^ (n - 1)) a b (increasing n lo hi) some v first room (low a b some offered first) (high a b some offered room) (tells Side.Under t a b some offered))
+          place a b v (nearer_below (grown n) (2 ^ (n - 1)) a b (increasing n lo hi) some v first room (low a b some offered first) (high a b some offered room) (tells Ordering.Less t a b some offered))
 
-      side_midway : TellsMidpoint n v e m rest Side.Midway → IsNearest n h m rest (v + v % 2)
+      side_midway : TellsMidpoint n v e m rest Ordering.Equal → IsNearest n h m rest (v + v % 2)
       unfolding IsNearest TellsSide
       side_midway t = λ a b some offered.
-          place a b (v + v % 2) (midway (grown n) (2 ^ (n - 1)) a b (increasing n lo hi) some v first room (low a b some offered first) (high a b some offered room) (tells Side.Midway t a b some offered))
+          place a b (v + v % 2) (midway (grown n) (2 ^ (n - 1)) a b (increasing n lo hi) some v first room (low a b some offered first) (high a b some offered room) (tells Ordering.Equal t a b some offered))
 
-      side_over : TellsMidpoint n v e m rest Side.Over → IsNearest n h m rest (v + 1)
+      side_over : TellsMidpoint n v e m rest Ordering.Greater → IsNearest n h m rest (v + 1)
       unfolding IsNearest TellsSide
       side_over t = λ a b some offered.
           subst (Nearest n false a b) (sym (add-one v))
-          (place a b (suc v) (nearer_above (grown n) (2 ^ (n - 1)) a b (increasing n lo hi) some v first room (low a b some offered first) (high a b some offered room) (tells Side.Over t a b some offered)))
+          (place a b (suc v) (nearer_above (grown n) (2 ^ (n - 1)) a b (increasing n lo hi) some v first room (low a b some offered first) (high a b some offered room) (tells Ordering.Greater t a b some offered)))
 
       -- the word that the side chooses
-      pub by_side : (w : ℕ) (side : Side) → TellsMidpoint n v e m rest side → w ≡ chosen_of v side → IsNearest n h m rest w
-      unfolding chosen_of
-      by_side w Side.Under t q = subst (IsNearest n h m rest) (sym q) (side_under t)
-      by_side w Side.Midway t q = subst (IsNearest n h m rest) (sym q) (side_midway t)
-      by_side w Side.Over t q = subst (IsNearest n h m rest) (sym q) (side_over t)
+      pub by_side : (w : ℕ) (side : Ordering) → TellsMidpoint n v e m rest side → w ≡ chosen_of v side → IsNearest n h m rest w
+      by_side w Ordering.Less t q = subst (IsNearest n h m rest) (sym q) (side_under t)
+      by_side w Ordering.Equal t q = subst (IsNearest n h m rest) (sym q) (side_midway t)
+      by_side w Ordering.Greater t q = subst (IsNearest n h m rest) (sym q) (side_over t)
 
       -- the word with what the side is told by
       pub given : Given n v e m start
@@ -173,11 +166,11 @@ module _ (n : ℕ) (lo : 2 ≤ n) (hi : n ≤ 64) where
             full = full;
             top = top;
             is = v_is;
-            begins = λ h' q. subst (λ (z : ℤ). Begins z start) (raised_same h h' e is q) begins;
+            begins = λ h' q. subst (λ (z : ℤ). Begins z start.bits start.r) (raised_same h h' e is q) begins;
           }
 
       -- where the cut falls before the fraction
-      pub by_powers : (i j : ℕ) → n < 5 + start.r → IsRaised (c 64 (v * 2 ^ (64 - n))) i → IsRaised (c 64 ((v + 1) * 2 ^ (64 - n))) j → (w : ℕ) (side : Side) → TellsPowers i j e m rest side → w ≡ chosen_of v side → IsNearest n h m rest w
+      pub by_powers : (i j : ℕ) → n < 5 + start.r → IsRaised (c 64 (v * 2 ^ (64 - n))) i → IsRaised (c 64 ((v + 1) * 2 ^ (64 - n))) j → (w : ℕ) (side : Ordering) → TellsPowers i j e m rest side → w ≡ chosen_of v side → IsNearest n h m rest w
       by_powers i j short i_is j_is w side t q = by_side w side (coarse_tells n v e m start given short i j i_is j_is rest side t) q
 
       -- and where it falls in the fraction

@@ -25,11 +25,12 @@ use Rattle.word.proofs.Integers.{neg_mul}
 use Rattle.word.proofs.Signed.{order_below, order_above}
 use Rattle.word.proofs.Sizes.{size, size_lt}
 use Rattle.word.proofs.Values.{grown, grown_suc, real_inj, absolute, order_same, order_zero, order_negated, negation_negates}
+use Rattle.nearest.specs.declared.size.Lies.{Lies}
 use Rattle.nearest.specs.declared.size.Rest.{Rest}
-use Rattle.nearest.specs.declared.size.Start.{Start}
+use Rattle.nearest.specs.declared.start.Start.{Start}
 use Rattle.nearest.specs.Nearest.{HasValue, distance, Nearest}
 use Rattle.nearest.specs.Offers.{IsOffered, IsNearest}
-use Rattle.nearest.specs.Parts.{Begins, first_bits, IsRaised, TellsEnd, TellsNothing, saying_of}
+use Rattle.nearest.specs.Parts.{Begins, first_bits, IsRaised, TellsEnd, TellsNothing, saying_of, beside}
 use Rattle.nearest.specs.Sayings.{Against, IsPastTheEnd, beyond, short, Says, SaysOffered}
 use Rattle.nearest.proofs.Floors.{floor_string, floor_lt, floor_size_low, floor_low, floor_exact, floor_finer, word_low, word_high, fine_exact, fine_finer}
 use Rattle.nearest.proofs.Hub.{past_all, before_all}
@@ -240,7 +241,7 @@ module _ (n : ℕ) (lo : 2 ≤ n) (hi : n ≤ 64) where
       (subst (λ (y : ℕ). zero < y) (sym p.word_is) p.first, subst (λ (y : ℕ). y < 2 ^ (n - 1)) (sym p.word_is) p.last)
 
   -- ---- inside: low is the last word at or below the size, by the first bits of its string
-  module _ (h : ℤ) (e m : ℕ) (rest : Rest) (start : Start) (is : IsRaised h e) (begins : Begins h start) (full : 2 ^ 63 ≤ m) (top : m < 2 ^ 64) (low : ℕ) (low_is : low ≡ first_bits start m / 2 ^ (64 - n)) where
+  module _ (h : ℤ) (e m : ℕ) (rest : Rest) (start : Start) (is : IsRaised h e) (begins : Begins h start.bits start.r) (full : 2 ^ 63 ≤ m) (top : m < 2 ^ 64) (low : ℕ) (low_is : low ≡ first_bits start m / 2 ^ (64 - n)) where
     F : ℕ
     F = floor_string start.bits (59 - start.r) m
 
@@ -258,14 +259,14 @@ module _ (n : ℕ) (lo : 2 ≤ n) (hi : n ≤ 64) where
       nonzero : zero < a
       unfolding F
       nonzero =
-          let K = binade_of h e start is begins in
+          let K = binade_of h e start.bits start.r is begins in
           lt_of_lt_of_le (mul-pos (lt_of_lt_of_le (pow_pos (e + 52)) (floor_size_low h e start.bits (59 - start.r) K.0 K.1 m full top)) some) (floor_low h e start.bits (59 - start.r) K.0 K.1 m full top rest a b some offered)
 
       -- the next word is above the size
       next_above : suc low < 2 ^ (n - 1) → a < grown n (suc low) * b
       unfolding F
       next_above room =
-          let K = binade_of h e start is begins in
+          let K = binade_of h e start.bits start.r is begins in
           subst (λ (x : ℕ). a < grown n (suc x) * b) (sym low_floor) (word_high h e start.bits (59 - start.r) K.0 K.1 m full top rest a b some offered n lo hi (subst (λ (x : ℕ). suc x < 2 ^ (n - 1)) low_floor room))
 
       -- and low is the size where it ends there, and else below it
@@ -276,7 +277,7 @@ module _ (n : ℕ) (lo : 2 ≤ n) (hi : n ≤ 64) where
         ends : TellsEnd n low (first_bits start m) start.r m rest true → grown n low * b ≡ a
         unfolding F TellsEnd
         ends t =
-            let K = binade_of h e start is begins in
+            let K = binade_of h e start.bits start.r is begins in
             ap (λ (y : ℕ). y * b) (sym size_at ∙ ap size (sym t.0 ∙ floor)) ∙ floor_exact h e start.bits (59 - start.r) K.0 K.1 m full top rest a b some offered (subst (λ (j : ℕ). m % 2 ^ j ≡ 0) (sym cut) t.1) t.2
 
         goes_on : TellsEnd n low (first_bits start m) start.r m rest false → grown n low * b < a
@@ -284,7 +285,7 @@ module _ (n : ℕ) (lo : 2 ≤ n) (hi : n ≤ 64) where
         goes_on t = by (dec_lt (low * 2 ^ (64 - n)) F) t
           where
             K : (K : ℕ) × Binade h e start.bits (59 - start.r) K
-            K = binade_of h e start is begins
+            K = binade_of h e start.bits start.r is begins
 
             under : low * 2 ^ (64 - n) ≤ F
             under = subst (λ (x : ℕ). x * 2 ^ (64 - n) ≤ F) (sym low_floor) (div-mul-le_self F (2 ^ (64 - n)))
@@ -336,7 +337,7 @@ module _ (n : ℕ) (lo : 2 ≤ n) (hi : n ≤ 64) where
         room_floor = subst (λ (x : ℕ). suc x < 2 ^ (n - 1)) low_floor room
 
         K : (K : ℕ) × Binade h e start.bits (59 - start.r) K
-        K = binade_of h e start is begins
+        K = binade_of h e start.bits start.r is begins
 
         some_bits : (zero < m * 2 ^ k % 2 ^ 64) ⊎ (rest ≡ Rest.Nothing → ⊥) → (zero < m % 2 ^ (63 - (59 - start.r) + (64 - n))) ⊎ (rest ≡ Rest.Nothing → ⊥)
         some_bits (inl h) = inl (pos_of_ne-zero (λ (q : m % 2 ^ (63 - (59 - start.r) + (64 - n)) ≡ 0). lt_irrefl 0 (subst (λ (x : ℕ). zero < x) (shifted ∙ ap (λ (x : ℕ). x * 2 ^ k) q ∙ zero-mul (2 ^ k)) h)))
@@ -375,7 +376,7 @@ module _ (n : ℕ) (lo : 2 ≤ n) (hi : n ≤ 64) where
         low_under : grown n low * b ≤ a
         unfolding F
         low_under =
-            let K = binade_of h e start is begins in
+            let K = binade_of h e start.bits start.r is begins in
             subst (λ (x : ℕ). grown n x * b ≤ a) (sym low_floor) (word_low h e start.bits (59 - start.r) K.0 K.1 m full top rest a b some offered n lo hi (subst (λ (x : ℕ). zero < x) low_floor first))
 
         after : suc low ≤ v
@@ -398,11 +399,11 @@ module _ (n : ℕ) (lo : 2 ≤ n) (hi : n ≤ 64) where
         not_low q =
             omega (arith, nearer a b v (is_positive h m rest v near).0 last some nearest low first (omega (arith, room)), distance_above a (grown n v * b) (le_of_lt over), distance_below a (grown n low * b) low_under, over, q)
 
-      pub said_beside : (exact : Bool) → LowTells exact → SaysOffered n false h m rest v (saying_of (record { word = v; past = false; exact = exact; up = not (eqb v low) }))
-      unfolding SaysOffered IsNearest saying_of LowTells
+      pub said_beside : (exact : Bool) → LowTells exact → SaysOffered n false h m rest v (saying_of (beside low v exact).lies)
+      unfolding SaysOffered IsNearest LowTells
       said_beside exact t a b some offered = by (eqb v low) refl exact t
         where
-          by : (same : Bool) → eqb v low ≡ same → (exact : Bool) → LowTells exact → Says n false a b v (cond exact Exact (cond (not same) Above Below))
+          by : (same : Bool) → eqb v low ≡ same → (exact : Bool) → LowTells exact → Says n false a b v (saying_of (cond exact Lies.Exact (Lies.Off (not same))))
           by true q true t = exactly a b v (is_positive h m rest v near).0 last (subst (λ (x : ℕ). grown n x * b ≡ a) (sym (eqb-true v low q)) (t a b some offered))
           by true q false t =
               let same = eqb-true v low q in

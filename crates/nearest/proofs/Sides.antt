@@ -18,8 +18,8 @@ use Rattle.word.proofs.Cut.{r_head, c_head}
 use Rattle.word.proofs.Sizes.{size, size_lt}
 use Rattle.word.proofs.Values.{grown, grown_suc, grown_lt}
 use Rattle.nearest.specs.declared.size.Rest.{Rest}
-use Rattle.nearest.specs.declared.size.Side.{Side}
-use Rattle.nearest.specs.declared.size.Start.{Start}
+use Rattle.std.specs.declared.cmp.Ordering.{Ordering}
+use Rattle.nearest.specs.declared.start.Start.{Start}
 use Rattle.nearest.specs.Nearest.{HasValue}
 use Rattle.nearest.specs.Offers.{IsOffered}
 use Rattle.nearest.specs.Parts.{Begins, first_bits, IsRaised, TellsSide, TellsHalf, TellsPowers, chosen_of, ChoosesByCut}
@@ -32,7 +32,7 @@ use Rattle.nearest.proofs.Coarse.{head_of, raised_at, raised_is, raised_lt, near
 use Rattle.nearest.proofs.Places.{value_is}
 
 -- the size against the midpoint of the words low and low + 1
-unfoldable pub TellsMidpoint : ℕ → ℕ → ℕ → ℕ → Rest → Side → Type 0
+unfoldable pub TellsMidpoint : ℕ → ℕ → ℕ → ℕ → Rest → Ordering → Type 0
 TellsMidpoint n low e m rest side =
     (h : ℤ) (a b z z' : ℕ) → IsRaised h e → 0 < b → IsOffered m rest (h -ℤ pos 63) a b → HasValue n false z low → HasValue n false z' (low + 1) → TellsSide side (2 * a) ((z + z') * b)
 
@@ -56,7 +56,7 @@ pub record Given (n low e m : ℕ) (start : Start) : Type 0 where
   pub full : 2 ^ 63 ≤ m
   pub top : m < 2 ^ 64
   pub is : low ≡ first_bits start m / 2 ^ (64 - n)
-  pub begins : (h : ℤ) → IsRaised h e → Begins h start
+  pub begins : (h : ℤ) → IsRaised h e → Begins h start.bits start.r
 
 module _ (n low e m : ℕ) (start : Start) (given : Given n low e m start) where
   pub seven : start.r ≤ 7
@@ -74,17 +74,17 @@ module _ (n low e m : ℕ) (start : Start) (given : Given n low e m start) where
       ap₂ (λ (a b : ℕ). a + b) (value_is n given.lo given.hi z low given.first (omega (arith, next_room)) x)
       (value_is n given.lo given.hi z' (suc low) (omega arith) next_room (subst (HasValue n false z') (add-one low) y))
 
-  pub fine_tells : (rest : Rest) (side : Side) → 5 + start.r ≤ n → TellsHalf (m % 2 ^ (64 - (n - start.r - 4))) (2 ^ (63 - (n - start.r - 4))) rest side → TellsMidpoint n low e m rest side
+  pub fine_tells : (rest : Rest) (side : Ordering) → 5 + start.r ≤ n → TellsHalf (m % 2 ^ (64 - (n - start.r - 4))) (2 ^ (63 - (n - start.r - 4))) rest side → TellsMidpoint n low e m rest side
   unfolding TellsMidpoint
   fine_tells rest side fine t = λ h a b z z' is some offered hz hz'.
-      let K = binade_of h e start is (given.begins h is) in
+      let K = binade_of h e start.bits start.r is (given.begins h is) in
       subst (λ (x : ℕ). TellsSide side (2 * a) (x * b)) (sym (sizes z z' hz hz' ∙ ap (λ (x : ℕ). grown n x + grown n (suc x)) word))
       (fine_side h e start.bits (59 - start.r) K.0 K.1 m given.full given.top rest a b some offered n given.lo given.hi (omega (arith, fine, seven, given.hi))
       (subst (λ (x : ℕ). suc x < 2 ^ (n - 1)) word next_room) (subst (λ (x : ℕ). zero < x) word given.first) side
       (subst (λ (x : ℕ). TellsHalf (m % 2 ^ x) (2 ^ (62 - (59 - start.r) + (64 - n))) rest side) (omega (arith, fine, seven, given.hi)) (subst (λ (x : ℕ). TellsHalf (m % 2 ^ (64 - (n - start.r - 4))) (2 ^ x) rest side) (omega (arith, fine, seven, given.hi)) t)))
 
   -- the same of what is cut off when it stands at the top
-  pub fine_cut : (rest : Rest) (w : ℕ) → 5 + start.r ≤ n → ChoosesByCut low (m * 2 ^ (n - start.r - 4) % 2 ^ 64) rest w → (side : Side) × TellsMidpoint n low e m rest side × (w ≡ chosen_of low side)
+  pub fine_cut : (rest : Rest) (w : ℕ) → 5 + start.r ≤ n → ChoosesByCut low (m * 2 ^ (n - start.r - 4) % 2 ^ 64) rest w → (side : Ordering) × TellsMidpoint n low e m rest side × (w ≡ chosen_of low side)
   unfolding ChoosesByCut
   fine_cut rest w fine x =
       let kept = n - start.r - 4 in
@@ -100,7 +100,7 @@ module _ (n low e m : ℕ) (start : Start) (given : Given n low e m start) where
     string = floor_string start.bits (59 - start.r) m
 
     binade : (K : ℕ) × Binade (pos e -ℤ pos 255) e start.bits (59 - start.r) K
-    binade = binade_of (pos e -ℤ pos 255) e start (lowered e) (given.begins (pos e -ℤ pos 255) (lowered e))
+    binade = binade_of (pos e -ℤ pos 255) e start.bits start.r (lowered e) (given.begins (pos e -ℤ pos 255) (lowered e))
 
     -- the word from the string's head, which has the regime of the start
     word_of_head : low ≡ string / 2 ^ 52 / 2 ^ (12 - n)
@@ -167,7 +167,7 @@ module _ (n low e m : ℕ) (start : Start) (given : Given n low e m start) where
           beyond : floor_string start.bits (59 - start.r) m < suc low * 2 ^ (64 - n)
           beyond = subst (λ (v : ℕ). floor_string start.bits (59 - start.r) m < suc v * 2 ^ (64 - n)) (sym word) (omega (arith, split (floor_string start.bits (59 - start.r) m) (64 - n), mod-lt (floor_string start.bits (59 - start.r) m) (pow_pos (64 - n))))
 
-      pub coarse_tells : (rest : Rest) (side : Side) → TellsPowers i j e m rest side → TellsMidpoint n low e m rest side
+      pub coarse_tells : (rest : Rest) (side : Ordering) → TellsPowers i j e m rest side → TellsMidpoint n low e m rest side
       unfolding TellsMidpoint TellsPowers IsOffered
       coarse_tells rest side t = λ h a b z z' is some offered hz hz'.
           let x = h -ℤ pos 63 +ℤ pos 307 in

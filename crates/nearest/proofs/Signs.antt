@@ -38,7 +38,7 @@ module _ (n : ℕ) (lo : 2 ≤ n) (hi : n ≤ 64) where
     fits = omega (arith, (is_positive n lo hi h m rest w near).1, twice n lo)
 
     pub class_said : (q : Saying) → SaysOffered n false h m rest w q → SaysOffered n s h m rest (with_sign n s w) (signed_saying s q)
-    unfolding SaysOffered with_sign signed_saying
+    unfolding SaysOffered with_sign
     class_said q x a b some offered = by s
       where
         by : (s : Bool) → Says n s a b (cond s (negated n w) w) (cond s (opposite_saying q) q)

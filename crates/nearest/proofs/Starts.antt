@@ -3,7 +3,7 @@
 use mathlib.Core.Path.{◌≡◌, refl, sym, ap, ◌∙◌, subst}
 use mathlib.Core.Bool.{Bool, ◌&&◌}
 use Prim.Native.Nat.{ℕ, ◌+◌, ◌-◌, ◌*◌, ◌/◌, ◌%◌, ◌^◌, ◌≤◌, ◌<◌}
-use native.Mathlib.Nat.{mod-lt, le_of_suc-le-suc, le_trans, lt_of_le_of_lt, add-le-add, mul-le-mul, mul-le-mul_right, two-pow-succ, add-sub_cancel, add-mul}
+use native.Mathlib.Nat.{mod-lt, le_of_suc-le-suc, le_trans, lt_of_le_of_lt, add-le-add, mul-le-mul, mul-le-mul_right, two-pow-succ, add-sub_cancel, add-mul, le-add_right, lt_of_mul-lt-mul_right}
 use native.Mathlib.Omega.{arith}
 use lib.Dec.{T, eqb, eqb→eq, lit<}
 use lib.IntN.{ℤ, pos, negsuc}
@@ -13,10 +13,10 @@ use Rattle.word.specs.Takum as Takum
 use Rattle.word.specs.Takum.{regime_of, characteristic_of, S, D, R, r, p, C, F, c}
 use Rattle.word.proofs.Heads.{below, at_each, both}
 use Rattle.word.proofs.Integers.{same_integer, same_integer_is}
-use Rattle.bounds.proofs.Powers.{Log, pow_sum}
+use Rattle.bounds.proofs.Powers.{Log, pow_sum, shr_none}
 use Rattle.bounds.proofs.Limits.{exponent_lt, log}
 use Rattle.word.proofs.Cut.{S_head, r_head, c_head}
-use Rattle.nearest.specs.declared.size.Start.{Start}
+use Rattle.nearest.specs.declared.start.Start.{Start}
 use Rattle.nearest.specs.Parts.{Begins}
 
 -- the bits for the characteristics 2^ρ - 1 + i and -2^ρ - i, i below 2^ρ
@@ -73,7 +73,7 @@ module _ (bits : ℕ → ℕ → ℕ) (char : ℕ → ℕ → ℤ) (ok : T (all 
   unfolding head_of
   string f = omega (arith, split f 52, ap (λ (x : ℕ). bits ρ i * x) (pow_sum (7 - ρ) 52 (59 - ρ) (omega arith)))
 
-  begins : Begins (char ρ i) (record { bits = bits ρ i; r = ρ })
+  begins : Begins (char ρ i) (bits ρ i) ρ
   begins =
       record {
         regime = seven;
@@ -110,13 +110,13 @@ module _ (ρ size : ℕ) (log : Log ρ size) (most : size ≤ 255) where
   unfolding rest
   whole = omega (arith, log.low)
 
-  pub upper_begins : Begins (pos (size - 1)) (record { bits = (7 + ρ) * 2 ^ ρ + size; r = ρ })
+  pub upper_begins : Begins (pos (size - 1)) ((7 + ρ) * 2 ^ ρ + size) ρ
   unfolding upper upper_char
-  upper_begins = subst (λ (x : ℕ). Begins (pos (x - 1)) (record { bits = (7 + ρ) * 2 ^ ρ + x; r = ρ })) whole (begins upper upper_char upper_all ρ rest regime_small rest_lt)
+  upper_begins = subst (λ (x : ℕ). Begins (pos (x - 1)) ((7 + ρ) * 2 ^ ρ + x) ρ) whole (begins upper upper_char upper_all ρ rest regime_small rest_lt)
 
-  pub lower_begins : Begins (negsuc (size - 1)) (record { bits = (9 - ρ) * 2 ^ ρ - 1 - size; r = ρ })
+  pub lower_begins : Begins (negsuc (size - 1)) ((9 - ρ) * 2 ^ ρ - 1 - size) ρ
   unfolding lower lower_char
-  lower_begins = subst (λ (x : ℕ). Begins (negsuc (x - 1)) (record { bits = (9 - ρ) * 2 ^ ρ - 1 - x; r = ρ })) whole (begins lower lower_char lower_all ρ rest regime_small rest_lt)
+  lower_begins = subst (λ (x : ℕ). Begins (negsuc (x - 1)) ((9 - ρ) * 2 ^ ρ - 1 - x) ρ) whole (begins lower lower_char lower_all ρ rest regime_small rest_lt)
 
   -- what is computed on the way stays small
   power_small : 2 ^ ρ ≤ 128
@@ -144,13 +144,24 @@ module _ (ρ size : ℕ) (log : Log ρ size) (most : size ≤ 255) where
   pub upper_small : (7 + ρ) * 2 ^ ρ + size < 4096
   upper_small = lt_of_le_of_lt (add-le-add (mul-le-mul {n₁ = 7 + ρ} {n₂ = 14} (omega (arith, regime_small)) power_small) most) (lit< tt)
 
+-- a start leaves room for its sign
+pub start_lt : (h : ℤ) (bits r : ℕ) → Begins h bits r → bits < 2 ^ (4 + r)
+unfolding S
+start_lt h bits r begins =
+    lt_of_mul-lt-mul_right (2 ^ (59 - r))
+    (subst (λ (x : ℕ). bits * 2 ^ (59 - r) < x) (sym (pow_sum (4 + r) (59 - r) 63 (omega (arith, begins.regime)))) (lt_of_le_of_lt (le-add_right (bits * 2 ^ (59 - r)) 0) (shr_none 63 (bits * 2 ^ (59 - r) + 0) (begins.sign 0 (pow_pos (59 - r))))))
+
 -- every characteristic has its start
-pub start_exists : (h : ℤ) → mag h ≤ 254 → (start : Start) × Begins h start
-start_exists (pos i) b =
-    let t = log (i + 1) (omega arith) in
-    let start : Start = record { bits = (7 + t.0) * 2 ^ t.0 + (i + 1); r = t.0 } in
-    (start, subst (λ (x : ℕ). Begins (pos x) start) (add-sub_cancel i 1) (upper_begins t.0 (i + 1) (record { low = t.1; high = t.2 }) (omega (arith, b))))
-start_exists (negsuc i) b =
-    let t = log (i + 1) (omega arith) in
-    let start : Start = record { bits = (9 - t.0) * 2 ^ t.0 - 1 - (i + 1); r = t.0 } in
-    (start, subst (λ (x : ℕ). Begins (negsuc x) start) (add-sub_cancel i 1) (lower_begins t.0 (i + 1) (record { low = t.1; high = t.2 }) (omega (arith, b))))
+pub start_exists : (h : ℤ) → mag h ≤ 254 → (start : Start) × Begins h start.bits start.r
+start_exists h b = let t = numbers h b in
+    (record { bits = t.0; r = t.1; seven = t.2.regime; room = start_lt h t.0 t.1 t.2 }, t.2)
+  where
+    numbers : (h : ℤ) → mag h ≤ 254 → (bits : ℕ) × (r : ℕ) × Begins h bits r
+    numbers (pos i) b =
+        let t = log (i + 1) (omega arith) in
+        let bits = (7 + t.0) * 2 ^ t.0 + (i + 1) in
+        (bits, t.0, subst (λ (x : ℕ). Begins (pos x) bits t.0) (add-sub_cancel i 1) (upper_begins t.0 (i + 1) (record { low = t.1; high = t.2 }) (omega (arith, b))))
+    numbers (negsuc i) b =
+        let t = log (i + 1) (omega arith) in
+        let bits = (9 - t.0) * 2 ^ t.0 - 1 - (i + 1) in
+        (bits, t.0, subst (λ (x : ℕ). Begins (negsuc x) bits t.0) (add-sub_cancel i 1) (lower_begins t.0 (i + 1) (record { low = t.1; high = t.2 }) (omega (arith, b))))

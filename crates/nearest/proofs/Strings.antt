@@ -16,7 +16,6 @@ use Rattle.word.proofs.Integers.{balance, unbalance}
 use Rattle.word.proofs.Heads.{k}
 use Rattle.word.proofs.Sizes.{size, size_next}
 use Rattle.word.proofs.Meaning.{value_at, string_positive, exponent_whole}
-use Rattle.nearest.specs.declared.size.Start.{Start}
 use Rattle.nearest.specs.Parts.{Begins, IsRaised}
 
 -- three sizes one step apart, of which the first two are known
@@ -24,7 +23,7 @@ on : (W E a b c t : ℕ) → W ≡ t + 2 → b ≡ a + c → a ≡ (W + t) * E �
 on W E a b c t q s x y = omega (arith, s, x, y, ap (λ (z : ℕ). z * E) q)
 
 -- ---- the fields of the strings that begin with bits
-module _ (h : ℤ) (bits P : ℕ) (begins : Begins h (record { bits = bits; r = 59 - P })) (most : P ≤ 59) (f : ℕ) (inside : f < 2 ^ P) where
+module _ (h : ℤ) (bits P : ℕ) (begins : Begins h bits (59 - P)) (most : P ≤ 59) (f : ℕ) (inside : f < 2 ^ P) where
   same_P : 59 - (59 - P) ≡ P
   same_P = omega arith
 
@@ -59,40 +58,40 @@ module _ (h : ℤ) (bits P : ℕ) (begins : Begins h (record { bits = bits; r = 
 -- the strings that begin with sign 0 and bits have P more bits, and the last of them stands for 2^K
 pub record Binade (h : ℤ) (raised bits P K : ℕ) : Type 0 where
   pub is : IsRaised h raised
-  pub begins : Begins h (record { bits = bits; r = 59 - P })
+  pub begins : Begins h bits (59 - P)
   pub frac : 52 ≤ P
   pub most : P ≤ 59
   pub last : K + P ≡ raised + 52
 
 -- there is such a K
-pub binade_of : (h : ℤ) (raised : ℕ) (start : Start) → IsRaised h raised → Begins h start → (K : ℕ) × Binade h raised start.bits (59 - start.r) K
+pub binade_of : (h : ℤ) (raised bits r : ℕ) → IsRaised h raised → Begins h bits r → (K : ℕ) × Binade h raised bits (59 - r) K
 unfolding IsRaised
-binade_of h raised start is begins = (K, record { is = is; begins = moved; frac = omega (arith, begins.regime); most = short; last = last })
+binade_of h raised bits r is begins = (K, record { is = is; begins = moved; frac = omega (arith, begins.regime); most = short; last = last })
   where
     P : ℕ
-    P = 59 - start.r
+    P = 59 - r
 
     short : P ≤ 59
-    short = sub-le 59 start.r
+    short = sub-le 59 r
 
-    back : start.r ≡ 59 - P
+    back : r ≡ 59 - P
     back = omega (arith, begins.regime)
 
-    moved : Begins h (record { bits = start.bits; r = 59 - P })
-    moved = subst (λ (x : ℕ). Begins h (record { bits = start.bits; r = x })) back begins
+    moved : Begins h (bits) (59 - P)
+    moved = subst (λ (x : ℕ). Begins h (bits) x) back begins
 
     x : ℕ
-    x = start.bits * 2 ^ P + 0
+    x = bits * 2 ^ P + 0
 
     whole : (K : ℕ) × (e 64 x -ℤ pos (p 64 x) +ℤ pos 307 ≡ pos K)
-    whole = exponent_whole 64 x (lit≤ tt) (lit≤ tt) (lt_trans (string_lt h start.bits P moved short 0 (pow_pos P)) (lit< tt))
+    whole = exponent_whole 64 x (lit≤ tt) (lit≤ tt) (lt_trans (string_lt h bits P moved short 0 (pow_pos P)) (lit< tt))
 
     K : ℕ
     K = whole.0
 
     total : K + P + 255 ≡ raised + 0 + 307
     total =
-        unbalance h P 307 K (ap₂ (λ (z : ℤ) (y : ℕ). z -ℤ pos y +ℤ pos 307) (sym (exponent h start.bits P moved short 0 (pow_pos P))) (sym (count h start.bits P moved short 0 (pow_pos P))) ∙ whole.1) 0 255 raised
+        unbalance h P 307 K (ap₂ (λ (z : ℤ) (y : ℕ). z -ℤ pos y +ℤ pos 307) (sym (exponent h bits P moved short 0 (pow_pos P))) (sym (count h bits P moved short 0 (pow_pos P))) ∙ whole.1) 0 255 raised
         (ap (λ (z : ℤ). z +ℤ pos 255) (+ℤ_idr h) ∙ is)
 
     last : K + P ≡ raised + 52

@@ -2,4 +2,6 @@
 // the ends.
 #![tactic(auto)]
 
+mod amount;
 pub mod size;
+mod start;

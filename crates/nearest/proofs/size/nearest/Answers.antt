@@ -1,17 +1,14 @@
 -- `nearest` meets its contract: the width, and the nearest word of the size with its top bit set. Assumes nothing.
-use Rattle.bounds.specs.Sayings.{written}
-use mathlib.Core.Path.{◌≡◌, refl, sym, ◌∙◌, subst, subst₂}
-use Prim.Native.Nat.{ℕ, ◌+◌, ◌%◌, ◌^◌, ◌<◌}
-use native.Mathlib.Nat.{mod-lt, le-add_right}
-use native.Mathlib.Omega.{arith}
+use mathlib.Core.Path.{◌≡◌, refl, sym, subst, subst₂}
+use Prim.Native.Nat.{ℕ, ◌+◌, ◌%◌, ◌^◌}
 use lib.IntN.{ℤ}
-use lib.Pow.{pow_pos}
 use mir.Facts.{to_z-of_z}
-use Rattle.bounds.specs.declared.answer.Written.{Written}
 use Rattle.bounds.specs.declared.saying.Saying.{Saying}
-use Rattle.bounds.specs.Refusals.{through, refused}
-use Rattle.bounds.proofs.Verdicts.{width_through}
-use Rattle.bounds.proofs.Answers.{word_said, refusal_said}
+use Rattle.bounds.specs.Refusals.{passed, width_test, through}
+use Rattle.bounds.specs.Sayings.{written}
+use Rattle.bounds.proofs.Verdicts.{handed_on}
+use Rattle.bounds.proofs.Answers.{word_said, decided_said}
+use Rattle.bounds.proofs.Goods.{good_through, good_refused}
 use Rattle.nearest.specs.declared.size.Near.{Near}
 use Rattle.nearest.specs.declared.size.Rest.{Rest}
 use Rattle.nearest.specs.Offers.{FindsNearest}
@@ -22,35 +19,27 @@ use Rattle.nearest.proofs.Sayings.{is_positive}
 use Rattle.nearest.proofs.Signs.{class_signed, class_said}
 use Rattle.nearest.proofs.size.nearest.Goals as goal
 
-pub returns-in-Refused : goal.returns-in-Refused
+pub returns-in_err-good : goal.returns-in_err-good
 unfolding FindsAndSays FindsNearest
-returns-in-Refused c = refusal_said _ (refused (sym c.test-verdict.ensures ∙ c.in-Refused.is) refl)
+returns-in_err-good c = decided_said _ _ (handed_on _ _ c.from_residual.ensures.1 (good_refused _ _ c.in_err-good.ensures))
 
-pub overflow_add-full : goal.overflow_add-full
-overflow_add-full c = let below : c.args.m % 2 ^ 63 < 2 ^ 63 = mod-lt _ (pow_pos 63) in
-    record { fits = omega (arith, below) }
-
-pub nearest_word-near-requires : goal.nearest_word-near-requires
-nearest_word-near-requires c = let b = width_through _ (sym c.test-verdict.ensures ∙ c.in_default.is) in
-    (b.0, b.1, le-add_right _ _)
+pub with_sign-requires : goal.with_sign-requires
+with_sign-requires c = is_positive _ c.in_ok-good.good.least c.in_ok-good.good.most _ _ _ _ c.nearest_word-near.ensures.is
 
 -- the word that is found, at the exponent that was given
 near : (n : ℕ) (z h : ℤ) (m : ℕ) (rest : Rest) (x : Near) → z ≡ h → IsNear n z m rest x → IsNear n h m rest x
 near n z h m rest x same is = subst (λ (z : ℤ). IsNear n z m rest x) same is
 
-pub with_sign-requires : goal.with_sign-requires
-with_sign-requires c = let b = width_through _ (sym c.test-verdict.ensures ∙ c.in_default.is) in
-    let p = is_positive _ b.0 b.1 _ _ _ _ c.nearest_word-near.ensures.is in
-    (b.0, b.1, p.0, p.1)
-
 pub returns : goal.returns
 unfolding FindsAndSays FindsNearest SaysFound
 returns c =
-    let through_is = sym c.test-verdict.ensures ∙ c.in_default.is in
-    let b = width_through _ through_is in
-    let n = c.args.width.bits in
+    let width = c.in_ok-good.good in
+    let n = width.bits in
+    let good = good_through c.args.width.bits width c.in_ok-good.ensures in
     let full = 2 ^ 63 + c.args.m % 2 ^ 63 in
-    let x = near n _ c.args.h full c.rest_of.result c.nearest_word-near.result (to_z-of_z c.ranges.h) c.nearest_word-near.ensures in
-    subst₂ (λ (v : ℕ) (q : Saying). FindsAndSays n c.args.negative c.args.h c.args.m c.args.below (written v q)) (sym c.with_sign.ensures) (sym c.said.ensures)
-    (word_said _ _ (through through_is (with_sign n c.args.negative c.nearest_word-near.result.word, refl, c.rest_of.result, c.rest_of.ensures, class_signed _ b.0 b.1 _ _ _ _ x.is c.args.negative))
-    (λ rest is. subst (λ (rest : Rest). SaysOffered n c.args.negative c.args.h full rest (with_sign n c.args.negative c.nearest_word-near.result.word) (signed_saying c.args.negative (saying_of c.nearest_word-near.result))) (rest_one c.args.below c.rest_of.result rest c.rest_of.ensures is) (class_said _ b.0 b.1 _ _ _ _ x.is c.args.negative _ x.lies)))
+    let found = c.nearest_word-near.result in
+    let x = near n _ c.args.h full c.from.result found (to_z-of_z c.ranges.h) c.nearest_word-near.ensures in
+    subst₂ (λ (v : ℕ) (q : Saying). FindsAndSays c.args.width.bits c.args.negative c.args.h c.args.m c.args.below (written v q)) (sym c.with_sign.ensures) (sym c.said.ensures)
+    (subst (λ (k : ℕ). FindsAndSays k c.args.negative c.args.h c.args.m c.args.below (written (with_sign n c.args.negative found.word) (signed_saying c.args.negative (saying_of found.lies)))) good.1
+    (word_said _ _ (through (subst (λ (k : ℕ). width_test k ≡ passed) (sym good.1) good.0) (with_sign n c.args.negative found.word, refl, c.from.result, c.from.ensures, class_signed _ width.least width.most _ _ _ _ x.is c.args.negative))
+    (λ rest is. subst (λ (rest : Rest). SaysOffered n c.args.negative c.args.h full rest (with_sign n c.args.negative found.word) (signed_saying c.args.negative (saying_of found.lies))) (rest_one c.args.below c.from.result rest c.from.ensures is) (class_said _ width.least width.most _ _ _ _ x.is c.args.negative _ x.lies))))

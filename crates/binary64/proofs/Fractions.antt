@@ -1,6 +1,5 @@
 -- What is written, and what is said of it, turns on the value alone, and not on the fraction that it is offered as. Assumes nothing.
 use Rattle.bounds.specs.Refusals.{Answer}
-use Rattle.bounds.specs.Sayings.{written}
 use mathlib.Core.Path.{◌≡◌, subst₂}
 use mathlib.Core.Bool.{Bool}
 use Prim.Native.Nat.{ℕ, ◌*◌, ◌<◌}

@@ -1,11 +1,10 @@
 -- Two outcomes that a contract of this crate allows are equal. Assumes nothing.
 use Rattle.std.specs.Prelude.{Ok}
-use Rattle.bounds.specs.Refusals.{Answer}
 use mathlib.Core.Path.{◌≡◌, sym, ◌∙◌, subst}
 use Prim.Native.Nat.{ℕ, ◌*◌, ◌^◌, ◌≤◌}
 use lib.Ieee.{Float, nan, inf, fin, up, down}
 use lib.Ieee.Fits.{down_pos}
-use Rattle.bounds.specs.Refusals.{through, refused}
+use Rattle.bounds.specs.Refusals.{Answer, through, refused}
 use Rattle.word.specs.Takum.{Takum, real, NaR, takum}
 use Rattle.bounds.specs.declared.answer.Written.{Written}
 use Rattle.bounds.specs.declared.saying.Saying.{Saying}

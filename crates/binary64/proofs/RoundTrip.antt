@@ -1,7 +1,6 @@
 -- Up to width 57 a word taken out and written again, by either rule, is the first word. Assumes nothing.
 use Rattle.std.specs.Prelude.{Ok}
-use Rattle.bounds.specs.Refusals.{Answer}
-use Rattle.bounds.specs.Sayings.{written}
+use Rattle.bounds.specs.Refusals.{Answer, IsWord}
 use mathlib.Core.Path.{◌≡◌, sym, ap, ◌∙◌}
 use mathlib.Core.Bool.{Bool}
 use Prim.Native.Nat.{ℕ, ◌*◌, ◌^◌, ◌≤◌}
@@ -10,7 +9,6 @@ use lib.Ieee.{Float, nan, inf, fin, up, down}
 use lib.Ieee.Exact.{HasValue}
 use lib.Ieee.Fits.{down_pos}
 use Rattle.word.specs.Reads.{signed_size}
-use Rattle.bounds.specs.Refusals.{IsWord}
 use Rattle.word.specs.Takum.{real, takum}
 use Rattle.bounds.proofs.Verdicts.{width_fits, answered}
 use Rattle.round.specs.declared.value.Rule.{Rule}

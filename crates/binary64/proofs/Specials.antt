@@ -1,6 +1,6 @@
 -- What is special: NaN and both infinities give NaR, both zeros give zero, and NaR has no number. Assumes nothing.
 use Rattle.std.specs.Prelude.{Ok}
-use Rattle.bounds.specs.Refusals.{Answer}
+use Rattle.bounds.specs.Refusals.{Answer, IsWord}
 use mathlib.Core.Path.{◌≡◌, ap, ◌∙◌, subst}
 use mathlib.Core.Bool.{Bool}
 use Prim.Native.Nat.{ℕ, ◌*◌, ◌^◌, ◌≤◌}
@@ -8,7 +8,6 @@ use native.Mathlib.Nat.{zero-mul}
 use lib.IntN.{ℤ}
 use lib.Ieee.{nan, inf, fin, up, down}
 use lib.Ieee.Fits.{down_pos}
-use Rattle.bounds.specs.Refusals.{IsWord}
 use Rattle.word.specs.Takum.{Takum}
 use Rattle.bounds.specs.Widths.{nar_word}
 use Rattle.bounds.proofs.Verdicts.{width_fits, word_passes, answered}

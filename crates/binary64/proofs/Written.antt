@@ -1,7 +1,6 @@
 -- What is written for the value of a bit pattern, and said of it: whatever turns on the value alone is so of the pattern's number. Assumes nothing.
 use Rattle.std.specs.Prelude.{Ok}
 use Rattle.bounds.specs.Refusals.{Answer}
-use Rattle.bounds.specs.Sayings.{written}
 use mathlib.Core.Path.{◌≡◌, refl, sym, ap, ◌∙◌, subst}
 use mathlib.Core.Bool.{Bool}
 use Prim.Native.Nat.{ℕ, ◌+◌, ◌-◌, ◌*◌, ◌^◌, ◌≤◌, ◌<◌}

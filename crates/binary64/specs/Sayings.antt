@@ -1,13 +1,12 @@
 -- What writing a binary64 number says (paper 02, Wish 4): what is written is as in Writes.antt, and which way it went as in
 -- crates/nearest/specs/Sayings.antt.
-use Rattle.bounds.specs.Refusals.{Answer}
-use Rattle.bounds.specs.Sayings.{written}
 use Rattle.std.specs.Prelude.{◌≡◌, ℕ, ◌*◌, ◌^◌, Float}
 use Rattle.std.specs.Float.{nan, inf, fin}
 use Rattle.std.specs.Float.Ieee.{up, down}
 use Rattle.bounds.specs.declared.answer.Written.{Written}
 use Rattle.bounds.specs.declared.saying.Saying.{Saying}
 use Rattle.bounds.specs.declared.saying.Saying.TheVariants.{Exact}
+use Rattle.bounds.specs.Refusals.{Answer}
 use Rattle.bounds.specs.Sayings.{AndSays}
 use Rattle.nearest.specs.Sayings.{Says}
 use Rattle.round.specs.declared.value.Rule.{Rule}

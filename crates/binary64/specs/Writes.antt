@@ -1,11 +1,8 @@
 -- What writing a binary64 number means (paper 01, "Whole numbers and binary64"), in the toolchain's account of IEEE 754.
-use Rattle.std.specs.Prelude.{Ok, Err}
-use Rattle.bounds.specs.Refusals.{Answer}
-use Rattle.bounds.specs.Sayings.{written}
-use Rattle.std.specs.Prelude.{◌≡◌, ℕ, ◌*◌, ◌^◌, Float}
+use Rattle.std.specs.Prelude.{Ok, Err, ◌≡◌, ℕ, ◌*◌, ◌^◌, Float}
 use Rattle.std.specs.Float.{nan, inf, fin}
 use Rattle.std.specs.Float.Ieee.{up, down}
-use Rattle.bounds.specs.Refusals.{width_test, Decided}
+use Rattle.bounds.specs.Refusals.{Answer, width_test, Decided}
 use Rattle.bounds.specs.Widths.{nar_word}
 use Rattle.round.specs.declared.value.Rule.{Rule}
 use Rattle.round.specs.Writes.{IsWritten}

@@ -1,5 +1,5 @@
 // Taking a word out as a binary64 number.
-ghost use Rattle.std.specs.Prelude.{◌≡◌, ◌*◌, ◌^◌, ◌≤◌, ◌<◌, eqb};
+ghost use Rattle.std.specs.Prelude.{◌≡◌, ◌*◌, ◌^◌, ◌≤◌, ◌<◌};
 ghost use Rattle.std.specs.Float.Ieee.Exact.{HasValue};
 ghost use Rattle.std.specs.Float.Ieee.Nearest.{closest};
 ghost use Rattle.binary64.specs.Takes.{TakesBinary64};
@@ -8,6 +8,7 @@ use bounds::refusal::Refusal;
 use bounds::width::Width;
 use sizes::size::{WordSize, read_size};
 
+// No `Result`: paper 01 has an enum with a number, NaR and a refusal.
 #[derive(Clone, Copy)]
 pub enum Binary64 {
     Number(f64),
@@ -25,7 +26,7 @@ pub fn take_binary64(width: Width, word: u64) -> Binary64
         Ok(WordSize::Number(size)) => {
             // The lowest of 53 digits is 2^(h - 52).
             let j = (size.h + 971) as u64;
-            Binary64::Number(number(size.negative as u64, to_53_digits(size.m), j))
+            Binary64::Number(number(size.negative, to_53_digits(size.m), j))
         }
         Err(q) => Binary64::Refused(q),
     }
@@ -43,19 +44,19 @@ fn to_53_digits(m: u64) -> u64
     (1 << 52) + ((digits + up) >> 11)
 }
 
-// The number m * 2^(j - 1023), negative where the sign is 1. The cast and the scaling are exact: in every rounding mode they give the same number,
+// The number m * 2^(j - 1023), or minus that. The cast and the scaling are exact: in every rounding mode they give the same number,
 // and they raise no floating-point exception.
-fn number(sign: u64, m: u64, j: u64) -> f64
-    requires { (sign ≤ 1) × (m ≤ 2 ^ 53) × (0 < j) × (j ≤ 1400) }
-    ensures { HasValue result (eqb sign 1) (m * 2 ^ j) (2 ^ 1023) }
+fn number(negative: bool, m: u64, j: u64) -> f64
+    requires { (m ≤ 2 ^ 53) × (0 < j) × (j ≤ 1400) }
+    ensures { HasValue result negative (m * 2 ^ j) (2 ^ 1023) }
 {
-    m as f64 * power_of_two(sign, j)
+    m as f64 * power_of_two(negative, j)
 }
 
 // 2^(j - 1023) with its sign: the exponent j alone, with no digit beside the leading one.
-fn power_of_two(sign: u64, j: u64) -> f64
-    requires { (sign ≤ 1) × (0 < j) × (j < 2047) }
-    ensures { HasValue result (eqb sign 1) (2 ^ j) (2 ^ 1023) }
+fn power_of_two(negative: bool, j: u64) -> f64
+    requires { (0 < j) × (j < 2047) }
+    ensures { HasValue result negative (2 ^ j) (2 ^ 1023) }
 {
-    f64::from_bits((sign << 63) + (j << 52))
+    f64::from_bits(((negative as u64) << 63) + (j << 52))
 }

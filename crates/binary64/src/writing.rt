@@ -1,13 +1,13 @@
 // Writing a binary64 number as a word.
-ghost use Rattle.std.specs.Prelude.{◌≡◌};
 ghost use Rattle.std.specs.Float.{binary64};
-ghost use Rattle.std.specs.Float.Ieee.{of_bits, to_bits};
+ghost use Rattle.std.specs.Float.Ieee.{of_bits};
 ghost use Rattle.binary64.specs.Sayings.{WritesBinary64AndSays};
 
 use bounds::answer::Written;
 use bounds::refusal::Refusal;
 use bounds::width::Width;
 use round::value::Rule;
+use std::num::f64_to_bits_with_nan;
 use write::value::Value;
 use write::writing::write;
 
@@ -15,18 +15,8 @@ use write::writing::write;
 pub fn write_binary64(width: Width, rule: Rule, x: f64) -> Result<Written, Refusal>
     ensures { WritesBinary64AndSays width.bits rule x result }
 {
-    write_bits(width, rule, bits_of(x))
-}
-
-// The bit pattern. A NaN has many, and `to_bits` is not defined there; this one stands for all.
-fn bits_of(x: f64) -> u64
-    ensures { result ≡ to_bits binary64 x }
-{
-    // Only a NaN differs from itself. A signalling one raises INVALID here; the bits of what may be a NaN can't be had without a comparison.
-    if x != x {
-        return 0x7ff8_0000_0000_0000;
-    }
-    f64::to_bits(x)
+    // A signalling NaN raises INVALID here: the bits of what may be a NaN can't be had without a comparison.
+    write_bits(width, rule, f64_to_bits_with_nan(x))
 }
 
 // The word for the number of a bit pattern: its sign, its exponent and the digits below the leading one.

@@ -2,7 +2,6 @@
 -- Both lie strictly between the same two multiples of twice the last unit, and there every size is written alike. Assumes nothing.
 use Rattle.std.specs.Prelude.{Ok, Err}
 use Rattle.bounds.specs.Refusals.{Answer}
-use Rattle.bounds.specs.Sayings.{written}
 use mathlib.Core.Path.{◌≡◌, refl, sym, ap, ◌∙◌, subst}
 use mathlib.Core.Bool.{Bool, false}
 use Prim.Native.Nat.{ℕ, zero, suc, ◌+◌, ◌-◌, ◌*◌, ◌/◌, ◌%◌, ◌^◌, ◌≤◌, ◌<◌}
@@ -195,5 +194,5 @@ sixty_five_bits_dont_jam jams = differ (jams 5 (lit≤ tt) (lit≤ tt) Rule.Roun
     rounded_down : Nearest 5 false ((2 ^ 64 + 1) * 2 ^ (62 + 307)) 1 14
     rounded_down = tie_nearest 5 (lit≤ tt) (lit≤ tt) 14 (2 ^ (63 + 307)) (2 ^ (127 + 307)) ((2 ^ 64 + 1) * 2 ^ (62 + 307)) 1 (lit< tt) (lit< tt) (lit< tt) lower upper refl
 
-    differ : Ok 15 ≡ Ok 14 → ⊥
+    differ : ◌≡◌ {A = Answer ℕ} (Ok 15) (Ok 14) → ⊥
     differ q = omega (arith, ap word_of q)

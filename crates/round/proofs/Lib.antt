@@ -9,8 +9,6 @@ pub mod Scales
 pub mod Normal
 -- the normal form of 128 bits: the first 64, and what lies below them
 pub mod Long
--- the exponent of a size, as the machine adds it
-mod Held
 -- a word that has a size has it in this form
 pub mod Sized
 -- no word has a size that lies strictly between two multiples of a unit, past 64 bits

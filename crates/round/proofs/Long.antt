@@ -13,9 +13,8 @@ use Rattle.bounds.proofs.Powers.{pow_sum, not_more, shl_below, shl_out, Log, lea
 use Rattle.word.proofs.Units.{unit_some, lower_by}
 use Rattle.nearest.specs.declared.size.Rest.{Rest}
 use Rattle.nearest.specs.declared.size.Side.{Side}
-use Rattle.nearest.specs.Offers.{Amounts, IsOffered}
+use Rattle.nearest.specs.Offers.{Amounts, IsOffered, IsRest}
 use Rattle.nearest.specs.Parts.{TellsSide}
-use Rattle.nearest.specs.Offers.{IsRest}
 use Rattle.round.specs.Offers.{top_bits}
 use Rattle.round.proofs.Scales.{raise_offer, coarser}
 

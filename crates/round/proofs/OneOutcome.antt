@@ -1,7 +1,5 @@
 -- Two outcomes that the hub's contracts allow are equal, with their sayings. Assumes nothing.
 use Rattle.std.specs.Prelude.{Ok, Err}
-use Rattle.bounds.specs.Refusals.{Answer}
-use Rattle.bounds.specs.Sayings.{written}
 use mathlib.Core.Path.{◌≡◌, sym, ◌∙◌, subst}
 use mathlib.Core.Bool.{Bool}
 use Prim.Native.Nat.{ℕ, ◌+◌, ◌*◌, ◌^◌, ◌≤◌}
@@ -10,7 +8,7 @@ use Rattle.bounds.specs.declared.answer.Written.{Written}
 use Rattle.bounds.specs.declared.saying.Saying.{Saying}
 use Rattle.sizes.specs.declared.size.Size.{Size}
 use Rattle.word.specs.Reads.{num, den}
-use Rattle.bounds.specs.Refusals.{width_test, IsWord, Decided, through, refused}
+use Rattle.bounds.specs.Refusals.{Answer, width_test, IsWord, Decided, through, refused}
 use Rattle.bounds.proofs.Answers.{GivesAWord, said_one}
 use Rattle.bounds.proofs.Verdicts.{width_through, answered, refused_as}
 use Rattle.word.proofs.Units.{unit_some}

@@ -1,7 +1,5 @@
 -- Zero, and what each rule makes of the nearest word and its saying. Assumes nothing.
 use Rattle.std.specs.Prelude.{Ok, Err}
-use Rattle.bounds.specs.Refusals.{Answer}
-use Rattle.bounds.specs.Sayings.{written}
 use mathlib.Core.Path.{◌≡◌, refl, sym, ap, ◌∙◌, subst, subst₂}
 use mathlib.Core.Bool.{Bool, true, false, cond, true≢false}
 use Prim.Native.Nat.{ℕ, ◌+◌, ◌%◌, ◌^◌, ◌≤◌, ◌<◌}
@@ -14,8 +12,8 @@ use Rattle.bounds.specs.declared.answer.Written.{Written}
 use Rattle.bounds.specs.declared.refusal.Refusal.{Refusal}
 use Rattle.bounds.specs.declared.saying.Saying.{Saying}
 use Rattle.bounds.specs.declared.saying.Saying.TheVariants.{Exact}
-use Rattle.bounds.specs.Refusals.{width_test, Decided, through, refused}
-use Rattle.bounds.specs.Sayings.{says_exact, AndSays}
+use Rattle.bounds.specs.Refusals.{Answer, width_test, Decided, through, refused}
+use Rattle.bounds.specs.Sayings.{written, says_exact, AndSays}
 use Rattle.bounds.proofs.Answers.{GivesAWord, word_of, is_exact, word_said, refusal_said, decided_said}
 use Rattle.bounds.proofs.Verdicts.{width_through}
 use Rattle.word.proofs.Values.{no_sign}
@@ -72,30 +70,32 @@ module _ (n : ℕ) (lo : 2 ≤ n) (hi : n ≤ 64) (s : Bool) (a b w : ℕ) (t : 
       by true q = word_said w t (strict_word q) says
       by false q = refusal_said Refusal.Inexact (refl, strict_refusal q)
 
--- a refusal stays
-refusal_settled : (rule : Rule) (q : Refusal) → settled rule (Err q) ≡ Err q
-unfolding settled
-refusal_settled Rule.Rounded q = refl
-refusal_settled Rule.Strict q = refl
-
 -- what is found for a normal size is settled for each size that is offered so
-pub settles : (n : ℕ) (rule : Rule) (s : Bool) (h : ℤ) (m below : ℕ) (found : Answer Written) → 2 ^ 63 ≤ m → m < 2 ^ 64 → FindsAndSays n s h m below found → (rest : Rest) → IsRest below rest → (a b : ℕ) → 0 < a → 0 < b → IsOffered m rest (h -ℤ pos 63) a b
-    → AndSays (λ (r : Answer ℕ). Decided (width_test n) (λ q. r ≡ Err q) (IsWritten n rule s a b r)) (Says n s a b) (settled rule found)
+pub settles : (n : ℕ) (rule : Rule) (s : Bool) (h : ℤ) (m below : ℕ) (found : Written) → 2 ^ 63 ≤ m → m < 2 ^ 64 → FindsAndSays n s h m below (Ok found) → (rest : Rest) → IsRest below rest → (a b : ℕ) → 0 < a → 0 < b → IsOffered m rest (h -ℤ pos 63) a b
+    → AndSays (λ (r : Answer ℕ). Decided (width_test n) (λ q. r ≡ Err q) (IsWritten n rule s a b r)) (Says n s a b) (settled rule (Ok found))
 unfolding FindsAndSays FindsNearest SaysFound SaysOffered IsSignedNearest GivesAWord word_of
-settles n rule s h m below (Ok (w, t)) full top finds rest is a b nonzero some offered = by finds.answers
+settles n rule s h m below found full top finds rest is a b nonzero some offered = by finds.answers
   where
     same : 2 ^ 63 + m % 2 ^ 63 ≡ m
     same = omega (arith, full, top)
 
-    by : FindsNearest n s h m below (Ok w) → AndSays (λ (r : Answer ℕ). Decided (width_test n) (λ q. r ≡ Err q) (IsWritten n rule s a b r)) (Says n s a b) (settled rule (written w t))
+    by : FindsNearest n s h m below (Ok found.word) → AndSays (λ (r : Answer ℕ). Decided (width_test n) (λ q. r ≡ Err q) (IsWritten n rule s a b r)) (Says n s a b) (settled rule (Ok found))
     by (through e x) =
         let u = width_through n e in
         let offer = subst₂ (λ (m : ℕ) (rest : Rest). IsOffered m rest (h -ℤ pos 63) a b) (sym same) (rest_one below rest x.2 is x.3) offered in
         let near = subst (Nearest n s a b) (ap word_of (sym x.1)) (x.4 a b some offer) in
-        decided_said (width_test n) (settled rule (written w t)) (through e (word_settled n u.0 u.1 s a b w t nonzero some near (finds.says w t refl x.2 x.3 a b some offer) rule))
+        decided_said (width_test n) (settled rule (Ok found)) (through e (word_settled n u.0 u.1 s a b found.word found.saying nonzero some near (finds.says found.word found.saying refl x.2 x.3 a b some offer) rule))
     by (refused e x) = absurd (subst GivesAWord x tt)
-settles n rule s h m below (Err q) full top finds rest is a b nonzero some offered = by finds.answers
+
+-- and what is refused is refused for the width
+pub found_refused : (n : ℕ) (s : Bool) (h : ℤ) (m below : ℕ) (q : Refusal) → FindsAndSays n s h m below (Err q) → width_test n ≡ Err q
+unfolding FindsAndSays FindsNearest GivesAWord
+found_refused n s h m below q finds = by finds.answers
   where
-    by : FindsNearest n s h m below (Err q) → AndSays (λ (r : Answer ℕ). Decided (width_test n) (λ q. r ≡ Err q) (IsWritten n rule s a b r)) (Says n s a b) (settled rule (Err q))
+    refusal_of : Answer ℕ → Refusal
+    refusal_of (Ok w) = q
+    refusal_of (Err p) = p
+
+    by : FindsNearest n s h m below (Err q) → width_test n ≡ Err q
     by (through e x) = absurd (subst GivesAWord (sym x.1) tt)
-    by (refused e x) = subst (AndSays (λ (r : Answer ℕ). Decided (width_test n) (λ q. r ≡ Err q) (IsWritten n rule s a b r)) (Says n s a b)) (sym (refusal_settled rule q)) (refusal_said q (refused e x))
+    by (refused e x) = e ∙ ap Err (sym (ap refusal_of x))

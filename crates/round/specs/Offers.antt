@@ -1,13 +1,10 @@
 -- Serves private functions only: what is written for zero and for what goes past 64 bits, and what a rule makes of the nearest word.
-use Rattle.std.specs.Prelude.{Ok, Err}
-use Rattle.bounds.specs.Refusals.{Answer}
-use Rattle.bounds.specs.Sayings.{written}
-use Rattle.std.specs.Prelude.{◌≡◌, cond, ℕ, ◌+◌, ◌-◌, ◌*◌, ◌/◌, ◌^◌}
+use Rattle.std.specs.Prelude.{Ok, Err, ◌≡◌, cond, ℕ, ◌+◌, ◌-◌, ◌*◌, ◌/◌, ◌^◌}
 use Rattle.bounds.specs.declared.answer.Written.{Written}
 use Rattle.bounds.specs.declared.refusal.Refusal.{Refusal}
 use Rattle.bounds.specs.declared.saying.Saying.TheVariants.{Exact}
-use Rattle.bounds.specs.Refusals.{width_test, Decided}
-use Rattle.bounds.specs.Sayings.{says_exact}
+use Rattle.bounds.specs.Refusals.{Answer, width_test, Decided}
+use Rattle.bounds.specs.Sayings.{says_exact, written}
 use Rattle.round.specs.declared.value.Rule.{Rule}
 
 -- what is written for zero
@@ -21,5 +18,5 @@ top_bits high low zeros = high * 2 ^ zeros + low / 2 ^ (64 - zeros)
 -- what the rule makes of the nearest word
 unfoldable pub settled : Rule → Answer Written → Answer Written
 settled Rule.Rounded found = found
-settled Rule.Strict (Ok (w, s)) = cond (says_exact s) (written w s) (Err Refusal.Inexact)
+settled Rule.Strict (Ok a) = cond (says_exact a.saying) (Ok a) (Err Refusal.Inexact)
 settled Rule.Strict (Err q) = Err q

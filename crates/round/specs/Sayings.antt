@@ -1,8 +1,7 @@
 -- What the hub says beside a word (paper 02, Wish 4): what is written is as in Writes.antt, and which way it went as in crates/nearest/specs/Sayings.antt.
-use Rattle.bounds.specs.Refusals.{Answer}
-use Rattle.bounds.specs.Sayings.{written}
 use Rattle.std.specs.Prelude.{ℕ, ◌+◌, ◌*◌, ◌^◌, Bool, ℤ, pos, ◌+ℤ◌, ◌-ℤ◌}
 use Rattle.bounds.specs.declared.answer.Written.{Written}
+use Rattle.bounds.specs.Refusals.{Answer}
 use Rattle.bounds.specs.Sayings.{AndSays}
 use Rattle.sizes.specs.declared.size.Size.{Size}
 use Rattle.word.specs.Reads.{num, den}

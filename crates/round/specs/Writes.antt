@@ -1,11 +1,9 @@
 -- What writing by a rule means (paper 01, "Writing a value"), as properties of the word that is given; and what the hub answers.
-use Rattle.std.specs.Prelude.{Ok, Err}
-use Rattle.bounds.specs.Refusals.{Answer}
-use Rattle.std.specs.Prelude.{◌≡◌, Bool, ℕ, ◌+◌, ◌*◌, ◌^◌, ◌<◌, ℤ, pos, ◌+ℤ◌, ◌-ℤ◌}
+use Rattle.std.specs.Prelude.{Ok, Err, ◌≡◌, Bool, ℕ, ◌+◌, ◌*◌, ◌^◌, ◌<◌, ℤ, pos, ◌+ℤ◌, ◌-ℤ◌}
 use Rattle.bounds.specs.declared.refusal.Refusal.{Refusal}
 use Rattle.sizes.specs.declared.size.Size.{Size}
 use Rattle.word.specs.Reads.{num, den}
-use Rattle.bounds.specs.Refusals.{width_test, Decided}
+use Rattle.bounds.specs.Refusals.{Answer, width_test, Decided}
 use Rattle.nearest.specs.Nearest.{HasValue, Nearest}
 use Rattle.round.specs.declared.value.Rule.{Rule}
 use Rattle.round.specs.declared.value.LongValue.{LongValue}

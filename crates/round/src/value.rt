@@ -11,7 +11,7 @@ pub struct LongValue {
 }
 
 // Rounded gives the nearest word, strict the word with exactly that value or a refusal.
-#[derive(Clone, Copy)]
+#[derive(Clone, Copy, PartialEq, Eq)]
 pub enum Rule {
     Rounded,
     Strict,

@@ -1,5 +1,6 @@
 // Writing a long value as a word: every number that is written passes here.
 ghost use Rattle.std.specs.Prelude.{Ok, ◌≡◌, ◌+◌, ◌-◌, ◌*◌, ◌^◌, ◌≤◌, ◌<◌};
+ghost use Rattle.std.specs.Int.Signed.{mag};
 ghost use Rattle.round.specs.declared.value.Rule.{Rule};
 ghost use Rattle.round.specs.Sayings.{WritesLongAndSays, WritesShortAndSays, WritesSizeAndSays};
 ghost use Rattle.round.specs.Offers.{WritesZero, settled, top_bits};
@@ -18,10 +19,10 @@ pub fn write_long(width: Width, rule: Rule, value: LongValue) -> Result<Written,
     if value.high == 0 {
         return write_short(width, rule, value.negative, value.low, value.k);
     }
-    write_full(width, rule, value.negative, value.high, value.low, value.k)
+    write_full(width, rule, value)
 }
 
-// The same of m * 2^k with its sign. Most values are so short, so they have a call of their own.
+// The same of m * 2^k with its sign. Most values are so short, so they have a call of their own. README.md has these parameters.
 pub fn write_short(
     width: Width,
     rule: Rule,
@@ -31,28 +32,33 @@ pub fn write_short(
 ) -> Result<Written, Refusal>
     ensures { WritesShortAndSays width.bits rule negative m k result }
 {
-    if m == 0 {
-        return zero_word(width);
-    }
-    let zeros = u64::leading_zeros(m);
-    let h = k as i64 + (63 - zeros) as i64;
-    let full = m << zeros;
-    let found = nearest(width, negative, h, full, 0)?;
-    by_rule(rule, found)
+    write_scaled(width, rule, negative, m, k as i64)
 }
 
 // The same of a size as a word is read in, m * 2^(h - 63) with its sign, also where the top bit of m isn't set.
 pub fn write_size(width: Width, rule: Rule, size: Size) -> Result<Written, Refusal>
     ensures { WritesSizeAndSays width.bits rule size result }
 {
-    let m = size.m;
+    write_scaled(width, rule, size.negative, size.m, size.h as i64 - 63)
+}
+
+// The same of m * 2^k with its sign, k having room for what moves the top bit of m to 2^63.
+fn write_scaled(
+    width: Width,
+    rule: Rule,
+    negative: bool,
+    m: u64,
+    k: i64,
+) -> Result<Written, Refusal>
+    requires { mag k ≤ 2 ^ 32 }
+    ensures { WritesShortAndSays width.bits rule negative m k result }
+{
     if m == 0 {
         return zero_word(width);
     }
-    let zeros = u64::leading_zeros(m);
-    let h = size.h as i64 - zeros as i64;
-    let full = m << zeros;
-    let found = nearest(width, size.negative, h, full, 0)?;
+    let zeros = m.leading_zeros();
+    let h = k + (63 - zeros) as i64;
+    let found = nearest(width, negative, h, m << zeros, 0)?;
     by_rule(rule, found)
 }
 
@@ -65,22 +71,15 @@ fn zero_word(width: Width) -> Result<Written, Refusal>
 }
 
 // What is written for a significand that goes past 64 bits. Its first 64 stand in m, the others below.
-fn write_full(
-    width: Width,
-    rule: Rule,
-    negative: bool,
-    high: u64,
-    low: u64,
-    k: i32,
-) -> Result<Written, Refusal>
-    requires { 0 < high }
-    ensures { WritesShortAndSays width.bits rule negative (high * 2 ^ 64 + low) k result }
+fn write_full(width: Width, rule: Rule, value: LongValue) -> Result<Written, Refusal>
+    requires { 0 < value.high }
+    ensures { WritesLongAndSays width.bits rule value result }
 {
-    let zeros = u64::leading_zeros(high);
-    let h = k as i64 + (127 - zeros) as i64;
-    let m = top_bits(high, low, zeros);
-    let below = low << zeros;
-    let found = nearest(width, negative, h, m, below)?;
+    let zeros = value.high.leading_zeros();
+    let h = value.k as i64 + (127 - zeros) as i64;
+    let m = top_bits(value.high, value.low, zeros);
+    let below = value.low << zeros;
+    let found = nearest(width, value.negative, h, m, below)?;
     by_rule(rule, found)
 }
 

@@ -1,6 +1,5 @@
 -- What is answered for a value, once the whole number nearest to it is known: the range, and then the rule. Assumes nothing.
 use Rattle.std.specs.Prelude.{Err}
-use Rattle.bounds.specs.Refusals.{passed}
 use mathlib.Core.Path.{◌≡◌, refl, ap}
 use mathlib.Core.Bool.{Bool, true, false}
 use Prim.Native.Nat.{ℕ, zero, suc, ◌*◌, ◌^◌, ◌≤◌, ◌<◌}
@@ -10,7 +9,7 @@ use borrow.Author.Tests.{lt-ltb, le-ltb, le-leb, lt-leb}
 use lib.Dec.{eqb}
 use lib.IntN.{ℤ, nat_abs}
 use Rattle.bounds.specs.declared.refusal.Refusal.{Refusal}
-use Rattle.bounds.specs.Refusals.{◌then◌, through, refused}
+use Rattle.bounds.specs.Refusals.{passed, Verdict, ◌then◌, through, refused}
 use Rattle.word.specs.Takum.{real}
 use Rattle.word.specs.Reads.{signed_size}
 use Rattle.whole.specs.declared.taking.Taking.{Taking}

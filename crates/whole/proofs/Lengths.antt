@@ -7,11 +7,11 @@ use native.Mathlib.Nat.{le_of_suc-le-suc, le_of_eq, le_of_lt, le_trans, le_antis
 use native.Mathlib.Numerals.{add-one}
 use native.Mathlib.Omega.{arith}
 use borrow.Author.Tests.{eq-eqb, ne_eqb, eqb-true, eqb-false}
-use lib.Count.{count_leading_zeros, count_trailing_zeros}
+use lib.Count.{count_trailing_zeros}
 use lib.Dec.{eqb}
 use lib.IntN.{ℤ, pos, nat_abs, ◌-ℤ◌}
 use lib.Pow.{pow_pos, pow-add}
-use Rattle.bounds.proofs.Powers.{Log, leading_log, pow_sum}
+use Rattle.bounds.proofs.Powers.{Log, pow_sum}
 use Rattle.bounds.proofs.Limits.{exponent_lt}
 use Rattle.word.proofs.Signed.{difference}
 use Rattle.nearest.specs.Nearest.{HasValue}
@@ -231,26 +231,26 @@ pub record Counted (m v w log : ℕ) : Type 0 where
   pub most : v ≤ 64
   pub short : log < 8
 
-pub counted : (m : ℕ) → zero < m → m < 2 ^ 64 → Counted m (64 - count_leading_zeros 64 m) (count_trailing_zeros 64 m) (31 - count_leading_zeros 32 (64 - count_leading_zeros 64 m))
-counted m some fits = record {
-  top = 63 - count_leading_zeros 64 m;
-  top_is = record { low = t.1.low; high = subst (λ (k : ℕ). m < 2 ^ k) (sym (add-one (63 - count_leading_zeros 64 m))) t.1.high };
-  v_is = omega (arith, t.0);
+pub counted : (m top log : ℕ) → zero < m → m < 2 ^ 64 → 2 ^ top ≤ m → m < 2 * 2 ^ top → 2 ^ log ≤ top + 1 → top + 1 < 2 * 2 ^ log → Counted m (top + 1) (count_trailing_zeros 64 m) log
+counted m top log some fits low high log_low log_high = record {
+  top = top;
+  top_is = is_log m top low high;
+  v_is = omega arith;
   w_is = greatest_of_all m (count_trailing_zeros 64 m) part;
-  log_is = record { low = u.1.low; high = subst (λ (k : ℕ). v < 2 ^ k) (sym (add-one (31 - count_leading_zeros 32 v))) u.1.high };
-  few = omega (arith, t.0, exponent_lt (count_trailing_zeros 64 m) (suc (63 - count_leading_zeros 64 m)) (lt_of_le_of_lt (odd_part_from m (count_trailing_zeros 64 m) part) t.1.high));
-  most = omega arith;
-  short = omega (arith, exponent_lt (31 - count_leading_zeros 32 v) 7 (lt_of_le_of_lt u.1.low (omega arith)));
+  log_is = is_log (top + 1) log log_low log_high;
+  few = omega (arith, exponent_lt (count_trailing_zeros 64 m) (suc top) (lt_of_le_of_lt (odd_part_from m (count_trailing_zeros 64 m) part) (doubled top m high)));
+  most = omega (arith, short);
+  short = omega (arith, exponent_lt log 7 (lt_of_le_of_lt log_low (omega (arith, short))));
 }
   where
-    t : (count_leading_zeros 64 m < 64) × Log (63 - count_leading_zeros 64 m) m
-    t = leading_log 64 m some fits
+    doubled : (k a : ℕ) → a < 2 * 2 ^ k → a < 2 ^ suc k
+    doubled k a h = omega (arith, h, two-pow-succ k)
 
-    v : ℕ
-    v = 64 - count_leading_zeros 64 m
+    is_log : (a k : ℕ) → 2 ^ k ≤ a → a < 2 * 2 ^ k → IsLog a k
+    is_log a k low high = record { low = low; high = subst (λ (j : ℕ). a < 2 ^ j) (sym (add-one k)) (doubled k a high) }
 
-    u : (count_leading_zeros 32 v < 32) × Log (31 - count_leading_zeros 32 v) v
-    u = leading_log 32 v (omega (arith, t.0)) (omega arith)
+    short : top < 64
+    short = exponent_lt top 64 (lt_of_le_of_lt low fits)
 
     part : OddPart m (count_trailing_zeros 64 m)
     part = trailing_odd 64 m some fits

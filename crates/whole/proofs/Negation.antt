@@ -1,12 +1,11 @@
 -- The negated word is taken out as the negated number, but for that of -2^63, which is OVER. Assumes nothing.
 use Rattle.std.specs.Prelude.{Ok, Err}
-use Rattle.bounds.specs.Refusals.{passed, Answer}
 use mathlib.Core.Path.{◌≡◌, refl, sym, ap, ap₂, ◌∙◌, subst}
 use Prim.Native.Nat.{ℕ, ◌*◌, ◌^◌, ◌<◌}
 use lib.Dec.{eqb}
 use lib.IntN.{ℤ, pos, neg_ℤ, nat_abs}
 use Rattle.bounds.specs.declared.refusal.Refusal.{Refusal}
-use Rattle.bounds.specs.Refusals.{◌then◌, unless, through, refused}
+use Rattle.bounds.specs.Refusals.{passed, Answer, Verdict, ◌then◌, unless, through, refused}
 use Rattle.bounds.proofs.Verdicts.{then_through, word_passes}
 use Rattle.word.specs.Orders.{negated, opposite}
 use Rattle.word.specs.Takum.{Takum, real}

@@ -1,12 +1,12 @@
 -- Two outcomes that the contract of a call allows are equal. Assumes nothing.
 use Rattle.std.specs.Prelude.{Ok, Err}
-use Rattle.bounds.specs.Refusals.{Answer}
 use mathlib.Core.Path.{◌≡◌, sym, ap, ◌∙◌, subst}
 use Prim.Native.Nat.{ℕ, ◌*◌, ◌^◌, ◌≤◌, ◌<◌}
 use native.Mathlib.Nat.{zero-lt-suc, le_antisymm}
 use lib.IntN.{ℤ, nat_abs}
 use Rattle.bounds.specs.declared.answer.Written.{Written}
-use Rattle.bounds.specs.Refusals.{◌then◌, Decided, through, refused}
+use Rattle.bounds.specs.declared.width.Width.{Width}
+use Rattle.bounds.specs.Refusals.{Answer, ◌then◌, Decided, through, refused}
 use Rattle.word.specs.Takum.{Takum, real, NaR, takum}
 use Rattle.bounds.proofs.Answers.{said_one}
 use Rattle.bounds.proofs.Powers.{not_more}

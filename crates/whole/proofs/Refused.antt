@@ -1,7 +1,7 @@
 -- Each refusal of taking out is given exactly when the table of paper 01 says: NAR of NaR, OVER outside 64 bits, INEXACT where strict and no whole
 -- number has the value. Assumes nothing.
 use Rattle.std.specs.Prelude.{Err}
-use Rattle.bounds.specs.Refusals.{passed, Answer}
+use Rattle.bounds.specs.Refusals.{passed, Answer, IsWord, unless}
 use mathlib.Core.Path.{◌≡◌, refl, sym, ap, ◌∙◌, subst}
 use mathlib.Core.Bool.{Bool, true, false}
 use mathlib.Core.Logic.{◌⊎◌, inl, inr}
@@ -11,7 +11,6 @@ use borrow.Author.Tests.{ne_eqb, eqb-false}
 use lib.Dec.{eqb, leb, ltb}
 use lib.IntN.{ℤ, pos, negsuc, nat_abs}
 use Rattle.bounds.specs.declared.refusal.Refusal.{Refusal}
-use Rattle.bounds.specs.Refusals.{IsWord, unless}
 use Rattle.word.specs.Takum.{Takum, real, NaR, takum}
 use Rattle.word.proofs.Values.{absolute}
 use Rattle.bounds.proofs.Verdicts.{word_passes, answered}

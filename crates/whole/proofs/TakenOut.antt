@@ -1,10 +1,9 @@
 -- What is known where a whole number was taken out of a word: it is the nearest to the word's value, and no test refused it. Assumes nothing.
 use Rattle.std.specs.Prelude.{Ok, Err}
-use Rattle.bounds.specs.Refusals.{passed, Answer}
 use mathlib.Core.Path.{◌≡◌, refl, sym, ap, subst}
 use Prim.Native.Nat.{ℕ}
 use lib.IntN.{ℤ}
-use Rattle.bounds.specs.Refusals.{◌then◌, IsWord, through, refused}
+use Rattle.bounds.specs.Refusals.{passed, Answer, ◌then◌, IsWord, through, refused}
 use Rattle.word.specs.Takum.{Takum, real, NaR, takum}
 use Rattle.bounds.proofs.Verdicts.{word_through}
 use Rattle.whole.specs.declared.taking.Taking.{Taking}

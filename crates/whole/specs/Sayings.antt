@@ -1,9 +1,8 @@
 -- What writing a whole number says (paper 02, Wish 4): what is written is as in Wholes.antt, and which way it went as in
 -- crates/nearest/specs/Sayings.antt.
-use Rattle.bounds.specs.Refusals.{Answer}
-use Rattle.bounds.specs.Sayings.{written}
 use Rattle.std.specs.Prelude.{ℕ, ◌*◌, ◌^◌, ℤ, nat_abs}
 use Rattle.bounds.specs.declared.answer.Written.{Written}
+use Rattle.bounds.specs.Refusals.{Answer}
 use Rattle.bounds.specs.Sayings.{AndSays}
 use Rattle.nearest.specs.Sayings.{Says}
 use Rattle.round.specs.declared.value.Rule.{Rule}

@@ -1,8 +1,8 @@
 -- The shortest word for a count (paper 02, Wish 9), as a property of the width that is given.
-use Rattle.std.specs.Prelude.{Ok, Err}
-use Rattle.bounds.specs.Refusals.{Answer}
-use Rattle.std.specs.Prelude.{◌≡◌, ℕ, ◌*◌, ◌^◌, ◌≤◌, ◌<◌, ℤ, nat_abs}
+use Rattle.std.specs.Prelude.{Ok, Err, ◌≡◌, ℕ, ◌*◌, ◌^◌, ◌≤◌, ◌<◌, ℤ, nat_abs}
 use Rattle.bounds.specs.declared.refusal.Refusal.{Refusal}
+use Rattle.bounds.specs.declared.width.Width.{Width}
+use Rattle.bounds.specs.Refusals.{Answer}
 use Rattle.nearest.specs.Nearest.{HasValue}
 use Rattle.write.specs.Writes.{is_negative}
 

@@ -1,10 +1,8 @@
 -- Whole numbers in and out (paper 01, "Whole numbers and binary64"; paper 02, Wish 2), as properties of the word or of the whole number that is given.
-use Rattle.std.specs.Prelude.{Ok, Err}
-use Rattle.bounds.specs.Refusals.{passed, Answer}
-use Rattle.std.specs.Prelude.{◌≡◌, ◌⊎◌, ℕ, suc, ◌*◌, ◌%◌, ◌^◌, ◌≤◌, eqb, leb, ltb, ℤ, pos, negsuc, nat_abs, ◌-ℤ◌, ◌*ℤ◌}
+use Rattle.std.specs.Prelude.{Ok, Err, ◌≡◌, ◌⊎◌, ℕ, suc, ◌*◌, ◌%◌, ◌^◌, ◌≤◌, eqb, leb, ltb, ℤ, pos, negsuc, nat_abs, ◌-ℤ◌, ◌*ℤ◌}
 use Rattle.bounds.specs.declared.refusal.Refusal.{Refusal}
 use Rattle.word.specs.Takum.{Takum, real, NaR, takum}
-use Rattle.bounds.specs.Refusals.{unless, width_test, word_test, ◌then◌, Decided}
+use Rattle.bounds.specs.Refusals.{Answer, Verdict, passed, unless, width_test, word_test, ◌then◌, Decided}
 use Rattle.round.specs.declared.value.Rule.{Rule}
 use Rattle.round.specs.Writes.{IsWritten}
 use Rattle.write.specs.Writes.{is_negative}

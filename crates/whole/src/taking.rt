@@ -9,11 +9,20 @@ use bounds::refusal::Refusal;
 use bounds::width::Width;
 use sizes::size::{Size, WordSize, read_size};
 
-// Nearest rounds, halves to the even number; strict refuses a value that isn't whole.
-#[derive(Clone, Copy)]
+// Nearest rounds, halves to the even number; strict refuses a value that isn't whole. It is no `Rule`, since C has an enum for each, with other names.
+#[derive(Clone, Copy, PartialEq, Eq)]
 pub enum Taking {
     Nearest,
     Strict,
+}
+
+// What a word means, from a half up: m * 2^(k - 64) with its sign. The top bit of m is set.
+#[derive(Clone, Copy)]
+struct Amount {
+    negative: bool,
+    k: u32,
+    m: u64,
+    ghost full: { 2 ^ 63 ≤ m },
 }
 
 // The whole number nearest to the word's value, or strictly that value itself, where it falls inside signed 64 bits.
@@ -35,7 +44,12 @@ fn take_number(rule: Taking, size: Size) -> Result<i64, Refusal>
     if size.h < -1 {
         return below_half(rule);
     }
-    take_size(rule, size.negative, (size.h + 1) as u32, size.m)
+    let amount = Amount {
+        negative: size.negative,
+        k: (size.h + 1) as u32,
+        m: size.m,
+    };
+    amount.take(rule)
 }
 
 // Of a size below a half zero is the nearest, and something is left beside it.
@@ -48,43 +62,39 @@ fn below_half(rule: Taking) -> Result<i64, Refusal>
     }
 }
 
-// From a half up: the whole number of m * 2^(k - 64) with its sign, m having its top bit set.
-fn take_size(rule: Taking, negative: bool, k: u32, m: u64) -> Result<i64, Refusal>
-    requires { (2 ^ 63 ≤ m) × WholeWhereLarge (pos k -ℤ pos 1) m }
-    ensures { TakesSize rule negative (pos k -ℤ pos 1) m result }
-{
-    if 63 < k {
-        return take_far(negative, k, m);
-    }
-    // The lowest 64 - k bits are the fraction. A word that has one is below 2^55, so the nearest whole number stays inside signed 64 bits.
-    let whole = (m >> 1) >> (63 - k);
-    let fraction = m << k;
-    match rule {
-        Taking::Nearest => Ok(with_sign(negative, nearest(whole, fraction))),
-        Taking::Strict => {
-            if fraction == 0 {
-                return Ok(with_sign(negative, whole));
+impl Amount {
+    // Its whole number. Each rule makes its own answer: where one function asks the rule last, LLVM doesn't compile it into the call.
+    fn take(self, rule: Taking) -> Result<i64, Refusal>
+        requires { WholeWhereLarge (pos self.k -ℤ pos 1) self.m }
+        ensures { TakesSize rule self.negative (pos self.k -ℤ pos 1) self.m result }
+    {
+        if 63 < self.k {
+            return self.take_far();
+        }
+        // The lowest 64 - k bits are the fraction. A word that has one is below 2^55, so the nearest whole number stays inside signed 64 bits.
+        let whole = (self.m >> 1) >> (63 - self.k);
+        let fraction = self.m << self.k;
+        match rule {
+            Taking::Nearest => Ok(with_sign(self.negative, nearest(whole, fraction))),
+            Taking::Strict => {
+                if fraction == 0 {
+                    return Ok(with_sign(self.negative, whole));
+                }
+                Err(Refusal::Inexact)
             }
-            Err(Refusal::Inexact)
         }
     }
-}
 
-// From 2^63 on only -2^63 itself falls inside signed 64 bits. No fraction is left, so the rule doesn't matter.
-fn take_far(negative: bool, k: u32, m: u64) -> Result<i64, Refusal>
-    requires { (2 ^ 63 ≤ m) × (63 < k) }
-    ensures { TakesByEitherRule negative (pos k -ℤ pos 1) m result }
-{
-    if 64 < k {
-        return Err(Refusal::Over);
-    }
-    if negative {
-        if m == 1 << 63 {
-            return Ok(-0x8000_0000_0000_0000);
+    // From 2^63 on only -2^63 itself falls inside signed 64 bits. No fraction is left, so the rule doesn't matter.
+    fn take_far(self) -> Result<i64, Refusal>
+        requires { 63 < self.k }
+        ensures { TakesByEitherRule self.negative (pos self.k -ℤ pos 1) self.m result }
+    {
+        if self.negative && self.k == 64 && self.m == 1 << 63 {
+            return Ok(i64::MIN);
         }
-        return Err(Refusal::Over);
+        Err(Refusal::Over)
     }
-    Err(Refusal::Over)
 }
 
 // Whole or whole + 1, whichever is nearer to whole + fraction * 2^-64. An odd whole lowers the bound by one, so that it goes up at a half. One test decides,
@@ -104,7 +114,7 @@ fn with_sign(negative: bool, size: u64) -> i64
     ensures { result ≡ signed_size negative size }
 {
     if negative {
-        return 0 - size as i64;
+        return -(size as i64);
     }
     size as i64
 }

@@ -1,5 +1,4 @@
 // A whole number in: written as a word, rounded or strict.
-ghost use Rattle.std.specs.Prelude.{◌≡◌, nat_abs};
 ghost use Rattle.whole.specs.Sayings.{WritesWholeAndSays};
 
 use bounds::answer::Written;
@@ -15,19 +14,8 @@ pub fn write_whole(width: Width, rule: Rule, x: i64) -> Result<Written, Refusal>
 {
     let value = Value {
         negative: x < 0,
-        m: size(x),
+        m: x.unsigned_abs(),
         k: 0,
     };
     write(width, rule, value)
-}
-
-// How large a whole number is without its sign; -2^63 has no opposite in 64 bits, so -1 - x is taken first.
-pub(crate) fn size(x: i64) -> u64
-    ensures { result ≡ nat_abs x }
-{
-    if x < 0 {
-        let less = -1 - x;
-        return less as u64 + 1;
-    }
-    x as u64
 }

@@ -1,5 +1,7 @@
 -- The laws of writing and moving, one idea a file, in reading order.
 
+-- what a word's size tells, once it was read
+pub mod Told
 -- what is written for the size of what a word means is what is written for its meaning
 pub mod Meanings
 -- a word is moved to the word with its value where there is one; a strict move gives no other

@@ -1,6 +1,5 @@
 -- What is written for the size of what a word means, and said of it, is what is written for its meaning, and the other way. Assumes nothing.
 use Rattle.bounds.specs.Refusals.{Answer}
-use Rattle.bounds.specs.Sayings.{written}
 use mathlib.Core.Path.{◌≡◌, sym, subst, subst₂}
 use mathlib.Core.Bool.{Bool, true, false}
 use Prim.Native.Nat.{ℕ, zero, suc, ◌*◌, ◌<◌}

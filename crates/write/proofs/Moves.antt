@@ -1,6 +1,5 @@
 -- The laws of moves: a word is moved to the word with its value where there is one, and a strict move gives no other. Assumes nothing.
 use Rattle.std.specs.Prelude.{Ok}
-use Rattle.bounds.specs.Refusals.{Answer}
 use mathlib.Core.Path.{◌≡◌, refl, sym, ap, ◌∙◌, subst}
 use Prim.Native.Nat.{ℕ, ◌+◌, ◌-◌, ◌*◌, ◌^◌, ◌≤◌, ◌<◌}
 use native.Mathlib.Nat.{mul-one}
@@ -9,7 +8,7 @@ use lib.IntN.{ℤ, pos, negsuc, nat_abs}
 use lib.Pow.{pow_pos}
 use Rattle.word.specs.Takum.{Takum, real, NaR, takum}
 use Rattle.word.specs.Reads.{signed_size}
-use Rattle.bounds.specs.Refusals.{IsWord, through, refused}
+use Rattle.bounds.specs.Refusals.{Answer, IsWord, through, refused}
 use Rattle.bounds.specs.Widths.{nar_word}
 use Rattle.bounds.proofs.Answers as Answers
 use Rattle.bounds.proofs.Answers.{GivesAWord}

@@ -1,6 +1,5 @@
 -- Two outcomes that the contracts of writing and of moving allow are equal, with their sayings. Assumes nothing.
 use Rattle.std.specs.Prelude.{Ok}
-use Rattle.bounds.specs.Refusals.{Answer}
 use mathlib.Core.Path.{◌≡◌, sym, ◌∙◌, subst}
 use Prim.Native.Nat.{ℕ, ◌*◌, ◌≤◌}
 use native.Mathlib.Nat.{zero-lt-suc}
@@ -9,7 +8,7 @@ use Rattle.bounds.specs.declared.answer.Written.{Written}
 use Rattle.bounds.specs.declared.saying.Saying.{Saying}
 use Rattle.word.specs.Takum.{Takum, real, NaR, takum}
 use Rattle.word.specs.Reads.{num, den}
-use Rattle.bounds.specs.Refusals.{through, refused}
+use Rattle.bounds.specs.Refusals.{Answer, through, refused}
 use Rattle.bounds.proofs.Answers.{GivesAWord, said_one}
 use Rattle.bounds.proofs.Verdicts.{width_fits, width_through, move_through, answered, refused_as}
 use Rattle.round.specs.declared.value.Rule.{Rule}

@@ -1,11 +1,10 @@
 -- What writing a value and moving a word say (paper 02, Wish 4): what is written is as in Writes.antt, and which way it went as in
 -- crates/nearest/specs/Sayings.antt.
-use Rattle.bounds.specs.Refusals.{Answer}
-use Rattle.bounds.specs.Sayings.{written}
 use Rattle.std.specs.Prelude.{◌≡◌, ℕ, ◌*◌, pos, nat_abs, ◌+ℤ◌}
 use Rattle.bounds.specs.declared.answer.Written.{Written}
 use Rattle.bounds.specs.declared.saying.Saying.{Saying}
 use Rattle.bounds.specs.declared.saying.Saying.TheVariants.{Exact}
+use Rattle.bounds.specs.Refusals.{Answer}
 use Rattle.bounds.specs.Sayings.{AndSays}
 use Rattle.word.specs.Takum.{Takum, real, NaR, takum}
 use Rattle.word.specs.Reads.{num, den}

@@ -1,10 +1,8 @@
 -- What writing a value and moving a word mean (paper 01, "Writing a value").
-use Rattle.std.specs.Prelude.{Ok, Err}
-use Rattle.bounds.specs.Refusals.{Answer}
-use Rattle.std.specs.Prelude.{◌≡◌, Bool, true, false, ℕ, ◌*◌, ℤ, pos, negsuc, nat_abs, ◌+ℤ◌}
+use Rattle.std.specs.Prelude.{Ok, Err, ◌≡◌, Bool, true, false, ℕ, ◌*◌, ℤ, pos, negsuc, nat_abs, ◌+ℤ◌}
 use Rattle.word.specs.Takum.{Takum, real, NaR, takum}
 use Rattle.word.specs.Reads.{num, den}
-use Rattle.bounds.specs.Refusals.{width_test, stray_test, ◌then◌, Decided}
+use Rattle.bounds.specs.Refusals.{Answer, width_test, stray_test, ◌then◌, Decided}
 use Rattle.bounds.specs.Widths.{nar_word}
 use Rattle.round.specs.declared.value.Rule.{Rule}
 use Rattle.round.specs.Writes.{IsWritten}

@@ -9,4 +9,4 @@ use Rattle.binary64.proofs.writing.write_binary64.Goals as goal
 pub returns : goal.returns
 returns c =
     let fits = subst T (sym c.well_formed.1.1.0.1) tt in
-    subst (λ (x : Float). WritesBinary64AndSays c.args.width.bits c.args.rule x c.write_bits.result) (ap (of_bits binary64) c.bits_of.ensures ∙ of_bits-to_bits binary64 c.args.x fits) c.write_bits.ensures
+    subst (λ (x : Float). WritesBinary64AndSays c.args.width.bits c.args.rule x c.write_bits.result) (ap (of_bits binary64) c.f64_to_bits_with_nan.ensures ∙ of_bits-to_bits binary64 c.args.x fits) c.write_bits.ensures

@@ -1,28 +1,29 @@
 -- `write_bits` meets its contract: the fields that it cuts out are those of the value. Assumes nothing.
-use Rattle.std.specs.Prelude.{Ok, Err}
+use Rattle.std.specs.Prelude.{Ok}
 use mathlib.Core.Path.{◌≡◌, refl, sym, ap, ◌∙◌, subst}
 use mathlib.Core.Bool.{Bool, cond}
 use Prim.Native.Nat.{ℕ, ◌+◌, ◌/◌, ◌^◌, ◌<◌}
 use native.Mathlib.Omega.{arith}
+use borrow.Author.Differences.{ints}
 use borrow.Author.Tests.{ne_eqb}
 use lib.Bits.{mask_lt}
 use lib.IntN.{ℤ, pos, ◌-ℤ◌}
-use mir.Facts.{to_z-of_z, to_z_pos}
 use mir.Syntax.{w32}
-use mir.Val.{SFits, to_z, of_z}
+use mir.Val.{to_z, of_z}
 use lib.Ieee.{binary64, of_bits}
+use Rattle.bounds.specs.declared.answer.Written.{Written}
 use Rattle.bounds.specs.declared.saying.Saying.TheVariants.{Exact}
-use Rattle.bounds.specs.Refusals.{width_test, Decided, through, refused}
+use Rattle.bounds.specs.Refusals.{through}
 use Rattle.bounds.specs.Sayings.{exactly}
 use Rattle.bounds.specs.Widths.{nar_word, GivesWord}
-use Rattle.bounds.proofs.Answers.{word_said, refusal_said}
-use Rattle.word.proofs.Signed.{sub_mag}
+use Rattle.bounds.proofs.Answers.{word_said, decided_said}
+use Rattle.bounds.proofs.Verdicts.{handed_on}
 use Rattle.write.specs.Writes.{Writes}
 use Rattle.write.specs.Sayings.{WritesAndSays}
 use Rattle.binary64.specs.Writes.{WritesBinary64}
 use Rattle.binary64.specs.Sayings.{WritesBinary64AndSays}
-use Rattle.binary64.proofs.Decisions.{decided_as}
-use Rattle.binary64.proofs.Patterns.{sign_bit, field, digits, lead, Unbounded, pattern_unbounded}
+use Rattle.binary64.proofs.Decisions.{decided_as, given, not_given}
+use Rattle.binary64.proofs.Patterns.{sign_bit, field, digits, lead, pattern_unbounded}
 use Rattle.binary64.proofs.Written.{unbounded_written, unbounded_said, written_with_lead, written_without_lead, said_with_lead, said_without_lead}
 use Rattle.binary64.proofs.writing.write_bits.Goals as goal
 
@@ -34,31 +35,22 @@ module _ (b : ℕ) where
   field_fits : field b < 2 ^ 11
   field_fits = mask_lt (b / 2 ^ 52) 11
 
-  digits_fit : digits b < 2 ^ 52
-  digits_fit = mask_lt b 52
-
-  difference : to_z w32 (field b) -ℤ pos 1075 ≡ pos (field b) -ℤ pos 1075
-  difference = ap (λ (z : ℤ). z -ℤ pos 1075) (to_z_pos w32 small)
-    where
-      small : field b < 2 ^ 31
-      small = omega (arith, field_fits)
-
-  difference_fits : SFits w32 (pos (field b) -ℤ pos 1075)
-  difference_fits = record { sfits = omega (arith, sub_mag (pos (field b)) (pos 1075), field_fits) }
-
   exponent : to_z w32 (of_z w32 (to_z w32 (field b) -ℤ pos 1075)) ≡ pos (field b) -ℤ pos 1075
-  exponent = ap (λ (z : ℤ). to_z w32 (of_z w32 z)) difference ∙ to_z-of_z difference_fits
+  exponent = grind (arith, ints, field_fits)
+
+pub returns-in_err-nar : goal.returns-in_err-nar
+unfolding WritesBinary64AndSays WritesBinary64 GivesWord
+returns-in_err-nar c = decided_said _ _ (handed_on _ _ c.from_residual.ensures.1 (not_given nar_word _ c.in_err-nar.ensures))
 
 pub returns-then-exponent-eq2047 : goal.returns-then-exponent-eq2047
 unfolding WritesBinary64AndSays WritesBinary64 GivesWord
-returns-then-exponent-eq2047 c = by c.nar.ensures
-  where
-    unbounded : Unbounded (of_bits binary64 c.args.bits)
-    unbounded = pattern_unbounded _ (omega arith)
-
-    by : Decided (width_test c.args.width.bits) (λ q. c.nar.result ≡ Err q) (c.nar.result ≡ Ok (nar_word c.args.width.bits)) → WritesBinary64AndSays c.args.width.bits c.args.rule (of_bits binary64 c.args.bits) c.exactly.result
-    by (through h x) = subst (WritesBinary64AndSays c.args.width.bits c.args.rule (of_bits binary64 c.args.bits)) (sym (c.exactly.ensures ∙ ap exactly x)) (word_said _ Exact (through h (unbounded_written _ _ _ _ unbounded refl)) (unbounded_said _ _ _ unbounded))
-    by (refused h x) = subst (WritesBinary64AndSays c.args.width.bits c.args.rule (of_bits binary64 c.args.bits)) (sym (c.exactly.ensures ∙ ap exactly x)) (refusal_said _ (refused h refl))
+returns-then-exponent-eq2047 c =
+    let n = c.args.width.bits in
+    let x = of_bits binary64 c.args.bits in
+    let unbounded = pattern_unbounded _ (omega arith) in
+    let t = given nar_word n c.in_ok-nar.ensures in
+    subst (λ (a : Written). WritesBinary64AndSays n c.args.rule x (Ok a)) (sym (c.exactly.ensures ∙ ap exactly t.1))
+    (word_said (nar_word n) Exact (through t.0 (unbounded_written n c.args.rule (Ok (nar_word n)) x unbounded refl)) (unbounded_said n (nar_word n) x unbounded))
 
 pub returns-then-exponent-eq0 : goal.returns-then-exponent-eq0
 unfolding WritesBinary64AndSays WritesBinary64 WritesAndSays Writes
@@ -70,15 +62,6 @@ returns-then-exponent-eq0 c =
       answers = decided_as (λ q h. h) (written_without_lead _ _ _ b bounded none) c.write.ensures.answers;
       says = λ w q is. said_without_lead _ w q b bounded none (c.write.ensures.says w q is);
     }
-
-pub overflow_add-m : goal.overflow_add-m
-overflow_add-m c = record { fits = omega (arith, digits_fit c.args.bits) }
-
-pub overflow_cast-k : goal.overflow_cast-k
-overflow_cast-k c = record { sfits = omega (arith, field_fits c.args.bits) }
-
-pub overflow_sub-k : goal.overflow_sub-k
-overflow_sub-k c = subst (λ (z : ℤ). SFits w32 z) (sym (difference c.args.bits)) (difference_fits c.args.bits)
 
 pub returns : goal.returns
 unfolding WritesBinary64AndSays WritesBinary64 WritesAndSays Writes

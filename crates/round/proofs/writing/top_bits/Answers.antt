@@ -25,9 +25,6 @@ module _ (s : goal.Start) where
   high_bits : s.args.high * 2 ^ zeros % 2 ^ 64 ≡ s.args.high * 2 ^ zeros
   high_bits = mod-eq_of_lt s.requires.1
 
-pub overflow_sub-result : goal.overflow_sub-result
-overflow_sub-result c = c.requires.0
-
 pub overflow_add-result : goal.overflow_add-result
 overflow_add-result c = record { fits = subst (λ (x : ℕ). x < 2 ^ 64) (ap₂ (λ (x y : ℕ). x + y) (sym (high_bits c)) (sym (low_bits c))) (sum_fits c) }
 

@@ -1,30 +1,12 @@
 -- `write_long` meets its contract: one number or two. Assumes nothing.
-use mathlib.Core.Path.{◌≡◌, subst, subst₂}
-use Prim.Native.Nat.{ℕ, ◌+◌, ◌*◌, ◌^◌}
-use native.Mathlib.Nat.{pos_of_ne-zero}
+use mathlib.Core.Path.{◌≡◌}
+use Prim.Native.Nat.{◌+◌, ◌*◌, ◌^◌}
 use native.Mathlib.Omega.{arith}
-use lib.IntN.{ℤ}
-use mir.Facts.{to_z-of_z}
-use mir.Syntax.{w32}
-use mir.Val.{SFits, to_z, of_z}
 use borrow.Author.Rules.{rules}
-use Rattle.round.specs.Sayings.{WritesShortAndSays, WritesLongAndSays}
+use Rattle.round.specs.Sayings.{WritesLongAndSays}
 use Rattle.round.proofs.writing.write_long.Goals as goal
 
 pub returns-then-value-eq0 : goal.returns-then-value-eq0
 unfolding WritesLongAndSays
-returns-then-value-eq0 c = let v = c.args.value in
-    let fits : SFits w32 v.k = search rules in
-    let held : to_z w32 (of_z w32 v.k) ≡ v.k = to_z-of_z fits in
-    let all : v.low ≡ v.high * 2 ^ 64 + v.low = omega (arith, c.if-value-eq0.true) in
-    subst₂ (λ (x : ℕ) (z : ℤ). WritesShortAndSays c.args.width.bits c.args.rule v.negative x z c.write_short.result) all held c.write_short.ensures
-
-pub write_full-requires : goal.write_full-requires
-write_full-requires c = pos_of_ne-zero c.if-value-eq0.false
-
-pub returns : goal.returns
-unfolding WritesLongAndSays
-returns c = let v = c.args.value in
-    let fits : SFits w32 v.k = search rules in
-    let held : to_z w32 (of_z w32 v.k) ≡ v.k = to_z-of_z fits in
-    subst (λ (z : ℤ). WritesShortAndSays c.args.width.bits c.args.rule v.negative (v.high * 2 ^ 64 + v.low) z c.write_full.result) held c.write_full.ensures
+returns-then-value-eq0 c = let all : c.args.value.low ≡ c.args.value.high * 2 ^ 64 + c.args.value.low = omega (arith, c.if-value-eq0.true) in
+    rw (← all) search rules

@@ -1,7 +1,7 @@
 -- `shortest_width` meets its contract: zero has a word at width 2, and the words of every other number begin at its length. Assumes nothing.
 use Rattle.std.specs.Prelude.{Ok}
 use mathlib.Core.Path.{◌≡◌, sym, ap, ◌∙◌, subst}
-use Prim.Native.Nat.{ℕ, zero, ◌^◌, ◌<◌}
+use Prim.Native.Nat.{ℕ, ◌^◌, ◌<◌}
 use native.Mathlib.Omega.{arith}
 use lib.IntN.{ℤ, pos, negsuc, nat_abs}
 use mir.Facts.{to_z-of_z}
@@ -10,7 +10,7 @@ use mir.Val.{SFits, to_z, of_z}
 use Rattle.whole.specs.Shortest.{GivesShortest}
 use Rattle.whole.specs.Parts.{IsLength}
 use Rattle.whole.proofs.Lengths.{BeginsAt}
-use Rattle.whole.proofs.ShortestWidths.{has_size, given_for_zero, given_at, refused_past, begins}
+use Rattle.whole.proofs.ShortestWidths.{given_for_zero, given_at, refused_past, begins}
 use Rattle.whole.proofs.shortest.shortest_width.Goals as goal
 
 -- a size fits in 64 bits
@@ -25,11 +25,8 @@ counted x m l small q is = begins x l (fits x small) (subst (λ (m : ℕ). IsLen
 pub returns-then-x-eq0 : goal.returns-then-x-eq0
 returns-then-x-eq0 c = subst (λ (x : ℤ). GivesShortest x (Ok (record { bits = 2 }))) (sym (sym (to_z-of_z {w = w64} c.ranges.x) ∙ ap (to_z w64) c.if-x-eq0.true)) given_for_zero
 
-pub length-bits-requires : goal.length-bits-requires
-length-bits-requires c = subst (λ (m : ℕ). zero < m) (sym (c.size.ensures ∙ ap nat_abs (to_z-of_z {w = w64} c.ranges.x))) (has_size c.args.x (λ e. c.if-x-eq0.false (ap (of_z w64) e)))
-
 pub returns-then-bits-gt-GREATEST : goal.returns-then-bits-gt-GREATEST
-returns-then-bits-gt-GREATEST c = refused_past _ _ (counted c.args.x _ _ c.ranges.x c.size.ensures c.length-bits.ensures) (omega arith)
+returns-then-bits-gt-GREATEST c = refused_past _ _ (counted c.args.x _ _ c.ranges.x c.unsigned_abs.ensures.value c.length-bits.ensures) (omega arith)
 
 pub returns : goal.returns
-returns c = given_at _ _ (counted c.args.x _ _ c.ranges.x c.size.ensures c.length-bits.ensures) (omega arith)
+returns c = given_at _ _ (counted c.args.x _ _ c.ranges.x c.unsigned_abs.ensures.value c.length-bits.ensures) (omega arith)

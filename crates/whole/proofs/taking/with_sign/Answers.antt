@@ -33,9 +33,6 @@ module _ (i : ℕ) (small : i < 2 ^ 63) where
 tested : {s t : Bool} {z : ℤ} (i : ℕ) → s ≡ t → z ≡ signed_size t i → z ≡ signed_size s i
 tested i q e = e ∙ sym (ap (λ (b : Bool). signed_size b i) q)
 
-pub overflow_sub-result : goal.overflow_sub-result
-overflow_sub-result c = opposite_fits _ c.requires
-
 pub returns-then-negative : goal.returns-then-negative
 returns-then-negative c = tested _ c.if-negative.true (below _ c.requires)
 

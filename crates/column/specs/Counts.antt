@@ -1,8 +1,6 @@
 -- How many words of a column were moved exactly (paper 02, Wish 4), from the values alone and not from what was said of each word.
-use Rattle.std.specs.Prelude.{Ok, Err}
-use Rattle.bounds.specs.declared.refusal.ListRefusal.{ListRefusal}
+use Rattle.std.specs.Prelude.{◌≡◌, List, ℕ, suc, get_or, ⊤, Ok, Err}
 use Rattle.bounds.specs.Refusals.{ListAnswer}
-use Rattle.std.specs.Prelude.{◌≡◌, List, ℕ, suc, get_or}
 use Rattle.word.specs.Takum.{takum}
 use Rattle.round.specs.declared.value.Rule.{Rule}
 use Rattle.column.specs.declared.moving.MovedColumn.{MovedColumn}
@@ -18,12 +16,11 @@ pub data Counts (Has : ℕ → Type 0) : ℕ → ℕ → Type 0 where
 unfoldable pub KeepsTheMeaning : ℕ → ℕ → List ℕ → List ℕ → ℕ → Type 0
 KeepsTheMeaning n n' words after i = takum n' (get_or after i 0) ≡ takum n (get_or words i 0)
 
--- at how many positions of a moved column it does; of a refused one at none
-unfoldable pub CountsExact : ℕ → ℕ → List ℕ → List ℕ → ListAnswer ℕ → ℕ → Type 0
-CountsExact n n' words after (Ok count) exact = Counts (KeepsTheMeaning n n' words after) count exact
-CountsExact n n' words after (Err (ListRefusal.Whole q)) exact = exact ≡ 0
-CountsExact n n' words after (Err (ListRefusal.At position q)) exact = exact ≡ 0
+-- at how many positions of a moved column it does; a refused one has none that was moved
+unfoldable pub CountsExact : ℕ → ℕ → List ℕ → List ℕ → ListAnswer MovedColumn → Type 0
+CountsExact n n' words after (Ok a) = Counts (KeepsTheMeaning n n' words after) a.moved a.exact
+CountsExact n n' words after (Err e) = ⊤
 
 -- ---- what the result slice holds after the call, and how many of its words are exact
-unfoldable pub HoldsAndCounts : ℕ → ℕ → Rule → List ℕ → List ℕ → MovedColumn → List ℕ → Type 0
-HoldsAndCounts n n' rule words before a after = Holds n n' rule words before a.answer after × CountsExact n n' words after a.answer a.exact
+unfoldable pub HoldsAndCounts : ℕ → ℕ → Rule → List ℕ → List ℕ → ListAnswer MovedColumn → List ℕ → Type 0
+HoldsAndCounts n n' rule words before a after = Holds n n' rule words before a after × CountsExact n n' words after a

@@ -1,9 +1,9 @@
 // Moving a column: every word is tried before any result is written, so that a refusal leaves the results as they came.
 ghost use Rattle.std.specs.Prelude.{◌≡◌, ◌≤◌, length};
 ghost use Rattle.bounds.specs.Refusals.{passed, width_test};
-ghost use Rattle.column.specs.Columns.{Movable, MovableUpTo, IsTried, AreMoved, MovesColumn};
+ghost use Rattle.column.specs.Columns.{Movable, MovableUpTo, AreMoved, MovesColumn};
 ghost use Rattle.column.specs.Counts.{Counts, KeepsTheMeaning, HoldsAndCounts};
-ghost use Rattle.column.specs.Trials.{TriesWord, MovesWord};
+ghost use Rattle.column.specs.Trials.{TriesWord, TriesWords, MovesWord};
 
 use bounds::refusal::{ListRefusal, Refusal};
 use bounds::room::test_room;
@@ -46,19 +46,17 @@ pub fn move_column(
     })
 }
 
-// What the column's answer is, both widths and the room being good: the first word that is refused decides.
-fn try_words(from: Width, to: Width, rule: Rule, words: &[u64]) -> Result<usize, ListRefusal>
+// Whether every word can be moved, both widths being good: the first that is refused decides.
+fn try_words(from: Width, to: Width, rule: Rule, words: &[u64]) -> Result<(), ListRefusal>
     requires { (width_test from.bits ≡ passed) × (width_test to.bits ≡ passed) }
-    ensures { IsTried from.bits to.bits rule words.now result }
+    ensures { TriesWords from.bits to.bits rule words.now result }
 {
-    let mut position = 0;
-    while position < words.len() {
-        if let Err(refusal) = try_word(from, to, rule, words[position]) {
+    for (position, word) in words.iter().enumerate() {
+        if let Err(refusal) = try_word(from, to, rule, *word) {
             return Err(ListRefusal::At { position, refusal });
         }
-        position += 1;
     }
-    Ok(position)
+    Ok(())
 }
 
 // Whether the word can be moved. Rounding gives every word of the width a word, so only a stray bit is refused there.

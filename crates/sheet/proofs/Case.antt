@@ -1,14 +1,13 @@
 -- The block that paper 01 gives as a case is read, with the A and B that it gives, and written. Assumes nothing.
 use Rattle.std.specs.Prelude.{Ok}
-use Rattle.bounds.specs.Refusals.{passed}
-use Rattle.bounds.specs.Sayings.{written}
+use Rattle.bounds.specs.Refusals.{Answer, passed}
 use Rattle.std.proofs.Common.{◌≡◌, ℕ, zero, suc, Bool, true, ◌&&◌, ltb, List, [], ◌∷◌, ◌++◌, replicate, refl, lit<, ltb-true}
 use Rattle.bounds.proofs.Verdicts.{both, answered}
 use Rattle.bounds.specs.Refusals.{room_test}
 use Rattle.sheet.specs.declared.block.Block.{Block}
 use Rattle.sheet.specs.Layout.{AreBytes, number, number_at, packed, mark, width, count, block_number, word_bytes, end, words, unused, A, B, numbers}
 use Rattle.sheet.specs.Sums.{total, sum_a, running, sum_b}
-use Rattle.sheet.specs.Reads.{is_block_width, all_zero, size_test, mark_test, check_test, block_width_test, count_test, fill_test, block_test, ReadsBlock, FillsResults}
+use Rattle.sheet.specs.Reads.{is_block_width, all_zero, size_test, mark_test, check_test, block_width_test, count_test, fill_test, block_test, block_read, ReadsBlock, FillsResults}
 use Rattle.sheet.specs.Writes.{IsBlockOf, FillsBuffer}
 use Rattle.sheet.proofs.RoundTrip.{has_content}
 use Rattle.sheet.proofs.SameContent.{same_bytes}
@@ -29,7 +28,7 @@ unfolding case A B number_at number packed mark width count word_bytes end unuse
 case_passes = refl
 
 -- width 16, block 1, two words
-pub case_answer : (a : Block) → ReadsBlock case 2 a → a ≡ Block.Read 16 1 2
+pub case_answer : (a : Answer Block) → ReadsBlock case 2 a → a ≡ block_read 16 1 2
 unfolding case ReadsBlock width count block_number number_at number
 case_answer a r = answered case_passes r
 
@@ -57,6 +56,6 @@ case_has_content : IsBlockOf 16 1 (0x5A00 ∷ 0x8000 ∷ []) case
 unfolding case words width count block_number word_bytes packed number_at number
 case_has_content = has_content case 2 case_bytes case_passes
 
-pub case_written : (before after : List ℕ) → FillsBuffer 16 1 (0x5A00 ∷ 0x8000 ∷ []) before Ok tt after → after ≡ case
+pub case_written : (before after : List ℕ) → FillsBuffer 16 1 (0x5A00 ∷ 0x8000 ∷ []) before (Ok tt) after → after ≡ case
 unfolding FillsBuffer
 case_written before after x = same_bytes 16 1 (0x5A00 ∷ 0x8000 ∷ []) after case x case_has_content

@@ -1,11 +1,15 @@
 -- The tests of a content in the paper's order, what is known of one that they let through, and its words, tried in order. Assumes nothing.
-use Rattle.std.specs.Prelude.{Err}
-use Rattle.bounds.specs.declared.refusal.ListRefusal.{ListRefusal}
-use Rattle.bounds.specs.Refusals.{passed}
-use Rattle.std.proofs.Common.{◌≡◌, ℕ, ◌+◌, ◌-◌, ◌*◌, ◌/◌, ◌^◌, ◌<◌, ◌≤◌, Bool, true, false, not, List, length, get_or, sym, ap, ◌∙◌, subst, le_antisymm, arith, pow_pos, below_none, below_more, eq-eqb, ne_eqb, eqb-true, leb-true}
+use Rattle.std.proofs.Common.{◌≡◌, ℕ, ◌+◌, ◌-◌, ◌*◌, ◌/◌, ◌^◌, ◌<◌, ◌≤◌, Bool, true, false, not, ltb, List, length, get_or, Option, None, Some, Err, refl, sym, ap, ◌∙◌, subst, arith, pow_pos, eq-eqb, ne_eqb, eqb-true, leb-true, ltb-true, lt-ltb}
+use borrow.Author.Tests.{ltb-false}
 use mathlib.Core.Bool.{false≢true}
+use native.Mathlib.Decide.{dec_lt}
+use Rattle.std.proofs.lemmas.List.Quantifiers.{position-Some}
+use Rattle.std.proofs.lemmas.List.Sums.{fails_before_first}
+use Rattle.std.specs.List.{position, position_or_len}
+use Rattle.bounds.specs.declared.refusal.ListRefusal.{ListRefusal}
 use Rattle.bounds.specs.declared.refusal.Refusal.{Refusal}
-use Rattle.bounds.specs.Refusals.{unless, ◌then◌}
+use Rattle.bounds.specs.Refusals.{passed, unless, stray_test, ◌then◌}
+use Rattle.bounds.proofs.Powers.{not_more}
 use Rattle.bounds.proofs.Verdicts.{open_when, then_through, stray_through, stray_fits, stray_bit}
 use Rattle.sheet.specs.Puts.{AreOfBytes, IsFirstStray}
 use Rattle.sheet.specs.Reads.{is_block_width, size_test}
@@ -74,27 +78,27 @@ small_count n count buffer f = omega (arith, f.inside, at_least_one)
     at_least_one = each_width (λ w. count ≤ w / 8 * count) (omega arith) (omega arith) (omega arith) (omega arith) n f.wide
 
 -- ---- its words, each compared with all ones of the width
-unfoldable pub NoneAbove : ℕ → List ℕ → ℕ → Type 0
-NoneAbove most words i = (k : ℕ) → k < i → get_or words k 0 ≤ most
-
-pub none_above : (most : ℕ) (words : List ℕ) → NoneAbove most words 0
-unfolding NoneAbove
-none_above most words = below_none (λ k. get_or words k 0 ≤ most)
-
-pub one_more : (most : ℕ) (words : List ℕ) (i : ℕ) → NoneAbove most words i → get_or words i 0 ≤ most → NoneAbove most words (i + 1)
-unfolding NoneAbove
-one_more most words = below_more (λ k. get_or words k 0 ≤ most)
-
 module _ (n : ℕ) (words : List ℕ) (most : ℕ) (ones : most ≡ 2 ^ n - 1) where
-  fit_up_to : (i : ℕ) → NoneAbove most words i → FitUpTo n words i
-  unfolding FitUpTo NoneAbove
-  fit_up_to i before k h = stray_fits n (get_or words k 0) (omega (arith, before k h, ones, pow_pos n))
+  test : ℕ → Bool
+  test w = ltb most w
 
-  pub found : (i : ℕ) → NoneAbove most words i → i < length words → most < get_or words i 0 → IsFirstStray n words i
-  found i before inside h = record { inside = omega (arith, inside); lowest = fit_up_to i before; is = λ k. stray_bit n (get_or words i 0) (omega (arith, h, ones, pow_pos n)) }
+  fits : (w : ℕ) → test w ≡ false → stray_test n w ≡ passed
+  unfolding test
+  fits w h = stray_fits n w (omega (arith, ltb-false most w h, ones, pow_pos n))
 
-  pub not_found : (i : ℕ) → i ≤ length words → length words ≤ i → NoneAbove most words i → IsFirstStray n words i
-  not_found i lo hi before = record { inside = lo; lowest = fit_up_to i before; is = λ k. absurd (omega (arith, k, hi)) }
+  clash : {i : ℕ} → ◌≡◌ {A = Option ℕ} None (Some i) → ⊥
+  clash q = let some : Option ℕ → Bool = elim [ None ↦ false | Some _ ↦ true ] in false≢true (ap some q)
+
+  pub first_stray_is : (p : Option ℕ) → p ≡ position (λ w. ltb most w) words → IsFirstStray n words p
+  unfolding IsFirstStray FitUpTo test
+  first_stray_is (Some i) e =
+      let t = position-Some (λ w. ltb most w) words i 0 (sym e) in
+      (t.0, (λ k h. fits (get_or words k 0) (t.2 k h)), stray_bit n (get_or words i 0) (omega (arith, ltb-true most (get_or words i 0) t.1, ones, pow_pos n)))
+  first_stray_is None e = by (dec_lt (position_or_len (λ w. ltb most w) words) (length words))
+    where
+      by : Dec (position_or_len (λ w. ltb most w) words < length words) → (k : ℕ) → k < length words → stray_test n (get_or words k 0) ≡ passed
+      by (yes l) k h = absurd (clash {i = position_or_len (λ w. ltb most w) words} (e ∙ rw (lt-ltb (position_or_len (λ w. ltb most w) words) (length words) l) refl))
+      by (no f) k h = fits (get_or words k 0) (fails_before_first (λ w. ltb most w) words k 0 (omega (arith, h, not_more f)))
 
 module _ (n : ℕ) (words : List ℕ) where
   -- words without a stray bit have the bytes of the width
@@ -103,10 +107,10 @@ module _ (n : ℕ) (words : List ℕ) where
   fit_bytes four fit j h = subst (λ (k : ℕ). get_or words j 0 < 2 ^ k) (sym (whole_bytes n four)) (stray_through n (get_or words j 0) (fit j h))
 
 -- ---- what the first stray word decides
-module _ (n : ℕ) (words : List ℕ) (position : ℕ) (f : IsFirstStray n words position) where
-  pub stray_refused : position < length words → IsTried n words (Err (ListRefusal.At position Refusal.Stray))
-  unfolding IsTried
-  stray_refused h = (h, f.lowest, f.is h)
+pub stray_refused : (n : ℕ) (words : List ℕ) (position : ℕ) → IsFirstStray n words (Some position) → IsTried n words (Err (ListRefusal.At position Refusal.Stray))
+unfolding IsFirstStray IsTried
+stray_refused n words position f = f
 
-  pub none_stray : length words ≤ position → FitUpTo n words (length words)
-  none_stray h = subst (FitUpTo n words) (le_antisymm f.inside h) f.lowest
+pub none_stray : (n : ℕ) (words : List ℕ) → IsFirstStray n words None → FitUpTo n words (length words)
+unfolding IsFirstStray
+none_stray n words f = f

@@ -13,6 +13,8 @@ pub mod Unused
 pub mod Tests
 -- the tests in the paper's order, and what is known of a block that they let through
 pub mod Passing
+-- what the test of the number of bytes tells of a block
+pub mod Whole
 -- the bytes that a block's words have: 1, 2, 4 or 8, all of them within the block
 pub mod Sizes
 -- COUNT is given exactly where there are more than 496, 248, 124 or 62 words

@@ -1,5 +1,6 @@
 -- Packed numbers: how many there are, which one stands where, and what a turn that stores one of them leaves. Assumes nothing.
-use Rattle.std.proofs.Common.{◌≡◌, ℕ, zero, suc, ◌+◌, ◌-◌, ◌*◌, ◌<◌, ◌≤◌, List, [], ◌∷◌, ◌++◌, length, get_or, take, drop, set, sym, refl, ap, ◌∙◌, ap₂, le_of_suc-le-suc, not-suc-le-zero, add-sub_of_le, le_antisymm, mul-le-mul_left, add-one, arith, get_or-drop, take_all, drop-drop, ext_get_or}
+use Rattle.std.proofs.Common.{◌≡◌, ℕ, zero, suc, ◌+◌, ◌-◌, ◌*◌, ◌<◌, ◌≤◌, List, [], ◌∷◌, ◌++◌, length, get_or, take, drop, set, sym, refl, ap, ◌∙◌, ap₂, le_of_suc-le-suc, not-suc-le-zero, add-sub_of_le, mul-le-mul_left, add-one, arith, get_or-drop, take_all, drop_of_length-le, drop-drop, ext_get_or}
+use mathlib.Core.List.{append-nil}
 use native.Mathlib.Decide.{dec_lt}
 use Rattle.bounds.proofs.Powers.{not_more}
 use Rattle.sheet.specs.Layout.{AreBytes, number, number_at, packed, numbers}
@@ -87,7 +88,7 @@ module _ (k n : ℕ) (block before now : List ℕ) (i : ℕ) where
       let inside : i < length words = omega (arith, packed_length k n (drop 8 block)) in
       stored words before now i x inside (omega arith) e (q ∙ sym (words_at k n block i h))
 
-  pub unpacked_all : n ≤ i → i ≤ n → now ≡ take i words ++ drop i before → now ≡ words ++ drop n before
+  pub unpacked_all : n ≤ i → length before ≤ i → now ≡ take i words ++ drop i before → now ≡ words
   unpacked_all h h' e =
       let whole : length words ≤ i = omega (arith, packed_length k n (drop 8 block)) in
-      e ∙ ap₂ (λ (xs : List ℕ) (j : ℕ). xs ++ drop j before) (take_all i words whole) (le_antisymm h' h)
+      e ∙ ap₂ (λ (xs ys : List ℕ). xs ++ ys) (take_all i words whole) (drop_of_length-le before h') ∙ append-nil words

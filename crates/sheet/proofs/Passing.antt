@@ -1,15 +1,14 @@
 -- The tests of a block in the paper's order, and what is known of a block that they let through. Assumes nothing.
-use Rattle.std.specs.Prelude.{Err}
-use Rattle.bounds.specs.Refusals.{passed}
-use Rattle.std.proofs.Common.{◌≡◌, ℕ, ◌≤◌, eqb, List, length, sym, ap, ◌∙◌, ap₂, arith, eq-eqb, ne_eqb, eqb-true, leb-true}
+use Rattle.std.specs.Prelude.{Ok, Err}
+use Rattle.std.proofs.Common.{◌≡◌, ℕ, ◌≤◌, eqb, List, length, sym, ap, ◌∙◌, subst, ap₂, eq-eqb, ne_eqb, eqb-true, leb-true}
 use Rattle.bounds.specs.declared.refusal.Refusal.{Refusal}
-use Rattle.bounds.specs.Refusals.{◌then◌, through, refused, room_test}
+use Rattle.bounds.specs.Refusals.{Answer, passed, ◌then◌, through, refused, room_test}
 use Rattle.bounds.proofs.Verdicts.{open_when, both, then_through}
 use Rattle.sheet.specs.declared.block.Block.{Block}
 use Rattle.sheet.specs.Layout as layout
 use Rattle.sheet.specs.Layout.{mark, width, count, block_number, end, A, B, numbers}
 use Rattle.sheet.specs.Sums.{sum_a, sum_b}
-use Rattle.sheet.specs.Reads.{size_test, mark_test, check_test, block_width_test, count_test, fill_test, block_test, ReadsBlock}
+use Rattle.sheet.specs.Reads.{size_test, mark_test, check_test, block_width_test, count_test, fill_test, block_test, block_read, ReadsBlock}
 use Rattle.sheet.proofs.Tests.{OneOfFour, is_width, a_differs}
 
 pub other_size : (block : List ℕ) (places : ℕ) → (length block ≡ 512 → ⊥) → Err Refusal.Size ≡ block_test block places
@@ -94,11 +93,21 @@ passes block places h =
     }
 
 -- its answer
-pub read_as : (block : List ℕ) {w i n : ℕ} → w ≡ width block → i ≡ block_number block → n ≡ count block → Block.Read w i n ≡ Block.Read (width block) (block_number block) (count block)
-read_as block {n = n} p q r = ap₂ (λ (x y : ℕ). Block.Read x y n) p q ∙ ap (λ (z : ℕ). Block.Read (width block) (block_number block) z) r
+pub read_as : (block : List ℕ) {w i n : ℕ} → w ≡ width block → i ≡ block_number block → n ≡ count block → block_read w i n ≡ block_read (width block) (block_number block) (count block)
+read_as block {n = n} p q r = ap₂ (λ (x y : ℕ). block_read x y n) p q ∙ ap (λ (z : ℕ). block_read (width block) (block_number block) z) r
 
 -- and what such an answer tells
-pub was_read : (block : List ℕ) (places w i n : ℕ) → ReadsBlock block places (Block.Read w i n) → (block_test block places ≡ passed) × (w ≡ width block) × (n ≡ count block) × (i ≡ block_number block)
-unfolding ReadsBlock
-was_read block places w i n (through h x) = (h, cc, cc, cc)
-was_read block places w i n (refused h x) = let z : ◌≡◌ {A = ℕ} 0 1 = cc in absurd (omega arith)
+content_of : Answer Block → ℕ × ℕ × ℕ
+content_of (Ok b) = (b.width, b.number, b.count)
+content_of (Err q) = (0, 0, 0)
+
+GivesBlock : Answer Block → Type 0
+GivesBlock (Ok b) = Unit {0}
+GivesBlock (Err q) = ⊥
+
+pub was_read : (block : List ℕ) (places w i n : ℕ) → ReadsBlock block places (block_read w i n) → (block_test block places ≡ passed) × (w ≡ width block) × (n ≡ count block) × (i ≡ block_number block)
+unfolding ReadsBlock content_of GivesBlock
+was_read block places w i n (through h x) =
+    let same = ap content_of x in
+    (h, ap (λ (p : ℕ × ℕ × ℕ). p.0) same, ap (λ (p : ℕ × ℕ × ℕ). p.2) same, ap (λ (p : ℕ × ℕ × ℕ). p.1) same)
+was_read block places w i n (refused h x) = absurd (subst GivesBlock x tt)

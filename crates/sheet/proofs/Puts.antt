@@ -1,8 +1,12 @@
 -- What puts into a buffer leave there, one after the other: what stands outside stays, and two parts beside each other are one number. Assumes nothing.
-use Rattle.std.proofs.Common.{◌≡◌, ℕ, ◌+◌, ◌*◌, ◌^◌, ◌<◌, ◌≤◌, ◌⊎◌, List, length, get_or, set, sym, refl, ap, ◌∙◌, subst, ap₂, inl, inr, ⊎_elim, le_antisymm, arith, length-set, get_or-set_other, get_or-set_same}
+use Rattle.std.proofs.Common.{◌≡◌, ℕ, ◌+◌, ◌-◌, ◌*◌, ◌^◌, ◌<◌, ◌≤◌, ◌⊎◌, List, length, get_or, take, drop, replicate, sym, refl, ap, ◌∙◌, subst, ap₂, inl, inr, ⊎_elim, arith, rules}
+use borrow.Rule.Slice.PartMut.{put_mid}
 use native.Mathlib.Decide.{dec_lt}
+use Rattle.std.proofs.lemmas.Grind.{common_steps}
+use Rattle.std.proofs.lemmas.List.{length-replicate, places}
+use Rattle.std.proofs.lemmas.Slice.{between-put_mid}
 use Rattle.bounds.proofs.Powers.{not_more}
-use Rattle.sheet.specs.Layout.{number_at, mark, width, count, block_number, numbers, A, B}
+use Rattle.sheet.specs.Layout.{number, number_at, mark, width, count, block_number, numbers, A, B}
 use Rattle.sheet.specs.Puts.{Within, Puts, Packs, Clears, PutsHeader, Seals}
 use Rattle.sheet.specs.Sums.{sum_a, sum_b}
 use Rattle.sheet.proofs.LittleEndian.{number_at_one, number_at_split, number_same}
@@ -23,12 +27,16 @@ kept k i {before} {after} w (inl h) = number_same k i after before (λ j l u. w.
 kept k i {before} {after} w (inr h) = number_same k i after before (λ j l u. w.outside j (inr (omega (arith, l, h))))
 
 -- ---- numbers
--- one byte
-stored : (bytes : List ℕ) (i x : ℕ) → Within i (i + 1) bytes (set bytes i x)
-stored bytes i x = record { size = length-set bytes i x; outside = λ j o. get_or-set_other bytes i j x 0 (λ e. ⊎_elim (λ l. omega (arith, e, l)) (λ l. omega (arith, e, l)) o) }
+-- a part that was written
+module _ (a k : ℕ) (xs ys : List ℕ) (fits : a + k ≤ length xs) (long : length ys ≡ k) where
+  pub part_put : Within a (a + k) xs (put_mid a k xs ys)
+  part_put = record { size = grind (arith, common_steps); outside = λ j o. ⊎_elim (λ l. search (rules, places)) (λ h. search (rules, places)) o }
 
-pub puts_one : (bytes : List ℕ) (i x : ℕ) → i < length bytes → Puts 1 i x bytes (set bytes i x)
-puts_one bytes i x h = record { within = stored bytes i x; is = number_at_one i (set bytes i x) (subst (λ (n : ℕ). i < n) (sym (length-set bytes i x)) h) ∙ get_or-set_same bytes i x 0 h }
+pub puts_part : (k i x : ℕ) (xs ys : List ℕ) → i + k ≤ length xs → length ys ≡ k → number ys ≡ x → Puts k i x xs (put_mid i (i + k - i) xs ys)
+unfolding number_at
+puts_part k i x xs ys fits long e =
+    let same : k ≡ i + k - i = omega arith in
+    subst (λ (n : ℕ). Puts k i x xs (put_mid i n xs ys)) same (record { within = part_put i k xs ys fits long; is = ap number (ap (λ (n : ℕ). take n (drop i (put_mid i k xs ys))) same ∙ between-put_mid i k xs ys (i + k) (omega (arith, fits)) (long ∙ same)) ∙ e })
 
 -- two parts beside each other
 pub puts_two : (j k i lo hi x : ℕ) {before mid after : List ℕ} → i + j ≤ length before → Puts j i lo before mid → Puts k (i + j) hi mid after → lo + hi * 2 ^ (8 * j) ≡ x → Puts (j + k) i x before after
@@ -36,13 +44,6 @@ puts_two j k i lo hi x {before} {mid} {after} fits p q e = record {
   within = both (wider i (i + (j + k)) (omega arith) (omega arith) p.within) (wider i (i + (j + k)) (omega arith) (omega arith) q.within);
   is = number_at_split j k i after (omega (arith, fits, p.within.size, q.within.size)) ∙ ap₂ (λ (a b : ℕ). a + b * 2 ^ (8 * j)) (kept j i q.within (inl (omega arith)) ∙ p.is) q.is ∙ e;
 }
-
--- a number of n bytes, where n is known to be k
-pub puts_of_size : (k n i x : ℕ) {before after : List ℕ} → n ≡ k → Puts k i x before after → Puts n i x before after
-puts_of_size k n i x {before} {after} q = subst (λ (s : ℕ). Puts s i x before after) (sym q)
-
-pub below_of_size : (k n x : ℕ) → n ≡ k → x < 2 ^ (8 * n) → x < 2 ^ (8 * k)
-below_of_size k n x = subst (λ (s : ℕ). x < 2 ^ (8 * s))
 
 -- ---- the header
 pub headed : {n many number : ℕ} {before first second third after : List ℕ} → 8 ≤ length before → Puts 1 0 0x54 before first → Puts 1 1 n first second → Puts 2 2 many second third → Puts 4 4 number third after → PutsHeader n many number before after
@@ -66,9 +67,6 @@ headed {before = before} {first} {second} {third} {after} fits m w c b = record 
 
 -- ---- the words, one after the other
 module _ (k : ℕ) (words before : List ℕ) where
-  pub packs_none : Packs k words 0 before before
-  packs_none = record { within = nothing 8 (8 + k * 0) before; each = λ j h. absurd (omega (arith, h)) }
-
   pub packs_more : (i : ℕ) (mid after : List ℕ) → Packs k words i before mid → Puts k (8 + k * i) (get_or words i 0) mid after → Packs k words (i + 1) before after
   packs_more i mid after p q = record {
     within = both (wider 8 (8 + k * (i + 1)) (omega arith) (omega arith) p.within) (wider 8 (8 + k * (i + 1)) (omega arith) (omega arith) q.within);
@@ -81,27 +79,18 @@ module _ (k : ℕ) (words before : List ℕ) where
           let last : i ≡ j = omega (arith, h, not_more f) in
           subst (λ (n : ℕ). number_at k (8 + k * n) after ≡ get_or words n 0) last q.is
 
-  pub packs_all : (i n : ℕ) (after : List ℕ) → i ≤ n → n ≤ i → Packs k words i before after → Packs k words n before after
-  packs_all i n after lo hi = subst (λ (m : ℕ). Packs k words m before after) (le_antisymm lo hi)
-
--- ---- zeros, one after the other
-pub clears_none : (from : ℕ) (before : List ℕ) → Clears from from before before
-clears_none from before = record { within = nothing from from before; zero = λ j l u. absurd (omega (arith, l, u)) }
-
-pub clears_more : (from at : ℕ) (before mid : List ℕ) → from ≤ at → at < length mid → Clears from at before mid → Clears from (at + 1) before (set mid at 0)
-clears_more from at before mid l h c = record {
-  within = both (wider from (at + 1) (omega arith) (omega arith) c.within) (wider from (at + 1) l (omega arith) (stored mid at 0));
-  zero = λ j lo up. by j lo up (dec_lt j at);
-}
+-- ---- zeros
+pub clears_part : (from to : ℕ) (xs ys : List ℕ) → from ≤ to → to ≤ length xs → ys ≡ replicate (to - from) 0 → Clears from to xs (put_mid from (to - from) xs ys)
+clears_part from to xs ys lo fits e = record { within = within; zero = λ j l u. ap (λ (zs : List ℕ). get_or (put_mid from (to - from) xs zs) j 0) e ∙ search (rules, places) }
   where
-    by : (j : ℕ) → from ≤ j → j < at + 1 → Dec (j < at) → get_or (set mid at 0) j 0 ≡ 0
-    by j lo up (yes k) = get_or-set_other mid at j 0 0 (λ e. omega (arith, e, k)) ∙ c.zero j lo k
-    by j lo up (no f) =
-        let last : at ≡ j = omega (arith, up, not_more f) in
-        subst (λ (n : ℕ). get_or (set mid at 0) n 0 ≡ 0) last (get_or-set_same mid at 0 0 h)
+    whole : from + (to - from) ≡ to
+    whole = omega (arith, lo)
 
-pub clears_all : (from at to : ℕ) (before after : List ℕ) → at ≤ to → to ≤ at → Clears from at before after → Clears from to before after
-clears_all from at to before after lo hi = subst (λ (k : ℕ). Clears from k before after) (le_antisymm lo hi)
+    long : length ys ≡ to - from
+    long = ap length e ∙ length-replicate (to - from) 0
+
+    within : Within from to xs (put_mid from (to - from) xs ys)
+    within = subst (λ (n : ℕ). Within from n xs (put_mid from (to - from) xs ys)) whole (part_put from (to - from) xs ys (omega (arith, whole, fits)) long)
 
 -- ---- A and B
 pub sealed : {a b : ℕ} {before mid after : List ℕ} → a ≡ sum_a (numbers before) → b ≡ sum_b (numbers before) → Puts 4 504 a before mid → Puts 4 508 b mid after → Seals before after

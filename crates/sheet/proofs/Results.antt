@@ -5,9 +5,8 @@ use Rattle.std.proofs.Common.{◌≡◌, ℕ, ◌+◌, ◌-◌, ◌*◌, ◌/◌
 use lib.ListN.{get_or-append}
 use Rattle.bounds.specs.Refusals.{IsWord}
 use Rattle.bounds.proofs.Verdicts.{answered}
-use Rattle.sheet.specs.declared.block.Block.{Block}
 use Rattle.sheet.specs.Layout.{AreBytes, number_at, width, count, block_number, word_bytes, words}
-use Rattle.sheet.specs.Reads.{block_test, ReadsBlock, FillsResults}
+use Rattle.sheet.specs.Reads.{block_test, block_read, ReadsBlock, FillsResults}
 use Rattle.sheet.proofs.LittleEndian.{number_at_below}
 use Rattle.sheet.proofs.Packing.{packed_length, words_at}
 use Rattle.sheet.proofs.Passing.{passes, was_read}
@@ -19,7 +18,7 @@ unfolding words
 words_length block = packed_length (word_bytes block) (count block) (drop 8 block)
 
 -- a block was read
-module _ (block before after : List ℕ) (w i n : ℕ) (r : ReadsBlock block (length before) (Block.Read w i n)) (f : FillsResults block before after) where
+module _ (block before after : List ℕ) (w i n : ℕ) (r : ReadsBlock block (length before) (block_read w i n)) (f : FillsResults block before after) where
   read : (block_test block (length before) ≡ passed) × (w ≡ width block) × (n ≡ count block) × (i ≡ block_number block)
   read = was_read block (length before) w i n r
 

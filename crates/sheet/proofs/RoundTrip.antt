@@ -1,16 +1,15 @@
 -- A block that has a content is read as that content, and a block that is read has the content that was read. Assumes nothing.
 use Rattle.std.specs.Prelude.{Ok, Err}
 use Rattle.bounds.specs.declared.refusal.ListRefusal.{ListRefusal}
-use Rattle.bounds.specs.Refusals.{passed, ListAnswer}
+use Rattle.bounds.specs.Refusals.{Answer, ListAnswer, passed}
 use Rattle.std.specs.Prelude.{⊤}
-use Rattle.bounds.specs.Sayings.{written}
 use Rattle.std.proofs.Common.{◌≡◌, ℕ, ◌+◌, ◌*◌, ◌/◌, ◌^◌, ◌<◌, ◌≤◌, List, ◌++◌, length, get_or, drop, sym, refl, ap, ◌∙◌, subst, ap₂, eq-eqb, ne_eqb, le-leb}
 use Rattle.bounds.specs.declared.refusal.Refusal.{Refusal}
 use Rattle.bounds.proofs.Rooms.{room_fits}
 use Rattle.bounds.proofs.Verdicts.{answered, stray_fits}
 use Rattle.sheet.specs.declared.block.Block.{Block}
 use Rattle.sheet.specs.Layout.{AreBytes, packed, width, count, block_number, word_bytes, words, end}
-use Rattle.sheet.specs.Reads.{size_test, block_width_test, count_test, block_test, ReadsBlock, FillsResults}
+use Rattle.sheet.specs.Reads.{size_test, block_width_test, count_test, block_test, block_read, ReadsBlock, FillsResults}
 use Rattle.sheet.specs.Writes.{IsBlockOf, is_retired, has_room_for, content_test, FitUpTo, IsTried, WritesBlock}
 use Rattle.sheet.proofs.Contents.{Fitting}
 use Rattle.sheet.proofs.LittleEndian.{number_at_below}
@@ -35,9 +34,9 @@ module _ (n number : ℕ) (content buffer block : List ℕ) (x : IsBlockOf n num
     pub is_accepted : block_test block places ≡ passed
     is_accepted = room_decides block places (has_size n number content block x) (has_mark n number content block x) x.checked is_wide has_room x.filled ∙ room_fits (count block) places (subst (λ (c : ℕ). c ≤ places) (sym x.counted) room)
 
-    pub reads_back : (a : Block) → ReadsBlock block places a → a ≡ Block.Read n number (length content)
+    pub reads_back : (a : Answer Block) → ReadsBlock block places a → a ≡ block_read n number (length content)
     unfolding ReadsBlock
-    reads_back a r = answered is_accepted r ∙ ap₂ (λ (w i : ℕ). Block.Read w i (count block)) x.wide x.numbered ∙ ap (Block.Read n number) x.counted
+    reads_back a r = answered is_accepted r ∙ ap₂ (λ (w i : ℕ). block_read w i (count block)) x.wide x.numbered ∙ ap (block_read n number) x.counted
 
   pub fills_back : (results filled : List ℕ) → length content ≤ length results → FillsResults block results filled → filled ≡ content ++ drop (length content) results
   unfolding FillsResults
@@ -80,6 +79,6 @@ module _ (block : List ℕ) (places : ℕ) (bytes : AreBytes block) (h : block_t
           rw (width_is (width block) p.wide, ne_eqb (width block) 8 made, le-leb (8 + width block / 8 * length (words block)) 504 room, eq-eqb (length buffer) 512 size)
 
       by : (a : ListAnswer ⊤) → IsTried (width block) (words block) a → a ≡ Ok tt
-      by Ok tt t = refl
+      by (Ok _) t = refl
       by (Err (ListRefusal.Whole q)) t = absurd t
       by (Err (ListRefusal.At position q)) t = absurd (not_both (words_fit position t.0) t.2)

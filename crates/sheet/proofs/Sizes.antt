@@ -17,13 +17,6 @@ whole_bytes = each_width (λ n. 8 * (n / 8) ≡ n) refl refl refl refl
 pub width_of_words : (n : ℕ) → OneOfFour n → (2 ≤ n) × (n ≤ 64)
 width_of_words = each_width (λ n. (2 ≤ n) × (n ≤ 64)) (lit≤ tt, lit≤ tt) (lit≤ tt, lit≤ tt) (lit≤ tt, lit≤ tt) (lit≤ tt, lit≤ tt)
 
--- where three sizes are shut out, the fourth is left
-pub eight_left : (n : ℕ) → IsWordBytes n → (n ≡ 1 → ⊥) → (n ≡ 2 → ⊥) → (n ≡ 4 → ⊥) → n ≡ 8
-eight_left n one f g h = absurd (f refl)
-eight_left n two f g h = absurd (g refl)
-eight_left n four f g h = absurd (h refl)
-eight_left n eight f g h = refl
-
 module _ (block : List ℕ) {s n : ℕ} (hs : s ≡ word_bytes block) (hn : n ≡ count block) where
   -- what unpacking asks of its size and count
   pub unpackable : (places : ℕ) → Passes block places → IsWordBytes s × (8 + s * n ≤ length block) × (n ≤ places)

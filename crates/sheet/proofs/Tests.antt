@@ -1,13 +1,12 @@
 -- What each test of a block finds. Assumes nothing.
 use Rattle.std.specs.Prelude.{Ok, Err}
-use Rattle.bounds.specs.Refusals.{passed}
-use Rattle.std.proofs.Common.{◌≡◌, ℕ, ◌<◌, ◌≤◌, Bool, true, false, ◌||◌, eqb, leb, ◌⊎◌, List, sym, refl, ap, ◌∙◌, subst, inl, inr, ⊎_elim, eq-eqb, ne_eqb, eqb-true, le-leb}
+use Rattle.std.proofs.Common.{◌≡◌, ℕ, ◌<◌, ◌≤◌, Bool, true, false, ◌||◌, eqb, leb, ◌⊎◌, List, sym, refl, ap, ◌∙◌, subst, inl, inr, ⊎_elim, ne_eqb, eqb-true, le-leb}
 use mathlib.Core.Bool.{false≢true}
 use borrow.Author.Tests.{lt-leb}
 use Rattle.bounds.specs.declared.refusal.Refusal.{Refusal}
-use Rattle.bounds.specs.Refusals.{unless}
-use Rattle.sheet.specs.Layout.{numbers, A, B}
-use Rattle.sheet.specs.Sums.{sum_a, sum_b}
+use Rattle.bounds.specs.Refusals.{Verdict, passed, unless}
+use Rattle.sheet.specs.Layout.{numbers, A}
+use Rattle.sheet.specs.Sums.{sum_a}
 use Rattle.sheet.specs.Reads.{is_block_width, check_test}
 
 pub holds : (q : Refusal) {b : Bool} → b ≡ true → passed ≡ unless q b
@@ -46,11 +45,6 @@ module _ (block : List ℕ) where
   pub a_differs : (sum_a (numbers block) ≡ A block → ⊥) → Err Refusal.Check ≡ check_test block
   unfolding check_test
   a_differs h = rw (ne_eqb (sum_a (numbers block)) (A block) h)
-
-  -- where A agrees, B decides
-  pub b_decides : {b b' : ℕ} → sum_a (numbers block) ≡ A block → b ≡ sum_b (numbers block) → b' ≡ B block → check_test block ≡ unless Refusal.Check (eqb b b')
-  unfolding check_test
-  b_decides p q r = rw (eq-eqb (sum_a (numbers block)) (A block) p, q, r)
 
 -- ---- the width
 abbrev pub OneOfFour : ℕ → Type 0

@@ -1,11 +1,12 @@
 -- Bytes are all zero exactly if their sum is, and exactly if each of them is. Assumes nothing.
-use Rattle.std.proofs.Common.{◌≡◌, ℕ, zero, suc, ◌+◌, ◌-◌, ◌<◌, ◌≤◌, true, eqb, List, [], ◌∷◌, length, get_or, take, sym, refl, ap, ◌∙◌, add-sub_of_le, zero-add, add-one, arith, drop_of_length-le, length-take, get_or-drop, get_or-take, eq-eqb, ne_eqb, eqb-true}
+use Rattle.std.proofs.Common.{◌≡◌, ℕ, zero, suc, ◌+◌, ◌-◌, ◌<◌, ◌≤◌, true, eqb, List, [], ◌∷◌, get_or, take, sym, refl, ap, ◌∙◌, add-sub_of_le, arith, length-take, get_or-drop, get_or-take, eq-eqb, ne_eqb, eqb-true}
 use native.Mathlib.Decide.{dec_lt}
 use lib.ListN.{get_or-eq_default}
-use lib.Seq.{slice, slice-cons}
+use lib.Seq.{slice}
 use Rattle.bounds.proofs.Powers.{not_more}
 use Rattle.bounds.proofs.Verdicts.{both}
-use Rattle.sheet.specs.Layout.{end, unused}
+use Rattle.std.proofs.lemmas.List.Recursion.{is_sum_by}
+use Rattle.std.specs.List.{sum}
 use Rattle.sheet.specs.Sums.{total}
 use Rattle.sheet.specs.Reads.{all_zero}
 
@@ -17,28 +18,9 @@ zero_when (zero ∷ bytes) =
     zero_when bytes ∙ ap (λ (x : ℕ). eqb x 0) none
 zero_when (suc b ∷ bytes) = rw (ne_eqb (suc b) 0 (λ h. omega arith)) (sym (ne_eqb (suc b + total bytes) 0 (λ h. omega arith)))
 
--- the loop that sums them: it starts at the first byte after the words
-pub unused_none : (block : List ℕ) (at : ℕ) → at ≡ end block → 0 + total (slice at 504 block) ≡ total (unused block)
-unfolding unused
-unused_none block at e = zero-add (total (slice at 504 block)) ∙ ap (λ (i : ℕ). total (slice i 504 block)) e
-
--- the sum so far, and the bytes from byte at up to byte to that are still to come
-pub unused_more : (block : List ℕ) (at to sum b all : ℕ) → to ≤ length block → at < to → b ≡ get_or block at 0 → sum + total (slice at to block) ≡ all → sum + b + total (slice (at + 1) to block) ≡ all
+pub total_is : (bytes : List ℕ) → total bytes ≡ sum bytes
 unfolding total
-unused_more block at to sum b all k h q s = omega (arith, q, s, next)
-  where
-    next : total (slice at to block) ≡ get_or block at 0 + total (slice (at + 1) to block)
-    next = ap total (slice-cons at to block 0 h k) ∙ ap (λ (j : ℕ). get_or block at 0 + total (slice j to block)) (sym (add-one at))
-
-pub unused_all : (block : List ℕ) (at to sum all : ℕ) → to ≤ at → sum + total (slice at to block) ≡ all → sum ≡ all
-unfolding total
-unused_all block at to sum all h s = omega (arith, s, none)
-  where
-    past : length (take to block) ≤ at
-    past = omega (arith, h, length-take to block)
-
-    none : total (slice at to block) ≡ 0
-    none = ap total (drop_of_length-le (take to block) past)
+total_is = is_sum_by total (λ x. x) refl (λ x xs. refl)
 
 -- ---- byte by byte
 pub zeros : (bytes : List ℕ) → all_zero bytes ≡ true → (j : ℕ) → get_or bytes j 0 ≡ 0

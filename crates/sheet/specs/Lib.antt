@@ -4,4 +4,5 @@ pub mod Layout
 pub mod Puts
 pub mod Reads
 pub mod Sums
+pub mod Whole
 pub mod Writes

@@ -1,17 +1,15 @@
 -- Serves private functions only: the first stray word, and what a put into a lent buffer leaves there.
-use Rattle.std.specs.Prelude.{◌≡◌, ℕ, ◌+◌, ◌*◌, ◌^◌, ◌<◌, ◌≤◌, ◌⊎◌, List, length, slice_index}
+use Rattle.std.specs.Prelude.{◌≡◌, ℕ, ◌+◌, ◌*◌, ◌^◌, ◌<◌, ◌≤◌, ◌⊎◌, List, length, slice_index, Option, None, Some, Err}
 use Rattle.bounds.specs.declared.refusal.Refusal.TheVariants.{Stray}
-use Rattle.bounds.specs.declared.refusal.Verdict.TheVariants.{Refused}
 use Rattle.bounds.specs.Refusals.{stray_test}
 use Rattle.sheet.specs.Layout.{number_at, mark, width, count, block_number, A, B, numbers}
 use Rattle.sheet.specs.Sums.{sum_a, sum_b}
 use Rattle.sheet.specs.Writes.{FitUpTo}
 
--- the position of the first word that has a stray bit, or the number of words if none has
-pub record IsFirstStray (n : ℕ) (words : List ℕ) (position : ℕ) : Type 0 where
-  pub inside : position ≤ length words
-  pub lowest : FitUpTo n words position
-  pub is : position < length words → stray_test n (slice_index words position) ≡ Refused Stray
+-- the position of the first word that has a stray bit, if one has
+unfoldable pub IsFirstStray : ℕ → List ℕ → Option ℕ → Type 0
+IsFirstStray n words None = FitUpTo n words (length words)
+IsFirstStray n words (Some position) = (position < length words) × FitUpTo n words position × (stray_test n (slice_index words position) ≡ Err Stray)
 
 -- all bytes but those from `from` up to `to` are as they were
 pub record Within (from to : ℕ) (before after : List ℕ) : Type 0 where

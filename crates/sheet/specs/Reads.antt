@@ -1,8 +1,7 @@
 -- What reading a block answers, and what it leaves in the lent result slice (paper 01).
-use Rattle.std.specs.Prelude.{Err}
-use Rattle.std.specs.Prelude.{◌≡◌, ℕ, Bool, true, ◌&&◌, ◌||◌, List, [], ◌∷◌, ◌++◌, length, drop, ◌==◌, nat_le}
+use Rattle.std.specs.Prelude.{Ok, Err, ◌≡◌, ℕ, Bool, true, ◌&&◌, ◌||◌, List, [], ◌∷◌, ◌++◌, length, drop, ◌==◌, nat_le}
 use Rattle.bounds.specs.declared.refusal.Refusal.TheVariants.{Width, Size, Mark, Check, Count, Fill}
-use Rattle.bounds.specs.Refusals.{unless, room_test, ◌then◌, Decided}
+use Rattle.bounds.specs.Refusals.{Answer, Verdict, unless, room_test, ◌then◌, Decided}
 use Rattle.sheet.specs.declared.block.Block.{Block}
 use Rattle.sheet.specs.Layout.{mark, width, count, block_number, end, words, unused, A, B, numbers}
 use Rattle.sheet.specs.Sums.{sum_a, sum_b}
@@ -45,8 +44,12 @@ module _ (block : List ℕ) where
   block_test places = size_test then mark_test then check_test then block_width_test then count_test then fill_test then room_test (count block) places
 
 -- ---- what the call answers, and what it leaves in the result slice
-unfoldable pub ReadsBlock : List ℕ → ℕ → Block → Type 0
-ReadsBlock block places a = Decided (block_test block places) (λ q. a ≡ Err q) (a ≡ Block.Read (width block) (block_number block) (count block))
+-- a block of this width, number and count of words
+abbrev pub block_read : ℕ → ℕ → ℕ → Answer Block
+block_read w i n = Ok (record { width = w; number = i; count = n })
+
+unfoldable pub ReadsBlock : List ℕ → ℕ → Answer Block → Type 0
+ReadsBlock block places a = Decided (block_test block places) (λ q. a ≡ Err q) (a ≡ block_read (width block) (block_number block) (count block))
 
 unfoldable pub FillsResults : List ℕ → List ℕ → List ℕ → Type 0
 FillsResults block before after = Decided (block_test block (length before)) (λ q. after ≡ before) (after ≡ words block ++ drop (count block) before)

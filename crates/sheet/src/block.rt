@@ -2,8 +2,7 @@
 ghost use Rattle.std.specs.Prelude.{length};
 ghost use Rattle.sheet.specs.Reads.{ReadsBlock, FillsResults};
 
-use crate::fields::{count_of, width_of, word_bytes};
-use crate::numbers::four_bytes;
+use crate::bytes::Bytes;
 use crate::testing::test;
 use crate::words::unpack;
 use bounds::refusal::Refusal;
@@ -21,12 +20,13 @@ pub fn read_block(block: &[u8], results: &mut [u64]) -> Result<Block, Refusal>
     ensures reads_block { ReadsBlock block.now (length results.old) result }
     ensures fills_results { FillsResults block.now results.old results.new }
 {
-    test(block, results.len())?;
-    let count = count_of(block);
-    unpack(block, word_bytes(block), count as usize, results);
+    let bytes = Bytes::of(block)?;
+    test(bytes, results.len())?;
+    let count = bytes.count();
+    unpack(bytes.all, bytes.word_bytes(), count as usize, results);
     Ok(Block {
-        width: width_of(block),
-        number: four_bytes(block, 4),
+        width: bytes.width(),
+        number: bytes.number(),
         count,
     })
 }

@@ -2,7 +2,7 @@
 #![tactic(auto)]
 
 pub mod block;
-mod fields;
+mod bytes;
 mod numbers;
 mod parts;
 mod sums;

@@ -4,8 +4,9 @@ ghost use Rattle.bounds.specs.Refusals.{passed};
 ghost use Rattle.sheet.specs.Puts.{IsFirstStray};
 ghost use Rattle.sheet.specs.Writes.{IsBlockOf, content_test, FitUpTo, WritesBlock, FillsBuffer};
 
-use crate::fields::is_block_width;
 use crate::parts::{clear, pack, put_header, seal};
+use crate::testing::is_block_width;
+use bounds::good::GoodWidth;
 use bounds::refusal::{ListRefusal, Refusal};
 use bounds::width::Width;
 
@@ -22,21 +23,8 @@ pub fn write_block(
     ensures writes_block { WritesBlock width.bits words.now buffer.old result }
     ensures fills_buffer { FillsBuffer width.bits number words.now buffer.old result buffer.new }
 {
-    if !is_block_width(width.bits) {
-        return Err(ListRefusal::Whole(Refusal::Width));
-    }
-    if width.bits == RETIRED {
-        return Err(ListRefusal::Whole(Refusal::Retired));
-    }
-    // a word has bits / 8 bytes, and 496 bytes are there for the words
-    if words.len() > (496 / (width.bits / 8)) as usize {
-        return Err(ListRefusal::Whole(Refusal::Count));
-    }
-    if buffer.len() != 512 {
-        return Err(ListRefusal::Whole(Refusal::Size));
-    }
-    let position = first_stray(width.bits, words);
-    if position < words.len() {
+    test_content(width.bits, words.len(), buffer)?;
+    if let Some(position) = first_stray(GoodWidth { bits: width.bits }, words) {
         return Err(ListRefusal::At {
             position,
             refusal: Refusal::Stray,
@@ -46,20 +34,31 @@ pub fn write_block(
     Ok(())
 }
 
-// The position of the first word that is above all ones of n bits, or the number of words if none is.
-fn first_stray(n: u32, words: &[u64]) -> usize
-    requires { (2 ≤ n) × (n ≤ 64) }
-    ensures { IsFirstStray n words.now result }
+// The tests of the content as a whole, in the paper's order. A word has n / 8 bytes, and 496 bytes are there for the words.
+fn test_content(n: u32, count: usize, buffer: &[u8]) -> Result<(), Refusal>
+    ensures { result ≡ content_test n count buffer.now }
 {
-    let most = 0xffff_ffff_ffff_ffff >> (64 - n);
-    let mut position = 0;
-    while position < words.len() {
-        if words[position] > most {
-            return position;
-        }
-        position += 1;
+    if !is_block_width(n) {
+        return Err(Refusal::Width);
     }
-    position
+    if n == RETIRED {
+        return Err(Refusal::Retired);
+    }
+    if count > (496 / (n / 8)) as usize {
+        return Err(Refusal::Count);
+    }
+    if buffer.len() != 512 {
+        return Err(Refusal::Size);
+    }
+    Ok(())
+}
+
+// The position of the first word that is above all ones of the width.
+fn first_stray(width: GoodWidth, words: &[u64]) -> Option<usize>
+    ensures { IsFirstStray width.bits words.now result }
+{
+    let most = width.ones();
+    words.iter().position(|word| *word > most)
 }
 
 // The block where it lies. A and B come last, since they are sums of all that stands before them.

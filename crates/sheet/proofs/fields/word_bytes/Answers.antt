@@ -1,8 +1,0 @@
--- `word_bytes` meets its contract: a word of n bits has n / 8 bytes. Assumes nothing.
-use Rattle.std.proofs.Common.{ℕ, ◌/◌, ap, arith}
-use Rattle.sheet.specs.Layout.{word_bytes}
-use Rattle.sheet.proofs.fields.word_bytes.Goals as goal
-
-pub returns : goal.returns
-unfolding word_bytes
-returns c = (ap (λ (n : ℕ). n / 8) c.width_of.ensures.0, omega arith)

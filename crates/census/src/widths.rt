@@ -6,6 +6,9 @@ use crate::line::print_line;
 use bounds::good::GoodWidth;
 use bounds::width::Width;
 
+// The top bit of the 64 that carry a word.
+pub const TOP_BIT: u64 = 1 << 63;
+
 // The widest width of which every word is taken.
 pub const WIDEST_WHOLE: u32 = 16;
 

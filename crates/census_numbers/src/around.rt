@@ -1,4 +1,6 @@
 // A number with its neighbours or its opposite, in the order of the page. Numbers of 64 bits stand for words and whole numbers, and go on modulo 2^64.
+use census::widths::TOP_BIT;
+
 // x - 1, x and x + 1.
 pub(crate) fn three(x: u64) -> [u64; 3] {
     [x.wrapping_sub(1), x, x.wrapping_add(1)]
@@ -27,5 +29,5 @@ pub(crate) fn both(x: u64) -> [u64; 2] {
 
 // The pattern of a binary64 number with that of its opposite, which has the other sign bit.
 pub(crate) fn both_signs(pattern: u64) -> [u64; 2] {
-    [pattern, pattern ^ (1 << 63)]
+    [pattern, pattern ^ TOP_BIT]
 }

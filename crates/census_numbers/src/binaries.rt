@@ -9,6 +9,7 @@ use census::digest::Digest;
 use census::line::print_line;
 use census::runs::print_runs;
 use census::sequence::Sequence;
+use census::widths::TOP_BIT;
 
 // Part 23. A draw takes three numbers from the sequence: the first chooses the kind and the sign, the others make the number.
 pub(crate) fn print_numbers(good: GoodWidth) {
@@ -20,7 +21,7 @@ pub(crate) fn print_numbers(good: GoodWidth) {
         let x2 = sequence.next_number();
         let x3 = sequence.next_number();
         let kind = x1 % 32;
-        let sign = (x1 << 58) & (1 << 63);
+        let sign = (x1 << 58) & TOP_BIT;
         if kind < 20 {
             take_binary64_in(digest, width, drawn_pattern(kind, x2, x3) | sign);
         } else {

@@ -6,8 +6,7 @@ use bounds::good::GoodWidth;
 use bounds::width::Width;
 use census::digest::Digest;
 use census::line::print_line;
-
-const TOP_BIT: u64 = 1 << 63;
+use census::widths::TOP_BIT;
 
 // The pattern of 1.
 const ONE: u64 = 0x3ff0_0000_0000_0000;

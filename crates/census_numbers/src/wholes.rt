@@ -8,8 +8,7 @@ use census::digest::Digest;
 use census::line::print_line;
 use census::runs::print_runs;
 use census::sequence::Sequence;
-
-const TOP_BIT: u64 = 1 << 63;
+use census::widths::TOP_BIT;
 
 // How many places parts 18 and 53 have.
 pub(crate) const IN_ORDER: u64 = 140_001;

@@ -7,8 +7,7 @@ use crate::writing::{Content, draw_content};
 use census::digest::Digest;
 use census::line::print_line;
 use census::sequence::Sequence;
-
-const HIGH: u64 = 1 << 63;
+use census::widths::TOP_BIT;
 
 pub(crate) fn print_strayed(w: Layout) {
     let mut sequence = Sequence::of(48_000 + w.number());
@@ -34,12 +33,12 @@ fn take_strayed(digest: &mut Digest, content: Content)
     let middle = content.words.len() / 2;
     let last = content.words.len() - 1;
     for p in [0, middle, last] {
-        for bits in [low, HIGH] {
+        for bits in [low, TOP_BIT] {
             take_way(digest, content, &[(p, bits)]);
         }
     }
     for (p, q) in [(0, middle), (0, last), (middle, last)] {
-        for (bits_at_p, bits_at_q) in [(low, HIGH), (HIGH, low)] {
+        for (bits_at_p, bits_at_q) in [(low, TOP_BIT), (TOP_BIT, low)] {
             take_way(digest, content, &[(p, bits_at_p), (q, bits_at_q)]);
         }
     }

@@ -6,6 +6,7 @@ use bounds::good::GoodWidth;
 use bounds::width::Width;
 use census::digest::Digest;
 use census::line::print_line;
+use census::widths::TOP_BIT;
 
 // The smallest positive word and the largest: the size itself and those around it, also as a long value.
 pub(crate) fn print_ends(good: GoodWidth) {
@@ -29,7 +30,7 @@ pub(crate) fn print_ends(good: GoodWidth) {
 
 // Below a power of two the significand has its top bit only one place lower.
 fn just_below(long: Long) -> Long {
-    if long.high <= 1 << 63 {
+    if long.high <= TOP_BIT {
         return Long {
             high: u64::MAX,
             low: u64::MAX,

@@ -3,8 +3,7 @@ use crate::long::{Long, take_roundings};
 use bounds::width::Width;
 use census::digest::Digest;
 use census::line::print_line;
-
-const TOP_BIT: u64 = 1 << 63;
+use census::widths::TOP_BIT;
 
 const EXPONENTS: [i32; 19] = [
     i32::MIN,

@@ -5,6 +5,7 @@ use bounds::good::GoodWidth;
 use bounds::width::Width;
 use census::digest::Digest;
 use census::runs::print_runs;
+use census::widths::TOP_BIT;
 
 // The largest word has no next one.
 pub(crate) fn print_midpoints(good: GoodWidth) {
@@ -41,7 +42,7 @@ fn take_midpoint(digest: &mut Digest, width: Width, low: Size, high: Size) {
     } else {
         // Below width 12 two powers of two can be 64 apart, and no more: the sum is 2^64 + 1, which is no significand.
         let below = Size {
-            m: 1 << 63,
+            m: TOP_BIT,
             k: low.k,
         };
         take_writings(digest, width, below);

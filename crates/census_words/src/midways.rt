@@ -6,6 +6,7 @@ use bounds::width::Width;
 use census::digest::Digest;
 use census::runs::print_runs;
 use census::sequence::{Sequence, drawn_up_to};
+use census::widths::TOP_BIT;
 
 // Part 41.
 pub(crate) fn print_midways(good: GoodWidth) {
@@ -49,7 +50,7 @@ fn midpoint(low: Size, high: Size) -> Long {
         // The sum has a bit more than they have, at the top.
         let sum = low.m.wrapping_add(high.m);
         return Long {
-            high: 1 << 63 | sum >> 1,
+            high: TOP_BIT | sum >> 1,
             low: sum << 63,
             k: high.k.saturating_sub(64),
         };

@@ -7,9 +7,8 @@ use bounds::good::GoodWidth;
 use bounds::width::Width;
 use census::digest::Digest;
 use census::line::print_line;
+use census::widths::TOP_BIT;
 use order::order::compare;
-
-const TOP_BIT: u64 = 1 << 63;
 
 // Part 5.
 pub(crate) fn take_unread(digest: &mut Digest, width: Width) {

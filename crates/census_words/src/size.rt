@@ -1,8 +1,7 @@
 // Sizes m * 2^k: the size of a word, and the sizes that lie just below and just above a size. No exponent of theirs comes near the ends of i32.
 use bounds::width::Width;
+use census::widths::TOP_BIT;
 use word::reading::{Kind, Reading, read};
-
-const TOP_BIT: u64 = 1 << 63;
 
 #[derive(Clone, Copy)]
 pub(crate) struct Size {

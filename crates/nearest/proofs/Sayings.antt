@@ -25,12 +25,11 @@ use Rattle.word.proofs.Integers.{neg_mul}
 use Rattle.word.proofs.Signed.{order_below, order_above}
 use Rattle.word.proofs.Sizes.{size, size_lt}
 use Rattle.word.proofs.Values.{grown, grown_suc, real_inj, absolute, order_same, order_zero, order_negated, negation_negates}
-use Rattle.nearest.specs.declared.size.Lies.{Lies}
 use Rattle.nearest.specs.declared.size.Rest.{Rest}
 use Rattle.nearest.specs.declared.start.Start.{Start}
 use Rattle.nearest.specs.Nearest.{HasValue, distance, Nearest}
 use Rattle.nearest.specs.Offers.{IsOffered, IsNearest}
-use Rattle.nearest.specs.Parts.{Begins, first_bits, IsRaised, TellsEnd, TellsNothing, saying_of, beside}
+use Rattle.nearest.specs.Parts.{Begins, first_bits, IsRaised, TellsEnd, TellsNothing, beside}
 use Rattle.nearest.specs.Sayings.{Against, IsPastTheEnd, beyond, short, Says, SaysOffered}
 use Rattle.nearest.proofs.Floors.{floor_string, floor_lt, floor_size_low, floor_low, floor_exact, floor_finer, word_low, word_high, fine_exact, fine_finer}
 use Rattle.nearest.proofs.Hub.{past_all, before_all}
@@ -399,11 +398,11 @@ module _ (n : ℕ) (lo : 2 ≤ n) (hi : n ≤ 64) where
         not_low q =
             omega (arith, nearer a b v (is_positive h m rest v near).0 last some nearest low first (omega (arith, room)), distance_above a (grown n v * b) (le_of_lt over), distance_below a (grown n low * b) low_under, over, q)
 
-      pub said_beside : (exact : Bool) → LowTells exact → SaysOffered n false h m rest v (saying_of (beside low v exact).lies)
+      pub said_beside : (exact : Bool) → LowTells exact → SaysOffered n false h m rest v (beside low v exact).saying
       unfolding SaysOffered IsNearest LowTells
       said_beside exact t a b some offered = by (eqb v low) refl exact t
         where
-          by : (same : Bool) → eqb v low ≡ same → (exact : Bool) → LowTells exact → Says n false a b v (saying_of (cond exact Lies.Exact (Lies.Off (not same))))
+          by : (same : Bool) → eqb v low ≡ same → (exact : Bool) → LowTells exact → Says n false a b v (cond exact Exact (cond same Below Above))
           by true q true t = exactly a b v (is_positive h m rest v near).0 last (subst (λ (x : ℕ). grown n x * b ≡ a) (sym (eqb-true v low q)) (t a b some offered))
           by true q false t =
               let same = eqb-true v low q in

@@ -1,16 +1,15 @@
 -- What the parts of `nearest` answer: how strings begin, on which side of a midpoint a size lies, and which word is chosen so. All serve private
 -- functions.
-use Rattle.std.specs.Prelude.{◌≡◌, Option, Some, None, Bool, true, false, not, cond, eqb, ◌⊎◌, ℕ, suc, ◌+◌, ◌-◌, ◌*◌, ◌/◌, ◌%◌, ◌^◌, ◌≤◌, ◌<◌, ℤ, pos, ◌+ℤ◌}
+use Rattle.std.specs.Prelude.{◌≡◌, Option, Some, None, Bool, true, false, cond, eqb, ◌⊎◌, ℕ, suc, ◌+◌, ◌-◌, ◌*◌, ◌/◌, ◌%◌, ◌^◌, ◌≤◌, ◌<◌, ℤ, pos, ◌+ℤ◌}
 use Rattle.std.specs.Int.Signed.{mag}
 use Rattle.std.specs.declared.cmp.Ordering.{Ordering}
 use Rattle.std.specs.declared.cmp.Ordering.TheVariants.{Less, Equal, Greater}
+use Rattle.bounds.specs.declared.answer.Written.{Written}
 use Rattle.bounds.specs.declared.saying.Saying.{Saying}
-use Rattle.bounds.specs.declared.saying.Saying.TheVariants.{Exact, Below, Above, PastTheEnd}
+use Rattle.bounds.specs.declared.saying.Saying.TheVariants.{Exact, Below, Above}
 use Rattle.bounds.specs.Sayings.{opposite_saying}
 use Rattle.word.specs.Orders.{negated}
 use Rattle.word.specs.Takum as Takum
-use Rattle.nearest.specs.declared.size.Lies.{Lies}
-use Rattle.nearest.specs.declared.size.Near.{Near}
 use Rattle.nearest.specs.declared.size.Rest.{Rest}
 use Rattle.nearest.specs.declared.start.Characteristic.{Characteristic}
 use Rattle.nearest.specs.declared.start.Start.{Start}
@@ -96,20 +95,14 @@ unfoldable pub TellsNothing : ℕ → Rest → Bool → Type 0
 TellsNothing cut rest true = (cut ≡ 0) × (rest ≡ Rest.Nothing)
 TellsNothing cut rest false = (0 < cut) ⊎ (rest ≡ Rest.Nothing → ⊥)
 
--- the nearest positive word, low being the last one that is not above the size, and where it lies if the size is exactly low or isn't
-abbrev pub beside : ℕ → ℕ → Bool → Near
-beside low word exact = record { word = word; lies = cond exact Lies.Exact (Lies.Off (not (eqb word low))) }
+-- the nearest positive word, low being the last one that is not above the size, and what is said of it where the size is exactly low or isn't
+abbrev pub beside : ℕ → ℕ → Bool → Written
+beside low word exact = record { word = word; saying = cond exact Exact (cond (eqb word low) Below Above) }
 
--- what is said of a positive word by where it lies from the size
-abbrev pub saying_of : Lies → Saying
-saying_of Lies.PastTheEnd = PastTheEnd
-saying_of Lies.Exact = Exact
-saying_of (Lies.Off above) = cond above Above Below
-
--- the nearest positive word, and where it lies from every exact size that is so offered
-pub record IsNear (n : ℕ) (h : ℤ) (m : ℕ) (rest : Rest) (near : Near) : Type 0 where
+-- the nearest positive word, and what is said of it beside every exact size that is so offered
+pub record IsNear (n : ℕ) (h : ℤ) (m : ℕ) (rest : Rest) (near : Written) : Type 0 where
   pub is : IsNearest n h m rest near.word
-  pub lies : SaysOffered n false h m rest near.word (saying_of near.lies)
+  pub lies : SaysOffered n false h m rest near.word near.saying
 
 -- the word with the sign, and what is said of it then
 unfoldable pub with_sign : ℕ → Bool → ℕ → ℕ

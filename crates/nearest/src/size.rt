@@ -2,7 +2,7 @@
 ghost use Rattle.std.specs.Prelude.{◌≡◌, ◌+◌, ◌-◌, ◌*◌, ◌^◌, ◌<◌};
 ghost use Rattle.word.specs.Takum as Takum;
 ghost use Rattle.nearest.specs.Sayings.{FindsAndSays};
-ghost use Rattle.nearest.specs.Parts.{IsRaised, chosen_of, saying_of, IsNear, beside, with_sign, signed_saying};
+ghost use Rattle.nearest.specs.Parts.{IsRaised, chosen_of, IsNear, beside, with_sign, signed_saying};
 
 use crate::amount::{Amount, Tail};
 use crate::start::Characteristic;
@@ -51,21 +51,6 @@ impl From<u64> for Rest {
     }
 }
 
-// A positive word beside the size that it is nearest to.
-#[derive(Clone, Copy)]
-struct Near {
-    word: u64,
-    lies: Lies,
-}
-
-// Where the word lies from the size: the size is past this end word, or is the word, or else the word is above the size, or below it.
-#[derive(Clone, Copy)]
-enum Lies {
-    PastTheEnd,
-    Exact,
-    Off { above: bool },
-}
-
 // The word nearest to plus or minus the size (m + below * 2^-64) * 2^(h - 63), the top bit of m being taken as set, and which way it went.
 pub fn nearest(width: Width, negative: bool, h: i64, m: u64, below: u64) -> Result<Written, Refusal>
     ensures { FindsAndSays width.bits negative h m below result }
@@ -78,7 +63,7 @@ pub fn nearest(width: Width, negative: bool, h: i64, m: u64, below: u64) -> Resu
     let near = nearest_word(good, h, amount);
     Ok(Written {
         word: with_sign(good, negative, near.word),
-        saying: said(negative, near.lies),
+        saying: said(negative, near.saying),
     })
 }
 
@@ -94,25 +79,18 @@ fn with_sign(width: GoodWidth, negative: bool, word: u64) -> u64
     word
 }
 
-// Which way it went, with the sign: of two negative values the larger one in size is below. If the word came with a saying, and this took its opposite, writing
-// took 1.4 of the time, since the machine then jumps on a sign that nobody can foretell.
-fn said(negative: bool, lies: Lies) -> Saying
-    ensures { result ≡ signed_saying negative (saying_of lies) }
+// Which way it went, with the sign: of two negative values the larger one in size is below.
+fn said(negative: bool, saying: Saying) -> Saying
+    ensures { result ≡ signed_saying negative saying }
 {
-    match lies {
-        Lies::PastTheEnd => Saying::PastTheEnd,
-        Lies::Exact => Saying::Exact,
-        Lies::Off { above } => {
-            if above != negative {
-                return Saying::Above;
-            }
-            Saying::Below
-        }
+    if negative {
+        return saying.opposite();
     }
+    saying
 }
 
-// The positive word nearest to the size (m + rest) * 2^(h - 63): past either end the end word.
-fn nearest_word(width: GoodWidth, h: i64, amount: Amount) -> Near
+// The positive word nearest to the size (m + rest) * 2^(h - 63), past either end the end word, and what is said of it beside the size.
+fn nearest_word(width: GoodWidth, h: i64, amount: Amount) -> Written
     ensures { IsNear width.bits h amount.m amount.rest result }
 {
     if let Some(c) = Characteristic::new(h) {
@@ -125,17 +103,17 @@ fn nearest_word(width: GoodWidth, h: i64, amount: Amount) -> Near
 }
 
 // An end word, where the size lies past it.
-fn end_word(word: u64) -> Near
-    ensures { result ≡ record { word = word; lies = Lies.PastTheEnd } }
+fn end_word(word: u64) -> Written
+    ensures { result ≡ record { word = word; saying = Saying.PastTheEnd } }
 {
-    Near {
+    Written {
         word,
-        lies: Lies::PastTheEnd,
+        saying: Saying::PastTheEnd,
     }
 }
 
 // The same where h is a characteristic.
-fn nearest_inside(width: GoodWidth, h: Characteristic, amount: Amount) -> Near
+fn nearest_inside(width: GoodWidth, h: Characteristic, amount: Amount) -> Written
     ensures { IsNear width.bits h.c amount.m amount.rest result }
 {
     let n = width.bits;
@@ -171,18 +149,21 @@ fn nearest_inside(width: GoodWidth, h: Characteristic, amount: Amount) -> Near
 }
 
 // The word that is nearest, low being the last one that is not above the size, and the size being exactly low or not.
-fn beside(low: u64, word: u64, exact: bool) -> Near
+fn beside(low: u64, word: u64, exact: bool) -> Written
     ensures { result ≡ beside low word exact }
 {
     if exact {
-        return Near {
+        return Written::exactly(word);
+    }
+    if word == low {
+        return Written {
             word,
-            lies: Lies::Exact,
+            saying: Saying::Below,
         };
     }
-    Near {
+    Written {
         word,
-        lies: Lies::Off { above: word != low },
+        saying: Saying::Above,
     }
 }
 

@@ -1,5 +1,5 @@
 // Writing a long value as a word: every number that is written passes here.
-ghost use Rattle.std.specs.Prelude.{Ok, ◌≡◌, ◌+◌, ◌-◌, ◌*◌, ◌^◌, ◌≤◌, ◌<◌};
+ghost use Rattle.std.specs.Prelude.{Ok, ◌≡◌, ◌*◌, ◌^◌, ◌≤◌, ◌<◌, pos, ◌-ℤ◌};
 ghost use Rattle.std.specs.Int.Signed.{mag};
 ghost use Rattle.round.specs.declared.value.Rule.{Rule};
 ghost use Rattle.round.specs.Sayings.{WritesLongAndSays, WritesShortAndSays, WritesSizeAndSays};
@@ -32,33 +32,32 @@ pub fn write_short(
 ) -> Result<Written, Refusal>
     ensures { WritesShortAndSays width.bits rule negative m k result }
 {
-    write_scaled(width, rule, negative, m, k as i64)
+    write_normal(width, rule, negative, k as i64 + 63, m)
 }
 
 // The same of a size as a word is read in, m * 2^(h - 63) with its sign, also where the top bit of m isn't set.
 pub fn write_size(width: Width, rule: Rule, size: Size) -> Result<Written, Refusal>
     ensures { WritesSizeAndSays width.bits rule size result }
 {
-    write_scaled(width, rule, size.negative, size.m, size.h as i64 - 63)
+    write_normal(width, rule, size.negative, size.h as i64, size.m)
 }
 
-// The same of m * 2^k with its sign, k having room for what moves the top bit of m to 2^63.
-fn write_scaled(
+// The same of m * 2^(h - 63) with its sign: the top bit of m is moved to 2^63, and h makes up for it.
+fn write_normal(
     width: Width,
     rule: Rule,
     negative: bool,
+    h: i64,
     m: u64,
-    k: i64,
 ) -> Result<Written, Refusal>
-    requires { mag k ≤ 2 ^ 32 }
-    ensures { WritesShortAndSays width.bits rule negative m k result }
+    requires { mag h ≤ 2 ^ 32 }
+    ensures { WritesShortAndSays width.bits rule negative m (h -ℤ pos 63) result }
 {
     if m == 0 {
         return zero_word(width);
     }
     let zeros = m.leading_zeros();
-    let h = k + (63 - zeros) as i64;
-    let found = nearest(width, negative, h, m << zeros, 0)?;
+    let found = nearest(width, negative, h - zeros as i64, m << zeros, 0)?;
     by_rule(rule, found)
 }
 

@@ -10,7 +10,7 @@ use lib.IntN.{ℤ}
 use lib.Signed.{mag}
 use Rattle.bounds.specs.Widths.{largest}
 use Rattle.word.specs.Takum as Takum
-use Rattle.nearest.specs.declared.size.Lies.{Lies}
+use Rattle.bounds.specs.declared.saying.Saying.{Saying}
 use Rattle.nearest.specs.declared.size.Rest.{Rest}
 use Rattle.std.specs.declared.cmp.Ordering.{Ordering}
 use Rattle.nearest.specs.declared.start.Start.{Start}
@@ -61,7 +61,7 @@ module _ (n : ℕ) (h : ℤ) (m : ℕ) (start : Start) (bits : ℕ) (k : Cut n h
   room f = omega (arith, f, ends)
 
   -- below the first word
-  short : low n bits ≡ 0 → IsNear n h m rest (record { word = 1; lies = Lies.PastTheEnd })
+  short : low n bits ≡ 0 → IsNear n h m rest (record { word = 1; saying = Saying.PastTheEnd })
   short q =
       record {
         is = at_zero n k.lo k.hi h e m rest start raised_is k.begins k.full k.top (low n bits) is q;
@@ -81,7 +81,7 @@ module _ (n : ℕ) (h : ℤ) (m : ℕ) (start : Start) (bits : ℕ) (k : Cut n h
         lies = said_largest n k.lo k.hi h e m rest start raised_is k.begins k.full k.top (low n bits) is q (told first true t);
       }
 
-  beyond : zero < low n bits → low n bits ≡ 2 ^ (n - 1) - 1 → TellsEnd n (low n bits) bits start.r m rest false → IsNear n h m rest (record { word = low n bits; lies = Lies.PastTheEnd })
+  beyond : zero < low n bits → low n bits ≡ 2 ^ (n - 1) - 1 → TellsEnd n (low n bits) bits start.r m rest false → IsNear n h m rest (record { word = low n bits; saying = Saying.PastTheEnd })
   beyond first q t =
       record {
         is = at_end n k.lo k.hi h e m rest start raised_is k.begins k.full k.top (low n bits) is q;

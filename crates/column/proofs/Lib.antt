@@ -7,7 +7,7 @@ pub mod Trials
 pub mod Counts
 -- a walk one word further: what has been tried, and what has been written
 pub mod Walks
--- what the answer of the trial tells: every word can be moved, or nothing is to be written
+-- what a refusal tells: nothing was written
 pub mod Outcomes
 -- what the contract says at each position
 pub mod Positions

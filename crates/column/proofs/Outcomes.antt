@@ -1,24 +1,33 @@
--- What the answer of the trial of a column tells: that every word can be moved, or that nothing is to be written, and none counted. Assumes nothing.
+-- What a refusal of a column tells: nothing was written, and none counted. Assumes nothing.
 use Rattle.std.specs.Prelude.{Ok, Err}
-use Rattle.bounds.specs.declared.refusal.ListRefusal.{ListRefusal}
-use Rattle.bounds.specs.Refusals.{ListAnswer}
-use Rattle.bounds.specs.Sayings.{written}
-use mathlib.Core.Path.{◌≡◌, refl, subst}
+use mathlib.Core.Path.{◌≡◌, refl, sym, subst}
 use mathlib.Core.List.{List}
 use Prim.Native.Nat.{ℕ}
-use lib.ListN.{length}
+use Rattle.bounds.specs.declared.refusal.ListRefusal.{ListRefusal}
+use Rattle.bounds.specs.Refusals.{ListAnswer}
 use Rattle.round.specs.declared.value.Rule.{Rule}
-use Rattle.column.specs.Columns.{MovableUpTo, IsTried, Holds}
+use Rattle.column.specs.declared.moving.MovedColumn.{MovedColumn}
+use Rattle.column.specs.Columns.{IsTried, Holds}
 use Rattle.column.specs.Counts.{CountsExact, HoldsAndCounts}
-
--- where the trial's answer is a count, every word is moved to some word
-pub every_word_movable : (n n' : ℕ) (rule : Rule) (words : List ℕ) (a : ListAnswer ℕ) (count : ℕ) → IsTried n n' rule words a → a ≡ Ok count → MovableUpTo n n' rule words (length words)
-unfolding IsTried
-every_word_movable n n' rule words a count x q = let y = subst (IsTried n n' rule words) q x in subst (MovableUpTo n n' rule words) y.0 y.1
+use Rattle.column.specs.Trials.{TriesWords}
 
 -- an answer that is no count
-pub nothing_written : (n n' : ℕ) (rule : Rule) (words before : List ℕ) (a : ListAnswer ℕ) → ((count : ℕ) → a ≡ Ok count → ⊥) → HoldsAndCounts n n' rule words before (record { answer = a; exact = 0 }) before
+pub nothing_written : (n n' : ℕ) (rule : Rule) (words before : List ℕ) (a : ListAnswer MovedColumn) → ((m : MovedColumn) → a ≡ Ok m → ⊥) → HoldsAndCounts n n' rule words before a before
 unfolding HoldsAndCounts Holds CountsExact
-nothing_written n n' rule words before (Ok count) h = absurd (h count refl)
-nothing_written n n' rule words before (Err (ListRefusal.Whole q)) h = (refl, refl)
-nothing_written n n' rule words before (Err (ListRefusal.At position q)) h = (refl, refl)
+nothing_written n n' rule words before (Ok m) h = absurd (h m refl)
+nothing_written n n' rule words before (Err (ListRefusal.Whole q)) h = (refl, tt)
+nothing_written n n' rule words before (Err (ListRefusal.At position q)) h = (refl, tt)
+
+IsRefusal : ListAnswer MovedColumn → Type 0
+IsRefusal (Ok m) = ⊥
+IsRefusal (Err e) = Unit {0}
+
+pub no_count : (e : ListRefusal) (a : ListAnswer MovedColumn) → a ≡ Err e → (m : MovedColumn) → a ≡ Ok m → ⊥
+unfolding IsRefusal
+no_count e a h m k = subst IsRefusal k (subst IsRefusal (sym h) tt)
+
+-- what the trial of the words refuses, the column is refused for
+pub tried_refused : (n n' : ℕ) (rule : Rule) (words : List ℕ) (e : ListRefusal) → TriesWords n n' rule words (Err e) → IsTried n n' rule words (Err e)
+unfolding TriesWords IsTried
+tried_refused n n' rule words (ListRefusal.At position q) x = x
+tried_refused n n' rule words (ListRefusal.Whole q) x = absurd x

@@ -1,10 +1,9 @@
 -- A word that is tried is let through exactly where it is moved to some word. Assumes nothing.
 use Rattle.std.specs.Prelude.{Ok, Err}
-use Rattle.bounds.specs.Refusals.{passed, Answer}
 use mathlib.Core.Path.{◌≡◌, refl, sym, ◌∙◌, subst}
 use Prim.Native.Nat.{ℕ}
 use Rattle.bounds.specs.declared.refusal.Refusal.{Refusal}
-use Rattle.bounds.specs.Refusals.{width_test, word_test, refused}
+use Rattle.bounds.specs.Refusals.{Answer, Verdict, passed, width_test, word_test, refused}
 use Rattle.bounds.proofs.Answers.{GivesAWord}
 use Rattle.bounds.proofs.Verdicts.{width_through, word_through}
 use Rattle.round.specs.declared.value.Rule.{Rule}

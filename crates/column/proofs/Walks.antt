@@ -1,8 +1,12 @@
 -- A walk of a column, one word further: what has been tried, what has been written, and how many are exact. Assumes nothing.
-use Rattle.std.specs.Prelude.{Ok, Err}
+use mathlib.Core.Bool.{true, false}
+use Rattle.std.specs.Prelude.{Ok, Err, IsOk}
 use Rattle.bounds.specs.declared.refusal.ListRefusal.{ListRefusal}
-use Rattle.bounds.specs.Refusals.{passed}
-use Rattle.bounds.specs.Sayings.{written}
+use Rattle.bounds.specs.declared.answer.Written.{Written}
+use Rattle.bounds.specs.declared.saying.Saying.{Saying}
+use Rattle.bounds.specs.Refusals.{Answer, passed, Verdict}
+use Rattle.bounds.specs.Sayings.{says_exact}
+use Rattle.bounds.proofs.Answers.{is_exact}
 use mathlib.Core.Path.{◌≡◌, refl, sym, ◌∙◌, subst}
 use mathlib.Core.List.{List}
 use Prim.Native.Nat.{ℕ, ◌+◌, ◌≤◌, ◌<◌}
@@ -16,11 +20,13 @@ use Rattle.bounds.specs.declared.refusal.Refusal.{Refusal}
 use Rattle.word.specs.Takum.{takum}
 use Rattle.round.specs.declared.value.Rule.{Rule}
 use Rattle.write.specs.Writes.{Moves}
-use Rattle.column.specs.Columns.{Movable, MovableUpTo, IsTried, AreMoved}
-use Rattle.column.specs.declared.moving.MovedWord.{MovedWord}
+use Rattle.write.specs.Sayings.{SaysMoved, MovesAndSays}
+use Rattle.write.proofs.Sayings.{exact_means, not_exact}
+use Rattle.column.specs.Columns.{Movable, MovableUpTo, AreMoved}
 use Rattle.column.specs.Counts.{Counts, KeepsTheMeaning}
-use Rattle.column.specs.Trials.{TriesWord, MovesWord}
+use Rattle.column.specs.Trials.{TriesWord, TriesWords}
 use Rattle.column.proofs.Counts.{counts_alike, counts_further}
+use Rattle.column.proofs.Trials.{not_refused}
 
 module _ (n n' : ℕ) (rule : Rule) (words : List ℕ) where
   -- ---- trying
@@ -34,13 +40,13 @@ module _ (n n' : ℕ) (rule : Rule) (words : List ℕ) where
     unfolding MovableUpTo TriesWord
     one_more_tried h = below_more (λ i. Movable n n' rule (get_or words i 0)) i before (subst (TriesWord n n' rule (get_or words i 0)) h tried)
 
-    pub first_refused : (q : Refusal) → i < length words → v ≡ Err q → IsTried n n' rule words (Err (ListRefusal.At i q))
-    unfolding IsTried TriesWord
-    first_refused q inside h = record { inside = inside; lowest = before; is = subst (TriesWord n n' rule (get_or words i 0)) h tried }
+  pub first_refused : (i : ℕ) (q : Refusal) → i < length words → TriesWord n n' rule (get_or words i 0) (Err q) → MovableUpTo n n' rule words i → TriesWords n n' rule words (Err (ListRefusal.At i q))
+  unfolding TriesWords TriesWord
+  first_refused i q inside is before = record { inside = inside; lowest = before; is = is }
 
-  pub all_tried : (i : ℕ) → i ≤ length words → length words ≤ i → MovableUpTo n n' rule words i → IsTried n n' rule words (Ok i)
-  unfolding IsTried
-  all_tried i lo hi x = (le_antisymm lo hi, x)
+  pub all_tried : (i : ℕ) → length words ≤ i → MovableUpTo n n' rule words i → MovableUpTo n n' rule words (length words)
+  unfolding MovableUpTo
+  all_tried i hi x k h = x k (omega (arith, h, hi))
 
   -- ---- writing
   pub none_written : (before : List ℕ) → AreMoved n n' rule words 0 before before
@@ -60,6 +66,29 @@ module _ (n n' : ℕ) (rule : Rule) (words : List ℕ) where
   pub all_written : (i : ℕ) (before after : List ℕ) → i ≤ length words → length words ≤ i → AreMoved n n' rule words i before after → AreMoved n n' rule words (length words) before after
   all_written i before after lo hi = subst (λ (k : ℕ). AreMoved n n' rule words k before after) (le_antisymm lo hi)
 
+-- the word that w is moved to, and whether it means the same
+pub record MovesWord (n n' : ℕ) (rule : Rule) (w : ℕ) (m : Written) : Type 0 where
+  pub moves : Moves n n' rule w (Ok m.word)
+  pub same : says_exact m.saying ≡ true → takum n' m.word ≡ takum n w
+  pub other : says_exact m.saying ≡ false → takum n' m.word ≡ takum n w → ⊥
+
+module _ (n n' : ℕ) (rule : Rule) (w : ℕ) where
+  pub moves_word : (m : Written) → MovesAndSays n n' rule w (Ok m) → MovesWord n n' rule w m
+  unfolding MovesAndSays
+  moves_word m x =
+      let says = x.says m.word m.saying refl in
+      record {
+        moves = x.answers;
+        same = λ q. exact_means n n' rule _ _ x.answers (subst (λ (u : Saying). SaysMoved n' (takum n w) m.word u) (is_exact m.saying q) says);
+        other = λ q. not_exact n n' rule _ _ _ x.answers says q;
+      }
+
+  -- a word that is moved to some word is not refused
+  pub not_an_error : (a : Answer Written) → Movable n n' rule w → MovesAndSays n n' rule w a → IsOk a
+  unfolding MovesAndSays
+  not_an_error (Ok m) h x = refl
+  not_an_error (Err q) h x = absurd (not_refused n n' w rule (Err q) x.answers q h refl)
+
 -- the positions that were counted keep their results
 pub still_counted : (n n' : ℕ) (words after : List ℕ) (i w' exact : ℕ) → Counts (KeepsTheMeaning n n' words after) i exact → Counts (KeepsTheMeaning n n' words (set after i w')) i exact
 unfolding KeepsTheMeaning
@@ -70,10 +99,10 @@ still_counted n n' words after i w' exact x =
     same k h = get_or-set_other after i k w' 0 (λ q. omega (arith, h, q))
 
 -- one word further: it has been moved to w', and a flag tells whether that means the same
-pub one_more_counted : (n n' : ℕ) (rule : Rule) (words after : List ℕ) (i exact : ℕ) (m : MovedWord) → i < length after → Counts (KeepsTheMeaning n n' words after) i exact → MovesWord n n' rule (get_or words i 0) m → (more : ℕ) → more ≡ exact + bool_byte m.exact → Counts (KeepsTheMeaning n n' words (set after i m.word)) (i + 1) more
+pub one_more_counted : (n n' : ℕ) (rule : Rule) (words after : List ℕ) (i exact : ℕ) (m : Written) → i < length after → Counts (KeepsTheMeaning n n' words after) i exact → MovesWord n n' rule (get_or words i 0) m → (more : ℕ) → more ≡ exact + bool_byte (says_exact m.saying) → Counts (KeepsTheMeaning n n' words (set after i m.word)) (i + 1) more
 unfolding KeepsTheMeaning
 one_more_counted n n' rule words after i exact m inside x y more q =
-    counts_further i exact m.exact (still_counted n n' words after i m.word exact x) (λ e. subst (λ (v : ℕ). takum n' v ≡ takum n (get_or words i 0)) (sym here) (y.same e)) (λ e z. y.other e (subst (λ (v : ℕ). takum n' v ≡ takum n (get_or words i 0)) here z)) more q
+    counts_further i exact (says_exact m.saying) (still_counted n n' words after i m.word exact x) (λ e. subst (λ (v : ℕ). takum n' v ≡ takum n (get_or words i 0)) (sym here) (y.same e)) (λ e z. y.other e (subst (λ (v : ℕ). takum n' v ≡ takum n (get_or words i 0)) here z)) more q
   where
     here : get_or (set after i m.word) i 0 ≡ m.word
     here = get_or-set_same after i m.word 0 inside

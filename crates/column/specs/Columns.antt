@@ -33,6 +33,11 @@ pub record AreMoved (n n' : ℕ) (rule : Rule) (words : List ℕ) (count : ℕ) 
   pub moved : (i : ℕ) → i < count → Moves n n' rule (get_or words i 0) (Ok (get_or after i 0))
   pub others : (i : ℕ) → count ≤ i → get_or after i 0 ≡ get_or before i 0
 
+-- the answer without its count of exact words: how many words were moved, or the refusal
+abbrev pub how_many : ListAnswer MovedColumn → ListAnswer ℕ
+how_many (Ok a) = Ok a.moved
+how_many (Err e) = Err e
+
 -- ---- what the call answers: WIDTH of the source, then of the target, then ROOM, then the lowest position's refusal
 unfoldable pub MovesColumn : ℕ → ℕ → Rule → List ℕ → ℕ → ListAnswer MovedColumn → Type 0
 MovesColumn n n' rule words room a = Decided (width_test n then width_test n' then room_test (length words) room) (λ q. a ≡ Err (ListRefusal.Whole q)) (IsTried n n' rule words a)

@@ -2,6 +2,7 @@
 use crate::block::Leaf;
 use crate::layout::Layout;
 use crate::reading::take_reading;
+use crate::row::Room;
 use census::digest::Digest;
 use census::line::print_line;
 use census::runs::print_runs;
@@ -20,7 +21,9 @@ pub(crate) fn print_bytes(w: Layout) {
 }
 
 fn take_changed(digest: &mut Digest, w: Layout, changed: Leaf) {
-    let room = w.full / 2 + 4;
+    let room = Room {
+        words: w.full / 2 + 4,
+    };
     take_reading(digest, changed.block(), room);
     take_reading(digest, changed.sealed().block(), room);
 }
@@ -31,7 +34,7 @@ pub(crate) fn print_sizes(w: Layout) {
     let leaf = Leaf::draw(w, w.full as u16, &mut sequence);
     let mut digest = Digest::EMPTY;
     for size in [0, 1, 2, 8, 503, 504, 511, 512, 513, 520] {
-        take_reading(&mut digest, &leaf.bytes[..size], w.full);
+        take_reading(&mut digest, &leaf.bytes[..size], Room { words: w.full });
     }
     print_line("size", &[w.number()], digest);
 }
@@ -56,7 +59,7 @@ pub(crate) fn print_numbers(w: Layout) {
     let mut digest = Digest::EMPTY;
     for number in NUMBERS {
         leaf.put_number(1, number);
-        take_reading(&mut digest, leaf.sealed().block(), 3);
+        take_reading(&mut digest, leaf.sealed().block(), Room { words: 3 });
     }
     print_line("number", &[w.number()], digest);
 }

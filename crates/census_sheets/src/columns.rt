@@ -1,7 +1,7 @@
 // Columns: their words, drawn from a sequence, and the moves of them with a result slice of some length.
 ghost use Rattle.std.specs.Prelude.{◌≤◌, length};
 
-use crate::row::{BESIDE, number_row};
+use crate::row::{BESIDE, Room, at_rooms_around, number_row};
 use bounds::good::GoodWidth;
 use bounds::width::Width;
 use census::digest::Digest;
@@ -9,11 +9,13 @@ use census::sequence::Sequence;
 use column::moving::move_column;
 use round::value::Rule;
 
-// The widths that a column is moved from and to. Part 30 has bad ones too.
+// A column and the widths that it is moved from and to. Part 30 has bad ones too.
 #[derive(Clone, Copy)]
-pub(crate) struct Move {
+pub(crate) struct Move<'a> {
     pub(crate) from: Width,
     pub(crate) to: Width,
+    pub(crate) column: &'a [u64],
+    pub(crate) ghost fits: { length column.now ≤ 1000 },
 }
 
 // Every word of an exact column moves exactly: NaR, zero, or a word whose bits below the target's last are zero.
@@ -41,44 +43,34 @@ pub(crate) fn draw_free(words: &mut [u64], width: GoodWidth, sequence: &mut Sequ
     }
 }
 
-impl Move {
-    pub(crate) fn between(from: GoodWidth, to: GoodWidth) -> Move {
+impl<'a> Move<'a> {
+    pub(crate) fn between(from: GoodWidth, to: GoodWidth, column: &'a [u64]) -> Move<'a>
+        requires { length column.now ≤ 1000 }
+    {
         Move {
             from: Width { bits: from.bits },
             to: Width { bits: to.bits },
+            column,
         }
     }
 
     // The two moves with each of the rooms around the column's length.
-    pub(crate) fn take_around(self, digest: &mut Digest, column: &[u64])
-        requires { length column.now ≤ 1000 }
-    {
-        let length = column.len();
-        self.take_two(digest, column, 0);
-        if 0 < length {
-            self.take_two(digest, column, length - 1);
-        }
-        for room in [length, length + 1, length + 8] {
-            self.take_two(digest, column, room);
-        }
+    pub(crate) fn take_around(self, digest: &mut Digest) {
+        at_rooms_around(self.column.len(), |room| self.take_two(digest, room));
     }
 
     // The rounded move and the strict one.
-    pub(crate) fn take_two(self, digest: &mut Digest, column: &[u64], room: usize)
-        requires { room ≤ 1008 }
-    {
+    pub(crate) fn take_two(self, digest: &mut Digest, room: Room) {
         for rule in [Rule::Rounded, Rule::Strict] {
-            self.take(digest, rule, column, room);
+            self.take(digest, rule, room);
         }
     }
 
-    pub(crate) fn take(self, digest: &mut Digest, rule: Rule, column: &[u64], room: usize)
-        requires { room ≤ 1008 }
-    {
+    pub(crate) fn take(self, digest: &mut Digest, rule: Rule, room: Room) {
         let mut row = number_row();
-        let results = &mut row[BESIDE..BESIDE + room];
-        let answer = move_column(self.from, self.to, rule, column, results);
+        let results = &mut row[BESIDE..BESIDE + room.words];
+        let answer = move_column(self.from, self.to, rule, self.column, results);
         digest.take(answer.map(|column| (column.moved, column.exact)));
-        digest.take(&row[..room + 2 * BESIDE]);
+        digest.take(&row[..room.words + 2 * BESIDE]);
     }
 }

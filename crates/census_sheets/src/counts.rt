@@ -1,7 +1,8 @@
 // Parts 32 and 38: blocks of each count, read as they are, and with a bit set in a byte, used or unused.
 use crate::block::Leaf;
 use crate::layout::Layout;
-use crate::reading::{take_reading, take_readings_around};
+use crate::reading::take_reading;
+use crate::row::{Room, at_rooms_around};
 use census::digest::Digest;
 use census::line::print_line;
 use census::sequence::Sequence;
@@ -13,7 +14,9 @@ pub(crate) fn print_blocks(w: Layout) {
     for count in [0, 1, 2, full - 1, full, full + 1, 65_535] {
         let leaf = Leaf::draw(w, count, &mut sequence);
         let mut digest = Digest::EMPTY;
-        take_readings_around(&mut digest, leaf.block(), w.full.min(count as usize));
+        at_rooms_around(w.full.min(count as usize), |room| {
+            take_reading(&mut digest, leaf.block(), room)
+        });
         print_line("block", &[w.number(), count as u64], digest);
     }
 }
@@ -29,7 +32,11 @@ pub(crate) fn print_fills(w: Layout) {
         for at in [8, end - 1, end, (end + 503) / 2, 503] {
             let mut changed = leaf;
             changed.flip(at, 0x80);
-            take_reading(&mut digest, changed.sealed().block(), count + 1);
+            take_reading(
+                &mut digest,
+                changed.sealed().block(),
+                Room { words: count + 1 },
+            );
         }
         print_line("fill", &[w.number(), count as u64], digest);
     }

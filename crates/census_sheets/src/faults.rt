@@ -4,6 +4,7 @@ ghost use Rattle.std.specs.Prelude.{◌≤◌};
 use crate::block::{Leaf, MARK, SIZE};
 use crate::layout::Layout;
 use crate::reading::take_reading;
+use crate::row::Room;
 use census::digest::Digest;
 use census::runs::print_runs;
 use census::sequence::Sequence;
@@ -55,8 +56,8 @@ fn take_faults(digest: &mut Digest, w: Layout, leaf: Leaf, faults: u64) {
     spoilt.seal();
     spoilt.flip(508, times_in(faults, OF_CHECK));
     let lent = SIZE - times_in(faults, OF_SIZE) as usize;
-    let room = w.full / 2 + 4 - 5 * times_in(faults, OF_ROOM) as usize;
-    take_reading(digest, &spoilt.bytes[..lent], room);
+    let words = w.full / 2 + 4 - 5 * times_in(faults, OF_ROOM) as usize;
+    take_reading(digest, &spoilt.bytes[..lent], Room { words });
 }
 
 // Half as many words as there is room for, or one more than there is.

@@ -1,6 +1,5 @@
 // Parts 28 and 29: columns of drawn words, of many lengths, between many pairs of widths.
 use crate::columns::{Move, draw_exact, draw_free};
-use crate::planted::take_planted;
 use bounds::good::GoodWidth;
 use census::digest::Digest;
 use census::line::print_line;
@@ -27,9 +26,9 @@ fn print_drawn(from: GoodWidth, to: GoodWidth) {
         let column = &mut words[..length];
         let mut digest = Digest::EMPTY;
         draw_exact(column, from, to, &mut sequence);
-        Move::between(from, to).take_around(&mut digest, column);
+        Move::between(from, to, column).take_around(&mut digest);
         draw_free(column, from, &mut sequence);
-        Move::between(from, to).take_around(&mut digest, column);
+        Move::between(from, to, column).take_around(&mut digest);
         print_line("column", &[a, b, length as u64], digest);
     }
 }
@@ -58,7 +57,7 @@ fn print_planted(from: GoodWidth, to: GoodWidth) {
         let column = &mut words[..length];
         let mut digest = Digest::EMPTY;
         draw_exact(column, from, to, &mut sequence);
-        take_planted(&mut digest, Move::between(from, to), column);
+        Move::between(from, to, column).take_planted(&mut digest);
         print_line("planted", &[a, b, length as u64], digest);
     }
 }

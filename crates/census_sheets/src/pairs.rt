@@ -1,5 +1,6 @@
 // Part 31: short columns from each width to every width.
 use crate::columns::{Move, draw_exact, draw_free};
+use crate::row::Room;
 use bounds::good::GoodWidth;
 use census::digest::Digest;
 use census::line::print_line;
@@ -14,9 +15,9 @@ pub(crate) fn print_pairs(from: GoodWidth) {
     let mut column = [0; 8];
     at_every_width(|to| {
         draw_exact(&mut column, from, to, &mut sequence);
-        Move::between(from, to).take_two(&mut digest, &column, 8);
+        Move::between(from, to, &column).take_two(&mut digest, Room { words: 8 });
         draw_free(&mut column, from, &mut sequence);
-        Move::between(from, to).take_two(&mut digest, &column, 12);
+        Move::between(from, to, &column).take_two(&mut digest, Room { words: 12 });
     });
     print_line("pairs", &[n], digest);
 }

@@ -2,6 +2,7 @@
 ghost use Rattle.std.specs.Prelude.{◌≤◌, length};
 
 use crate::columns::Move;
+use crate::row::Room;
 use bounds::width::Width;
 use census::digest::Digest;
 use round::value::Rule;
@@ -9,40 +10,43 @@ use round::value::Rule;
 // The bit of INEXACT.
 const LOWEST: u64 = 1;
 
-// The 21 ways to set bits at the first place, the middle one and the last one, and at each two of them.
-pub(crate) fn take_planted(digest: &mut Digest, moving: Move, column: &[u64])
-    requires { (1 ≤ length column.now) × (length column.now ≤ 1000) }
-{
-    let stray = stray_bit(moving.from);
-    let middle = column.len() / 2;
-    let last = column.len() - 1;
-    for p in [0, middle, last] {
-        for bits in [stray, LOWEST, stray | LOWEST] {
-            take_three(digest, moving, column, &[(p, bits)]);
+impl Move<'_> {
+    // The 21 ways to set bits at the first place, the middle one and the last one, and at each two of them.
+    pub(crate) fn take_planted(self, digest: &mut Digest) {
+        let stray = stray_bit(self.from);
+        let middle = self.column.len() / 2;
+        let last = self.column.len().saturating_sub(1);
+        for p in [0, middle, last] {
+            for bits in [stray, LOWEST, stray | LOWEST] {
+                self.take_way(digest, &[(p, bits)]);
+            }
+        }
+        for (p, q) in [(0, middle), (0, last), (middle, last)] {
+            for (bits_at_p, bits_at_q) in [
+                (stray, stray),
+                (stray, LOWEST),
+                (LOWEST, stray),
+                (LOWEST, LOWEST),
+            ] {
+                self.take_way(digest, &[(p, bits_at_p), (q, bits_at_q)]);
+            }
         }
     }
-    for (p, q) in [(0, middle), (0, last), (middle, last)] {
-        for (bits_at_p, bits_at_q) in [
-            (stray, stray),
-            (stray, LOWEST),
-            (LOWEST, stray),
-            (LOWEST, LOWEST),
-        ] {
-            take_three(digest, moving, column, &[(p, bits_at_p), (q, bits_at_q)]);
-        }
-    }
-}
 
-// The three calls of a way.
-fn take_three(digest: &mut Digest, moving: Move, column: &[u64], sets: &[(usize, u64)])
-    requires { (1 ≤ length column.now) × (length column.now ≤ 1000) }
-{
-    let length = column.len();
-    let words = plant(column, sets);
-    let planted = &words[..length];
-    moving.take(digest, Rule::Rounded, planted, length);
-    moving.take(digest, Rule::Strict, planted, length + 8);
-    moving.take(digest, Rule::Strict, planted, length - 1);
+    // The three calls of a way.
+    fn take_way(self, digest: &mut Digest, sets: &[(usize, u64)]) {
+        let words = self.column.len();
+        let planted = plant(self.column, sets);
+        let moving = Move {
+            from: self.from,
+            to: self.to,
+            column: &planted[..words],
+        };
+        moving.take(digest, Rule::Rounded, Room { words });
+        for words in [words + 8, words.saturating_sub(1)] {
+            moving.take(digest, Rule::Strict, Room { words });
+        }
+    }
 }
 
 // The bit worth 2^a. At width 64 there is none.

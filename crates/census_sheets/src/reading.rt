@@ -1,29 +1,14 @@
 // Reading a block with a result slice of some length.
 ghost use Rattle.std.specs.Prelude.{◌≤◌, length};
 
-use crate::row::{BESIDE, number_row};
+use crate::row::{BESIDE, Room, number_row};
 use bounds::refusal::Refusal;
 use census::digest::Digest;
 use sheet::block::{Block, read_block};
 
-// With each of the rooms around a number of words.
-pub(crate) fn take_readings_around(digest: &mut Digest, bytes: &[u8], words: usize)
-    requires { words ≤ 1000 }
-{
-    take_reading(digest, bytes, 0);
-    if 0 < words {
-        take_reading(digest, bytes, words - 1);
-    }
-    for room in [words, words + 1, words + 8] {
-        take_reading(digest, bytes, room);
-    }
-}
-
-pub(crate) fn take_reading(digest: &mut Digest, bytes: &[u8], room: usize)
-    requires { room ≤ 1008 }
-{
+pub(crate) fn take_reading(digest: &mut Digest, bytes: &[u8], room: Room) {
     let mut row = number_row();
-    let _ = take_reading_into(digest, bytes, &mut row[..room + 2 * BESIDE]);
+    let _ = take_reading_into(digest, bytes, &mut row[..room.words + 2 * BESIDE]);
 }
 
 // The results go into the middle of the row, which the caller can look at afterwards.

@@ -4,6 +4,7 @@ ghost use Rattle.std.specs.Prelude.{◌≤◌};
 use crate::block::Leaf;
 use crate::layout::Layout;
 use crate::reading::take_reading;
+use crate::row::Room;
 use census::digest::Digest;
 use census::line::print_line;
 use census::sequence::Sequence;
@@ -61,7 +62,7 @@ fn print_kind<F: Fn(Change) -> [u32; 3]>(
         changed.add(i, first);
         changed.add(i + 1, second);
         changed.add(i + 2, third);
-        take_reading(&mut digest, changed.block(), w.full);
+        take_reading(&mut digest, changed.block(), Room { words: w.full });
     }
     print_line("sums", &[w.number(), kind], digest);
 }

@@ -1,5 +1,6 @@
 // Part 30: moving a short column where a width is bad.
 use crate::columns::Move;
+use crate::row::Room;
 use bounds::width::Width;
 use census::digest::Digest;
 use census::widths::TOP_BIT;
@@ -10,8 +11,9 @@ pub(crate) fn take_uncolumned(digest: &mut Digest, bad: Width) {
     let words = [1, TOP_BIT];
     for (from, to) in [(bad, good), (good, bad), (bad, bad)] {
         for length in [0, 1, 2] {
-            for room in [0, 1, 2] {
-                Move { from, to }.take_two(digest, &words[..length], room);
+            let column = &words[..length];
+            for words in [0, 1, 2] {
+                Move { from, to, column }.take_two(digest, Room { words });
             }
         }
     }

@@ -4,7 +4,7 @@ ghost use Rattle.std.specs.Prelude.{◌≤◌};
 use crate::block::SIZE;
 use crate::layout::Layout;
 use crate::reading::take_reading;
-use crate::row::BESIDE;
+use crate::row::{BESIDE, Room};
 use crate::writing::{Content, draw_content};
 use census::digest::Digest;
 use census::line::print_line;
@@ -37,6 +37,10 @@ fn take_sizes(digest: &mut Digest, content: Content, full: usize)
     let row = content.take(digest, SIZE);
     let count = content.words.len();
     if count <= full {
-        take_reading(digest, &row[BESIDE..BESIDE + SIZE], count + 4);
+        take_reading(
+            digest,
+            &row[BESIDE..BESIDE + SIZE],
+            Room { words: count + 4 },
+        );
     }
 }

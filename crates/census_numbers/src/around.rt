@@ -1,4 +1,4 @@
-// A number with its neighbours or its opposite, in the order of the page. Numbers of 64 bits stand for words and whole numbers, and go on modulo 2^64.
+// A number with its neighbours or its opposite, in the order of the page. It stands for a word or a whole number, and goes on modulo 2^64.
 use census::widths::TOP_BIT;
 
 // x - 1, x and x + 1.

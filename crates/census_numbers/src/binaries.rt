@@ -41,7 +41,7 @@ pub(crate) fn print_twos(good: GoodWidth) {
     print_line("twos", &[good.bits as u64], digest);
 }
 
-// Part 25: the extreme numbers, and those of the smallest positive word and of the largest. Where the library refuses that, the word 0 has to show it.
+// Part 25: the extreme numbers, and those of the smallest positive word and of the largest. Where the library refuses it, 0 has to show it.
 pub(crate) fn print_extreme(good: GoodWidth) {
     let width = Width { bits: good.bits };
     let mut digest = Digest::EMPTY;

@@ -30,8 +30,8 @@ fn take_both(digest: &mut Digest, x: u64) {
     }
 }
 
-// Part 54: the line of k, which is n - 1: 2^k - 2 to 2^k + 2, and then 2^k + 2^j and 2^k - 2^j. For k = 63, beyond which there are none, the ends, and the
-// latter alone.
+// Part 54: the line of k, which is n - 1: 2^k - 2 to 2^k + 2, and then 2^k + 2^j and 2^k - 2^j. For k = 63, beyond which there are none, the
+// ends, and the latter alone.
 pub(crate) fn print_powers(good: GoodWidth) {
     let k = good.bits - 1;
     let power = good.nar();

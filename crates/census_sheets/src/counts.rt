@@ -21,8 +21,8 @@ pub(crate) fn print_blocks(w: Layout) {
     }
 }
 
-// Part 38: with the top bit of a byte flipped, and sealed anew. The bytes are the first one of the words, the last one, the first one behind them, one in
-// the middle of the rest, and the last one.
+// Part 38: with the top bit of a byte flipped, and sealed anew. The bytes are the first one of the words, the last one, the first one behind
+// them, one in the middle of the rest, and the last one.
 pub(crate) fn print_fills(w: Layout) {
     let mut sequence = Sequence::of(44_000 + w.number());
     for count in [0, 1, w.full - 1] {

@@ -37,8 +37,8 @@ pub(crate) fn print_sums(w: Layout) {
     });
 }
 
-// A kind's change at each of its places, which says what is added to the number there and to the two after it. Where nothing is added, a number behind
-// the 126 may be meant.
+// A kind's change at each of its places, which says what is added to the number there and to the two after it. Where nothing is added, a
+// number behind the 126 may be meant.
 fn print_kind<F: Fn(Change) -> [u32; 3]>(
     w: Layout,
     leaf: Leaf,

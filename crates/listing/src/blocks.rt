@@ -1,5 +1,5 @@
 // The text of a block: a line for each of its words, or its refusal.
-ghost use Rattle.std.specs.Prelude.{◌≡◌, ◌*◌, ◌≤◌, length};
+ghost use Rattle.std.specs.Prelude.{◌≡◌, ◌*◌, ◌^◌, ◌<◌, ◌≤◌, length};
 ghost use Rattle.listing.specs.Adds.{AddsSome, HasRoom};
 ghost use Rattle.sheet.specs.Reads.{block_test};
 ghost use Rattle.listing.specs.Listing.{most, refusal_of, text_room, ListsBlock, ListsInto};
@@ -58,7 +58,7 @@ fn put_block(text: &mut Text<'_>, block: &[u8], place: u64) -> Option<Refusal>
 
 // A line for each word of a block.
 fn put_lines(text: &mut Text<'_>, block: Block, words: &[u64])
-    requires { (block.width ≤ 64) × (length words.now ≤ most) × HasRoom (96 * length words.now) text.old }
+    requires { (block.width ≤ 64) × (length words.now < 2 ^ 32) × HasRoom (96 * length words.now) text.old }
     ensures { AddsSome (96 * length words.now) (AreLines block.number block.width 0 words.now) text.old text.new }
 {
     for (position, word) in words.iter().enumerate() {

@@ -1,12 +1,10 @@
 -- `put_lines` meets its contract. Assumes nothing.
 use Rattle.std.proofs.Common.{◌++◌, arith, length-append}
-use Rattle.listing.specs.Listing.{most}
 use Rattle.listing.proofs.Placed.{joined_adds}
 use Rattle.listing.proofs.Listed.{one_more, all_of_them}
 use Rattle.listing.proofs.blocks.put_lines.Goals as goal
 
 pub overflow_cast-position : goal.overflow_cast-position
-unfolding most
 overflow_cast-position c = record { fits = omega (arith, c.loop-position-test.true, c.requires.1) }
 
 pub loop-position-preserved : goal.loop-position-preserved

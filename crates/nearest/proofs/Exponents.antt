@@ -1,16 +1,14 @@
 -- Exponents raised by 255, and what a unit of the offered significand is worth beside a power of two. Assumes nothing.
 use mathlib.Core.Path.{◌≡◌, refl, sym, ap, ◌∙◌}
-use mathlib.Core.Bool.{Bool, true, false, cond, ◌&&◌, true≢false}
+use mathlib.Core.Bool.{Bool, true, false, cond}
 use Prim.Native.Nat.{ℕ, suc, ◌+◌, ◌-◌, ◌*◌, ◌^◌, ◌≤◌, ◌<◌}
 use native.Mathlib.Nat.{mul-one, mul_comm}
 use native.Mathlib.Omega.{arith}
-use borrow.Author.Tests.{lt-ltb, le-ltb, ltb-true, ltb-false}
+use borrow.Author.Tests.{lt-ltb, le-ltb, ltb-false}
 use lib.Dec.{ltb}
 use lib.IntN.{ℤ, pos, negsuc, nat_abs, ◌+ℤ◌, ◌-ℤ◌, +ℤ_assoc, +ℤ_idr, +ℤ-neg_ℤ_cancel, pos-ne-negsuc}
 use lib.Pow.{pow-add}
 use lib.Signed.{mag}
-use Rattle.std.specs.declared.cmp.Ordering.{Ordering}
-use Rattle.std.specs.Ordering.{is_le, is_lt, int_cmp}
 use mir.Syntax.{w64}
 use mir.Val.{SFits}
 use Rattle.word.specs.Reads.{num, den}
@@ -54,33 +52,6 @@ offset_up i = sub_add (pos i) (pos 63) (pos 307) ∙ difference (i + 307) 63 (om
 
 pub offset_down : (i : ℕ) → 244 ≤ i → negsuc i -ℤ pos 63 +ℤ pos 307 ≡ negsuc (i - 244)
 offset_down i h = sub_add (negsuc i) (pos 63) (pos 307) ∙ +ℤ_assoc (negsuc i) (pos 307) (negsuc 62) ∙ rw (lt-ltb 244 (suc i) (omega (arith, h))) (ap negsuc (omega (arith, h)))
-
--- what the test of the range tells
-abbrev pub is_inside : ℤ → Bool
-is_inside h = is_le (int_cmp (negsuc 254) h) && is_lt (int_cmp h (pos 255))
-
-under : (a b : Bool) → is_lt (cond a Ordering.Less (cond b Ordering.Greater Ordering.Equal)) ≡ a
-under true b = refl
-under false true = refl
-under false false = refl
-
-pub inside_tells : (h : ℤ) → is_inside h ≡ true → mag h ≤ 254
-inside_tells (pos i) t = omega (arith, ltb-true i 255 (sym (under (ltb i 255) (ltb 255 i)) ∙ t))
-inside_tells (negsuc i) t = by (ltb i 254) (ltb 254 i) refl refl t
-  where
-    by : (a b : Bool) → ltb i 254 ≡ a → ltb 254 i ≡ b → is_le (cond a Ordering.Less (cond b Ordering.Greater Ordering.Equal)) && true ≡ true → i ≤ 254
-    by true b p q t = omega (arith, ltb-true i 254 p)
-    by false true p q t = absurd (true≢false (sym t))
-    by false false p q t = ltb-false 254 i q
-
-pub outside_tells : (h : ℤ) → is_inside h ≡ false → 254 < mag h
-outside_tells (pos i) t = omega (arith, ltb-false i 255 (sym (under (ltb i 255) (ltb 255 i)) ∙ t))
-outside_tells (negsuc i) t = by (ltb i 254) (ltb 254 i) refl refl t
-  where
-    by : (a b : Bool) → ltb i 254 ≡ a → ltb 254 i ≡ b → is_le (cond a Ordering.Less (cond b Ordering.Greater Ordering.Equal)) && true ≡ false → 254 < i
-    by true b p q t = absurd (true≢false t)
-    by false true p q t = ltb-true 254 i q
-    by false false p q t = absurd (true≢false t)
 
 -- the machine holds one
 pub small_fits : (h : ℤ) → mag h ≤ 254 → SFits w64 h

@@ -17,7 +17,7 @@ use Rattle.nearest.specs.Offers.{Amounts, IsNearest}
 use Rattle.nearest.specs.Sayings.{SaysOffered}
 
 -- whether h is a characteristic, from -255 to 254
-unfoldable pub IsCharacteristic : ℤ → Option Characteristic → Type 0
+abbrev pub IsCharacteristic : ℤ → Option Characteristic → Type 0
 IsCharacteristic h (Some c) = c.c ≡ h
 IsCharacteristic h None = 254 < mag h
 

@@ -60,7 +60,8 @@ impl Tail {
         self.bits == 0 && self.rest.is_nothing()
     }
 
-    // Low or low + 1, halfway the even one. One test decides, since nobody can foretell which way it goes.
+    // Low or low + 1, halfway the even one. One test decides, since nobody can foretell which way it goes: with `chosen` and the order of the bits beside a half
+    // in its place, writing at 16 bits took 1.5 of the time.
     pub fn chosen(self, low: u64) -> u64
         requires { low + 1 < 2 ^ 63 }
         ensures { ChoosesByCut low self.bits self.rest result }

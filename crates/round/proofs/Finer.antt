@@ -9,7 +9,7 @@ use lib.IntN.{ℤ, pos, negsuc, ◌+ℤ◌, ◌-ℤ◌, +ℤ_comm, -ℤ-+ℤ_can
 use lib.Pow.{pow_pos}
 use Rattle.word.specs.Reads.{num, den, IsSize}
 use Rattle.word.proofs.Units.{raise_size}
-use Rattle.nearest.specs.declared.size.Side.{Side}
+use Rattle.std.specs.declared.cmp.Ordering.{Ordering}
 use Rattle.round.specs.Writes.{IsExact}
 use Rattle.nearest.specs.Parts.{TellsSide}
 use Rattle.round.specs.Jamming.{Between}
@@ -46,7 +46,7 @@ module _ (M : ℕ) (j : ℤ) (z : ℕ) (small : M < 2 ^ 64) (is : IsSize M j z) 
   unfolding TellsSide
   lower t q =
       let unit = num (j +ℤ pos 307) * b in
-      let above : x * 2 ^ suc t < M = lt_of_mul-lt-mul_right unit (subst (λ (y : ℕ). x * 2 ^ suc t * unit < y) (one-mul (a * den (j +ℤ pos 307)) ∙ amount M j is) (finer j (suc t) a b Side.Over 1 x (subst (λ (y : ℤ). x * (num (y +ℤ pos 307) * b) < 1 * (a * den (y +ℤ pos 307))) q (subst (λ (y : ℕ). x * (num (k +ℤ pos 307) * b) < y) (sym (one-mul (a * den (k +ℤ pos 307)))) between.low)))) in
+      let above : x * 2 ^ suc t < M = lt_of_mul-lt-mul_right unit (subst (λ (y : ℕ). x * 2 ^ suc t * unit < y) (one-mul (a * den (j +ℤ pos 307)) ∙ amount M j is) (finer j (suc t) a b Ordering.Greater 1 x (subst (λ (y : ℤ). x * (num (y +ℤ pos 307) * b) < 1 * (a * den (y +ℤ pos 307))) q (subst (λ (y : ℕ). x * (num (k +ℤ pos 307) * b) < y) (sym (one-mul (a * den (k +ℤ pos 307)))) between.low)))) in
       omega (arith, above, small, large, mul-le-mul_left x (pow_pos t), ap (λ (y : ℕ). x * y) (two-pow-succ t))
 
   pub none_there : ⊥
@@ -63,6 +63,6 @@ pub coarser_between : (k : ℤ) (t a b y : ℕ) → y * 2 ^ t * (num (k +ℤ pos
 unfolding TellsSide
 coarser_between k t a b y above under =
     record {
-      low = subst (λ (x : ℕ). y * (num (k +ℤ pos t +ℤ pos 307) * b) < x) (one-mul (a * den (k +ℤ pos t +ℤ pos 307))) (coarser k t a b Side.Over 1 y (omega (arith, above)));
-      high = subst (λ (x : ℕ). x < (y + 1) * (num (k +ℤ pos t +ℤ pos 307) * b)) (one-mul (a * den (k +ℤ pos t +ℤ pos 307))) (coarser k t a b Side.Under 1 (y + 1) (omega (arith, under)));
+      low = subst (λ (x : ℕ). y * (num (k +ℤ pos t +ℤ pos 307) * b) < x) (one-mul (a * den (k +ℤ pos t +ℤ pos 307))) (coarser k t a b Ordering.Greater 1 y (omega (arith, above)));
+      high = subst (λ (x : ℕ). x < (y + 1) * (num (k +ℤ pos t +ℤ pos 307) * b)) (one-mul (a * den (k +ℤ pos t +ℤ pos 307))) (coarser k t a b Ordering.Less 1 (y + 1) (omega (arith, under)));
     }

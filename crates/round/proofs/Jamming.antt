@@ -19,7 +19,7 @@ use Rattle.bounds.proofs.Powers.{pow_sum, not_more}
 use Rattle.word.proofs.Units.{unit_some}
 use Rattle.round.specs.declared.value.Rule.{Rule}
 use Rattle.nearest.specs.declared.size.Rest.{Rest}
-use Rattle.nearest.specs.declared.size.Side.{Side}
+use Rattle.std.specs.declared.cmp.Ordering.{Ordering}
 use Rattle.nearest.specs.Nearest.{HasValue, Nearest}
 use Rattle.round.specs.Writes.{other, IsWritten}
 use Rattle.nearest.specs.Offers.{Amounts, IsOffered, IsNearest}
@@ -63,14 +63,14 @@ module _ (m below i : ℕ) (k : ℤ) (a b : ℕ) (between : Between (m * 2 ^ suc
   under_half l =
       let above : m * 2 ^ suc i * unit < 1 * amount = omega (arith, low) in
       let under : 2 * amount < (2 * m + 1) * 2 ^ suc i * unit = omega (arith, high, half_unit, mul-le-mul_right unit l) in
-      (subst (λ (x : ℕ). m * (num (k +ℤ pos (suc i) +ℤ pos 307) * b) < x) one_coarse (coarser k (suc i) a b Side.Over 1 m above), coarser k (suc i) a b Side.Under 2 (2 * m + 1) under)
+      (subst (λ (x : ℕ). m * (num (k +ℤ pos (suc i) +ℤ pos 307) * b) < x) one_coarse (coarser k (suc i) a b Ordering.Greater 1 m above), coarser k (suc i) a b Ordering.Less 2 (2 * m + 1) under)
 
   over_half : 2 ^ i ≤ below → below < 2 ^ suc i → IsOffered m Rest.OverHalf (k +ℤ pos (suc i)) a b
   unfolding IsOffered Amounts TellsSide unit amount
   over_half l fits =
       let above : (2 * m + 1) * 2 ^ suc i * unit < 2 * amount = omega (arith, low, half_unit, mul-le-mul_right unit l) in
       let under : 1 * amount < (m + 1) * 2 ^ suc i * unit = omega (arith, high, mul-le-mul_right unit fits) in
-      (coarser k (suc i) a b Side.Over 2 (2 * m + 1) above, subst (λ (x : ℕ). x < (m + 1) * (num (k +ℤ pos (suc i) +ℤ pos 307) * b)) one_coarse (coarser k (suc i) a b Side.Under 1 (m + 1) under))
+      (coarser k (suc i) a b Ordering.Greater 2 (2 * m + 1) above, subst (λ (x : ℕ). x < (m + 1) * (num (k +ℤ pos (suc i) +ℤ pos 307) * b)) one_coarse (coarser k (suc i) a b Ordering.Less 1 (m + 1) under))
 
 -- so all have one nearest word
 module _ (n : ℕ) (lo : 2 ≤ n) (hi : n ≤ 64) (i y : ℕ) (k : ℤ) (full : 2 ^ (64 + i) ≤ y) (top : y < 2 ^ (65 + i)) where

@@ -12,7 +12,7 @@ use Rattle.word.specs.Reads.{num, den}
 use Rattle.bounds.proofs.Powers.{pow_sum, not_more, shl_below, shl_out, Log, leading_log}
 use Rattle.word.proofs.Units.{unit_some, lower_by}
 use Rattle.nearest.specs.declared.size.Rest.{Rest}
-use Rattle.nearest.specs.declared.size.Side.{Side}
+use Rattle.std.specs.declared.cmp.Ordering.{Ordering}
 use Rattle.nearest.specs.Offers.{Amounts, IsOffered, IsRest}
 use Rattle.nearest.specs.Parts.{TellsSide}
 use Rattle.round.specs.Offers.{top_bits}
@@ -54,7 +54,7 @@ finer_offer m below rest h a b some fits is offered =
     let k = h -ℤ pos 127 in
     let y = k +ℤ pos 64 +ℤ pos 307 in
     subst (λ (z : ℤ). Amounts m rest (a * den (z +ℤ pos 307)) (num (z +ℤ pos 307) * b)) (lower_by h 63 127 (lit≤ tt))
-    (rest_amounts m below (a * den y) (num y * b) (mul-pos (unit_some y).0 some) fits (mul_comm (a * den y) (2 ^ 64) ∙ coarser k 64 a b Side.Midway (2 ^ 64) (m * 2 ^ 64 + below) (times (m * 2 ^ 64 + below) (a * den (k +ℤ pos 307)) (num (k +ℤ pos 307) * b) offered)) rest is)
+    (rest_amounts m below (a * den y) (num y * b) (mul-pos (unit_some y).0 some) fits (mul_comm (a * den y) (2 ^ 64) ∙ coarser k 64 a b Ordering.Equal (2 ^ 64) (m * 2 ^ 64 + below) (times (m * 2 ^ 64 + below) (a * den (k +ℤ pos 307)) (num (k +ℤ pos 307) * b) offered)) rest is)
   where
     times : (x y z : ℕ) → y ≡ x * z → 2 ^ 64 * y ≡ x * 2 ^ 64 * z
     times x y z q = ap (λ (v : ℕ). 2 ^ 64 * v) q ∙ sym (mul_assoc (2 ^ 64) x z) ∙ ap (λ (v : ℕ). v * z) (mul_comm (2 ^ 64) x)

@@ -11,7 +11,7 @@ use lib.IntN.{ℤ, pos, ◌+ℤ◌}
 use Rattle.word.specs.Reads.{num, den, IsSize}
 use Rattle.round.specs.declared.value.Rule.{Rule}
 use Rattle.nearest.specs.declared.size.Rest.{Rest}
-use Rattle.nearest.specs.declared.size.Side.{Side}
+use Rattle.std.specs.declared.cmp.Ordering.{Ordering}
 use Rattle.nearest.specs.Nearest.{distance, Nearest}
 use Rattle.round.specs.Writes.{IsRounded, zero, other, IsExact, IsWritten}
 use Rattle.nearest.specs.Offers.{IsOffered, Amounts}
@@ -34,11 +34,11 @@ raise_offer m k t =
     (mul_assoc m (num (x +ℤ pos t)) (den x) ∙ ap (λ (y : ℕ). m * y) (cross x t ∙ mul_assoc (2 ^ t) (num x) (den (x +ℤ pos t))) ∙ sym (mul_assoc m (2 ^ t) (num x * den (x +ℤ pos t))))
 
 -- both sides may be multiplied by the same number
-times : (s : Side) (d x y : ℕ) → zero < d → TellsSide s x y → TellsSide s (x * d) (y * d)
+times : (s : Ordering) (d x y : ℕ) → zero < d → TellsSide s x y → TellsSide s (x * d) (y * d)
 unfolding TellsSide
-times Side.Under d x y h t = mul-lt-mul_of_pos_right t h
-times Side.Midway d x y h t = ap (λ (z : ℕ). z * d) t
-times Side.Over d x y h t = mul-lt-mul_of_pos_right t h
+times Ordering.Less d x y h t = mul-lt-mul_of_pos_right t h
+times Ordering.Equal d x y h t = ap (λ (z : ℕ). z * d) t
+times Ordering.Greater d x y h t = mul-lt-mul_of_pos_right t h
 
 -- ---- the units 2^k and 2^(k + t): y of the coarse ones are y * 2^t of the fine ones
 module _ (k : ℤ) (t a b : ℕ) where
@@ -58,14 +58,14 @@ module _ (k : ℤ) (t a b : ℕ) where
   swap c x y = omega arith
 
   -- so c times the size lies on the same side of both
-  pub coarser : (s : Side) (c y : ℕ) → TellsSide s (c * (a * den (k +ℤ pos 307))) (y * 2 ^ t * (num (k +ℤ pos 307) * b)) → TellsSide s (c * (a * den (k +ℤ pos t +ℤ pos 307))) (y * (num (k +ℤ pos t +ℤ pos 307) * b))
+  pub coarser : (s : Ordering) (c y : ℕ) → TellsSide s (c * (a * den (k +ℤ pos 307))) (y * 2 ^ t * (num (k +ℤ pos 307) * b)) → TellsSide s (c * (a * den (k +ℤ pos t +ℤ pos 307))) (y * (num (k +ℤ pos t +ℤ pos 307) * b))
   coarser s c y h =
       let d = den (k +ℤ pos 307) in
       let d' = den (k +ℤ pos t +ℤ pos 307) in
       cancel s d (c * (a * d')) (y * (num (k +ℤ pos t +ℤ pos 307) * b)) (unit_some (k +ℤ pos 307)).1
       (subst₂ (TellsSide s) (swap c d d') (sym (coarse_unit y)) (times s d' (c * (a * d)) (y * 2 ^ t * (num (k +ℤ pos 307) * b)) (unit_some (k +ℤ pos t +ℤ pos 307)).1 h))
 
-  pub finer : (s : Side) (c y : ℕ) → TellsSide s (c * (a * den (k +ℤ pos t +ℤ pos 307))) (y * (num (k +ℤ pos t +ℤ pos 307) * b)) → TellsSide s (c * (a * den (k +ℤ pos 307))) (y * 2 ^ t * (num (k +ℤ pos 307) * b))
+  pub finer : (s : Ordering) (c y : ℕ) → TellsSide s (c * (a * den (k +ℤ pos t +ℤ pos 307))) (y * (num (k +ℤ pos t +ℤ pos 307) * b)) → TellsSide s (c * (a * den (k +ℤ pos 307))) (y * 2 ^ t * (num (k +ℤ pos 307) * b))
   finer s c y h =
       let d = den (k +ℤ pos 307) in
       let d' = den (k +ℤ pos t +ℤ pos 307) in

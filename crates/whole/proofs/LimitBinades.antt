@@ -37,8 +37,8 @@ module _ (ρ h : ℕ) (log : Log ρ (suc h)) (small : h < 64) where
   unfolding IsRaised beginning
   strings =
       let less : suc h - 1 ≡ h = omega arith in
-      binade_of (pos h) (h + 255) (record { bits = beginning ρ h; r = ρ }) refl
-      (subst (λ (c : ℕ). Begins (pos c) (record { bits = beginning ρ h; r = ρ })) less (upper_begins ρ (suc h) log (omega (arith, small))))
+      binade_of (pos h) (h + 255) (beginning ρ h) ρ refl
+      (subst (λ (c : ℕ). Begins (pos c) (beginning ρ h) ρ) less (upper_begins ρ (suc h) log (omega (arith, small))))
 
   pub whole_binade : (K : ℕ) × WholeBinade ρ h K
   whole_binade = (

@@ -35,13 +35,6 @@ module _ (n word : ℕ) (least : 2 ≤ n) (most : n ≤ 64) (short : word < 2 ^ 
 little_at_top : (n word : ℕ) → mag (Takum.c 64 (word * 2 ^ (64 - n))) ≤ 254
 little_at_top n word = characteristic_of_string 64 (word * 2 ^ (64 - n))
 
-pub overflow_cast-cut : goal.overflow_cast-cut
-overflow_cast-cut c =
-    let n = c.args.width.bits in
-    let same = at_top n c.args.word c.args.width.least c.args.width.most c.requires.1 c.string.result c.string.ensures c.cut.result.c c.cut.ensures.characteristic in
-    let small = little_at_top n c.args.word in
-    subst (λ (z : ℤ). SFits w64 z) (sym (to_z-of_z (narrow c.cut.result.c _ same small))) (wide c.cut.result.c _ same small)
-
 pub invariant_of-raised : goal.invariant_of-raised
 invariant_of-raised c =
     let n = c.args.width.bits in

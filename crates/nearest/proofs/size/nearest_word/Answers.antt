@@ -9,17 +9,15 @@ use mir.Facts.{to_z-of_z}
 use Rattle.bounds.specs.Widths.{largest}
 use Rattle.word.proofs.Casts.{not_negative, is_negative, tested}
 use Rattle.nearest.specs.Offers.{IsNearest}
-use Rattle.nearest.specs.Parts.{IsCharacteristic, IsNear}
+use Rattle.nearest.specs.Parts.{IsNear}
 use Rattle.nearest.proofs.Hub.{past_last, before_first}
 use Rattle.nearest.proofs.Sayings.{outside_said}
 use Rattle.nearest.proofs.size.nearest_word.Goals as goal
 
 pub returns-in-Some : goal.returns-in-Some
-unfolding IsCharacteristic
 returns-in-Some c = subst (λ (z : ℤ). IsNear c.args.width.bits z c.args.amount.m c.args.amount.rest c.nearest_inside.result) (c.in-Some.ensures ∙ to_z-of_z c.ranges.h) c.nearest_inside.ensures
 
 pub returns-then-h-lt0 : goal.returns-then-h-lt0
-unfolding IsCharacteristic
 returns-then-h-lt0 c =
     let width = c.args.width in
     let amount = c.args.amount in
@@ -33,7 +31,7 @@ returns-then-h-lt0 c =
     })
 
 pub returns : goal.returns
-unfolding IsCharacteristic largest
+unfolding largest
 returns c =
     let width = c.args.width in
     let amount = c.args.amount in

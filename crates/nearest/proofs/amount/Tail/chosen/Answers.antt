@@ -1,12 +1,8 @@
 -- `Tail::chosen` meets its contract: the margin makes one test of the two. Assumes nothing.
 use mathlib.Core.Path.{subst}
 use Prim.Native.Nat.{ℕ, ◌-◌, ◌^◌, ◌≤◌, ◌<◌}
-use native.Mathlib.Omega.{arith}
-use Rattle.nearest.proofs.Halves.{margin_le, cut_up, cut_down}
+use Rattle.nearest.proofs.Halves.{cut_up, cut_down}
 use Rattle.nearest.proofs.amount.Tail.chosen.Goals as goal
-
-pub overflow_sub-margin : goal.overflow_sub-margin
-overflow_sub-margin c = omega (arith, c.margin.ensures, margin_le c.args.low c.args.self.rest)
 
 pub returns-then-margin-self : goal.returns-then-margin-self
 returns-then-margin-self c = cut_up _ _ _ (subst (λ (x : ℕ). 2 ^ 63 - x < c.args.self.bits) c.margin.ensures c.if-margin-self.true)

@@ -2,11 +2,10 @@
 use mathlib.Core.Path.{◌≡◌, sym, ap, ◌∙◌, subst}
 use Prim.Native.Nat.{ℕ, ◌≤◌}
 use native.Mathlib.Omega.{arith}
-use lib.Dec.{T}
 use lib.IntN.{ℤ, pos, nat_abs, ◌+ℤ◌}
-use lib.Signed.{mag, non_neg}
-use mir.Syntax.{w32, w64}
-use mir.Val.{Fits, SFits, to_z, of_z}
+use lib.Signed.{mag}
+use mir.Syntax.{w64}
+use mir.Val.{SFits, to_z, of_z}
 use mir.Facts.{to_z-of_z}
 use Rattle.nearest.proofs.Exponents.{raise, small_fits}
 use Rattle.nearest.specs.Parts.{IsRaised}
@@ -33,13 +32,6 @@ module _ (h : ℤ) (small : mag h ≤ 254) where
   sum : IsRaised h (nat_abs (to_z w64 (of_z w64 (to_z w64 (of_z w64 h) +ℤ pos 255))))
   unfolding IsRaised e
   sum = (raise h small).1 ∙ ap (λ (z : ℤ). pos (nat_abs z)) (sym is)
-
-pub overflow_add-result : goal.overflow_add-result
-overflow_add-result c = sum_fits c.args.self.c c.args.self.inside
-
-pub overflow_cast-result : goal.overflow_cast-result
-unfolding e
-overflow_cast-result c = subst (λ (z : ℤ). T (non_neg z) × Fits w32 (nat_abs z)) (sym (is c.args.self.c c.args.self.inside)) (tt, record { fits = omega (arith, (raise c.args.self.c c.args.self.inside).2) })
 
 pub returns : goal.returns
 returns c = sum c.args.self.c c.args.self.inside

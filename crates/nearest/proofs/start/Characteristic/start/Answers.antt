@@ -34,9 +34,6 @@ back c x is = ap (λ (x : ℕ). x - 1) is ∙ add-sub_cancel (mag c) 1
 most : (c : ℤ) (x : ℕ) → mag c ≤ 254 → x ≡ mag c + 1 → x ≤ 255
 most c x inside is = omega (arith, is, inside)
 
-pub above-above-requires : goal.above-above-requires
-above-above-requires c = omega (arith, c.size.ensures, c.args.self.inside)
-
 pub returns-then-self-lt0 : goal.returns-then-self-lt0
 returns-then-self-lt0 c =
     let h = c.args.self.c in

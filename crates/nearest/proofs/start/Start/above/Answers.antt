@@ -2,7 +2,7 @@
 use mathlib.Core.Path.{sym, ap, subst}
 use Prim.Native.Nat.{ℕ, zero, ◌+◌, ◌-◌, ◌^◌, ◌≤◌, ◌<◌}
 use native.Mathlib.Omega.{arith}
-use native.Mathlib.Nat.{lt_of_le_of_lt, le_of_suc-le-suc}
+use native.Mathlib.Nat.{lt_of_le_of_lt}
 use lib.Dec.{lit<}
 use lib.Count.{count_leading_zeros}
 use Rattle.bounds.proofs.Powers.{Log, leading_log}
@@ -12,9 +12,6 @@ use Rattle.nearest.proofs.start.Start.above.Goals as goal
 -- the regime that the code computes is the size's logarithm
 log : (size : ℕ) → zero < size → size ≤ 255 → (count_leading_zeros 64 size < 64) × Log (63 - count_leading_zeros 64 size) size
 log size h most = leading_log 64 size h (lt_of_le_of_lt most (lit< tt))
-
-pub overflow_sub-r : goal.overflow_sub-r
-overflow_sub-r c = le_of_suc-le-suc (log _ c.requires.0 c.requires.1).0
 
 pub overflow_add-result-2 : goal.overflow_add-result-2
 overflow_add-result-2 c = let t = log c.args.size c.requires.0 c.requires.1 in

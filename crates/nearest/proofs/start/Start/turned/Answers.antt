@@ -9,9 +9,6 @@ use Rattle.nearest.proofs.start.Start.turned.Goals as goal
 power : (r : ℕ) → r ≤ 7 → 16 * 2 ^ r % 2 ^ 64 ≡ 2 ^ (4 + r)
 power r low = shl_exact {a = 16} 5 r 64 (omega arith) (omega (arith, low)) ∙ pow_sum 4 r (4 + r) refl
 
-pub overflow_sub-result : goal.overflow_sub-result
-overflow_sub-result c = omega (arith, power c.args.self.r c.args.self.seven, c.args.self.room)
-
 pub overflow_sub-result-2 : goal.overflow_sub-result-2
 overflow_sub-result-2 c = omega (arith, power c.args.self.r c.args.self.seven, c.args.self.room)
 

@@ -1,4 +1,4 @@
-// What both sides hand over: the structs of crates/ledusprig/src/handed.rt, and the plain version's answers as such.
+// What both sides hand over: the structs of crates/ledusprig/src/handed/, and the plain version's answers as such.
 use crate::plain::block::Header;
 use crate::plain::column::Moved;
 use crate::plain::reading::{Kind, Reading};

@@ -1,53 +1,25 @@
-// A digest: it takes in one number after another, so that a change in one number always changes it. A sequence is made the same way.
-use bounds::answer::{Answer, Written};
-use bounds::refusal::Refusal;
+// A digest: it takes in one number after another, so that a change in one number always changes it.
+use crate::sequence::{ORIGIN, scramble};
+use crate::taken::Taken;
 
-// D0 of docs/CENSUS.md: the digest that has taken in nothing.
-pub const EMPTY: u64 = 0x9e37_79b9_7f4a_7c15;
-
-// A one-to-one change of a number that spreads each bit over others: the next number of a sequence.
-pub fn scramble(x: u64) -> u64 {
-    let y = x ^ (x << 13);
-    let z = y ^ (y >> 7);
-    z ^ (z << 17)
+#[derive(Clone, Copy)]
+pub struct Digest {
+    state: u64,
 }
 
-// The state that the sequence of a START begins at.
-pub fn sequence(start: u64) -> u64 {
-    std::num::wrapping_add_u64(EMPTY, start)
-}
+impl Digest {
+    // The digest that has taken in nothing.
+    pub const EMPTY: Digest = Digest { state: ORIGIN };
 
-pub fn take(digest: u64, x: u64) -> u64 {
-    scramble(std::num::wrapping_add_u64(digest, x))
-}
-
-// The number of the kind of an answer, and what it says.
-pub fn take_kind(digest: u64, kind: u64, x: u64) -> u64 {
-    take(take(digest, kind), x)
-}
-
-pub fn take_signed(digest: u64, z: i64) -> u64 {
-    if z < 0 {
-        return take_kind(digest, 1, (-1 - z) as u64);
+    pub fn number(self) -> u64 {
+        self.state
     }
-    take_kind(digest, 0, z as u64)
-}
 
-pub fn take_refusal(digest: u64, refusal: Refusal) -> u64 {
-    take_kind(digest, 3, refusal.number() as u64)
-}
-
-pub fn take_answer(digest: u64, answer: Answer) -> u64 {
-    match answer {
-        Answer::Word(word) => take_kind(digest, 0, word),
-        Answer::Refused(refusal) => take_refusal(digest, refusal),
+    pub fn take<T: Taken>(&mut self, x: T) {
+        x.take_into(self);
     }
-}
 
-// A word that was written or moved comes with its saying.
-pub fn take_written(digest: u64, written: Written) -> u64 {
-    match written {
-        Written::Word { word, saying } => take(take_kind(digest, 0, word), saying.number() as u64),
-        Written::Refused(refusal) => take_refusal(digest, refusal),
+    pub(crate) fn take_number(&mut self, x: u64) {
+        self.state = scramble(self.state.wrapping_add(x));
     }
 }

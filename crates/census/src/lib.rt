@@ -1,8 +1,9 @@
-// What the programs of the census share: digests and sequences, the pieces of a line, runs of places, and bits. It serves them alone.
+// What the programs of the census share: digests and sequences, the pieces of a line, runs of places, and the widths. It serves them alone.
 #![tactic(auto)]
 
-pub mod bits;
 pub mod digest;
-pub mod exponent;
 pub mod line;
-pub mod run;
+pub mod runs;
+pub mod sequence;
+pub mod taken;
+pub mod widths;

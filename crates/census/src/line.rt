@@ -1,47 +1,39 @@
-// The pieces of a line: text as it stands, numbers, each after one space, and the end. Most lines are a name, one to three numbers, and a digest.
+// The pieces of a line: text as it stands, numbers and a digest, each of these after one space, and the end.
+use crate::digest::Digest;
+
 // Standard output.
 const STDOUT_FILENO: i32 = 1;
 
-pub fn print_text(text: &[u8]) {
-    io::write_all(STDOUT_FILENO, text);
+// Not by println!: that hands up a failure to write, and these programs go on.
+pub fn print_text(text: &str) {
+    io::write_all(STDOUT_FILENO, text.as_bytes());
 }
 
 pub fn print_number(x: u64) {
-    print_text(b" ");
+    print_text(" ");
     io::print_decimal(STDOUT_FILENO, x);
 }
 
+pub fn print_numbers(numbers: &[u64]) {
+    for x in numbers {
+        print_number(*x);
+    }
+}
+
 pub fn print_end() {
-    print_text(b"\n");
+    print_text("\n");
 }
 
 // A digest is the last of a line.
-pub fn print_digest(digest: u64) {
-    print_text(b" ");
-    io::print_hex(STDOUT_FILENO, digest, 16);
+pub fn print_digest(digest: Digest) {
+    print_text(" ");
+    io::print_hex(STDOUT_FILENO, digest.number(), 16);
     print_end();
 }
 
-pub fn print_of_one(name: &[u8], n: u32, digest: u64) {
+// Most lines are a name, one to three numbers, and a digest.
+pub fn print_line(name: &str, numbers: &[u64], digest: Digest) {
     print_text(name);
-    print_number(n as u64);
-    print_digest(digest);
-}
-
-pub fn print_of_two(name: &[u8], n: u32, x: u32, digest: u64) {
-    print_text(name);
-    print_number(n as u64);
-    print_of_last(x as u64, digest);
-}
-
-pub fn print_of_three(name: &[u8], n: u32, x: u64, y: u64, digest: u64) {
-    print_text(name);
-    print_number(n as u64);
-    print_number(x);
-    print_of_last(y, digest);
-}
-
-fn print_of_last(x: u64, digest: u64) {
-    print_number(x);
+    print_numbers(numbers);
     print_digest(digest);
 }

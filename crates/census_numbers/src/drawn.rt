@@ -1,8 +1,6 @@
 // What drawn numbers of several parts have in common: zeros at their end.
-use census::bits::bounded;
-
 // The number with its lowest t bits set to zero; t is below 64.
 pub(crate) fn without_lowest(x: u64, t: u64) -> u64 {
-    let cut = bounded(t, 63);
+    let cut = t.min(63);
     (x >> cut) << cut
 }

@@ -1,33 +1,40 @@
 // Part 51: the ways out of the words beside i and a half, where rounding to the nearest whole number turns.
-ghost use Rattle.std.specs.Prelude.{◌≤◌};
-
-use crate::around::{Ways, take_both_of_three};
-use crate::ways::word_or;
+use crate::around::{both, four, three};
+use crate::ways::take_out;
+use bounds::good::GoodWidth;
 use bounds::width::Width;
-use census::bits::{bounded, power_of_two};
+use census::digest::Digest;
+use census::line::print_line;
 use round::value::Rule;
 use write::value::Value;
 use write::writing::write;
 
-// Around the word of i and a half, or the nearest one where the width has none.
-pub(crate) fn take_half(digest: u64, n: u32, place: u64) -> u64
-    requires { (2 ≤ n) × (n ≤ 64) }
-{
-    let half = Value {
-        negative: false,
-        m: (whole_at(place) << 1) | 1,
-        k: -1,
-    };
-    let word = word_or(write(Width { bits: n }, Rule::Rounded, half), 0);
-    take_both_of_three(Ways::Out, digest, n, word)
+// The whole numbers i: those up to 63, and then the four around each power of two from 2^6 on.
+pub(crate) fn print_halves(good: GoodWidth) {
+    let mut digest = Digest::EMPTY;
+    for i in 0..64 {
+        take_half(&mut digest, good, i);
+    }
+    for k in 6..56u32 {
+        for i in four(1 << k) {
+            take_half(&mut digest, good, i);
+        }
+    }
+    print_line("half", &[good.bits as u64], digest);
 }
 
-// The whole numbers i: those up to 63, and then the four around each power of two from 2^6 on.
-fn whole_at(place: u64) -> u64 {
-    if place < 64 {
-        return place;
+// Around the word of i and a half, or the nearest one where the width has none. Where the library refuses it, the word 0 has to show it.
+fn take_half(digest: &mut Digest, good: GoodWidth, i: u64) {
+    let width = Width { bits: good.bits };
+    let half = Value {
+        negative: false,
+        m: (i << 1) | 1,
+        k: -1,
+    };
+    let middle = write(width, Rule::Rounded, half).map_or(0, |written| written.word);
+    for x in three(middle) {
+        for word in both(x) {
+            take_out(digest, width, word & good.ones());
+        }
     }
-    let beyond = place - 64;
-    let power = power_of_two(6 + bounded(beyond / 4, 49) as u32);
-    power - 2 + beyond % 4
 }

@@ -1,58 +1,48 @@
-// The ways in and out at a width, taken into a digest: of whole numbers, of binary64 numbers, and of words; and a whole number's shortest width.
-use crate::answers::{take_binary64_out, take_whole_out};
-use crate::numbers::{number_of, whole_of};
-use binary64::taking::take_binary64;
+// The ways in and out at a width, taken into a digest: of whole numbers, of binary64 numbers, and of words.
+use binary64::taking::{Binary64, take_binary64};
 use binary64::writing::write_binary64;
-use bounds::answer::Written;
-use bounds::width::{Made, Width};
-use census::digest::{take_kind, take_refusal, take_written};
+use bounds::width::Width;
+use census::digest::Digest;
 use round::value::Rule;
-use whole::shortest::shortest_width;
+use std::num::{f64_from_bits_with_nan, f64_to_bits_with_nan};
 use whole::taking::{Taking, take_whole};
 use whole::writing::write_whole;
 
 // The ways in of the whole number of 64 bits.
-pub(crate) fn take_whole_in(digest: u64, n: u32, bits: u64) -> u64 {
-    let width = Width { bits: n };
-    let z = whole_of(bits);
-    let after_rounded = take_written(digest, write_whole(width, Rule::Rounded, z));
-    take_written(after_rounded, write_whole(width, Rule::Strict, z))
+pub(crate) fn take_whole_in(digest: &mut Digest, width: Width, bits: u64) {
+    for rule in [Rule::Rounded, Rule::Strict] {
+        digest.take(write_whole(width, rule, bits.cast_signed()));
+    }
 }
 
 // The ways in of the binary64 number of a pattern.
-pub(crate) fn take_binary64_in(digest: u64, n: u32, pattern: u64) -> u64 {
-    let width = Width { bits: n };
-    let x = number_of(pattern);
-    let after_rounded = take_written(digest, write_binary64(width, Rule::Rounded, x));
-    take_written(after_rounded, write_binary64(width, Rule::Strict, x))
+pub(crate) fn take_binary64_in(digest: &mut Digest, width: Width, pattern: u64) {
+    let x = f64_from_bits_with_nan(pattern);
+    for rule in [Rule::Rounded, Rule::Strict] {
+        digest.take(write_binary64(width, rule, x));
+    }
 }
 
 // The ways out of a word.
-pub(crate) fn take_out(digest: u64, n: u32, word: u64) -> u64 {
-    let width = Width { bits: n };
-    let after_nearest = take_whole_out(digest, take_whole(width, Taking::Nearest, word));
-    let after_strict = take_whole_out(after_nearest, take_whole(width, Taking::Strict, word));
-    take_binary64_out(after_strict, take_binary64(width, word))
+pub(crate) fn take_out(digest: &mut Digest, width: Width, word: u64) {
+    for rule in [Taking::Nearest, Taking::Strict] {
+        digest.take(take_whole(width, rule, word));
+    }
+    take_out_as_binary64(digest, width, word);
 }
 
-// The round of the whole number of 64 bits.
-pub(crate) fn take_round(digest: u64, n: u32, bits: u64) -> u64 {
-    let written = write_whole(Width { bits: n }, Rule::Rounded, whole_of(bits));
-    take_out(take_whole_in(digest, n, bits), n, word_or(written, 0))
-}
-
-// The shortest width of a whole number.
-pub(crate) fn take_shortest(digest: u64, z: i64) -> u64 {
-    match shortest_width(z) {
-        Made::Width(width) => take_kind(digest, 0, width.bits as u64),
-        Made::Refused(refusal) => take_refusal(digest, refusal),
+// Unlike other answers a binary64 number out can be none, and still no refusal.
+pub(crate) fn take_out_as_binary64(digest: &mut Digest, width: Width, word: u64) {
+    match take_binary64(width, word) {
+        Binary64::Number(x) => digest.take((0u64, f64_to_bits_with_nan(x))),
+        Binary64::Nar => digest.take(1u64),
+        Binary64::Refused(refusal) => digest.take(refusal),
     }
 }
 
-// The word that was written, or another where the library has refused; what is taken in of it has to show a wrong refusal.
-pub(crate) fn word_or(written: Written, other: u64) -> u64 {
-    match written {
-        Written::Word { word, saying: _ } => word,
-        Written::Refused(_) => other,
-    }
+// The round of the whole number of 64 bits. Where the library has refused it, the ways out of the word 0 follow.
+pub(crate) fn take_round(digest: &mut Digest, width: Width, bits: u64) {
+    take_whole_in(digest, width, bits);
+    let written = write_whole(width, Rule::Rounded, bits.cast_signed());
+    take_out(digest, width, written.map_or(0, |written| written.word));
 }

@@ -1,107 +1,93 @@
-// A sheet block in the first 512 of 520 bytes: its fields, and the block of w and c, drawn from a sequence.
-ghost use Rattle.std.specs.Prelude.{◌^◌, ◌<◌, ◌≤◌};
+// The bytes of a block, and eight more behind them: its fields, its seal, and the block of w and c, drawn from a sequence.
+ghost use Rattle.std.specs.Prelude.{◌+◌, ◌<◌, ◌≤◌, length};
 
-use crate::bytes::{put, seal};
-use census::bits::bounded;
-use census::digest::scramble;
+use crate::layout::Layout;
+use census::sequence::Sequence;
 
-pub(crate) const MARK: u64 = 0x54;
+pub(crate) const MARK: u8 = 0x54;
 
 // The bytes of a block.
 pub(crate) const SIZE: usize = 512;
 
-// A block and the state of the sequence that it was drawn from, after it.
 #[derive(Clone, Copy)]
-pub(crate) struct Drawn {
-    pub(crate) block: [u8; 520],
-    pub(crate) state: u64,
+pub(crate) struct Leaf {
+    pub(crate) bytes: [u8; 520],
 }
 
-// What stands before the words, the first eight bytes. Of the number the low 32 bits remain.
-pub(crate) fn head(mark: u64, width: u64, count: u64, number: u64) -> u64 {
-    mark | (width << 8) | (count << 16) | (number << 32)
-}
-
-// How many words a block width has room for.
-pub(crate) fn full_of(w: u32) -> u32
-    ensures { (62 ≤ result) × (result ≤ 496) }
-{
-    match w {
-        8 => 496,
-        16 => 248,
-        32 => 124,
-        _ => 62,
+impl Leaf {
+    // The block that has a head and no words; it isn't sealed.
+    pub(crate) fn headed(mark: u8, width: u8, count: u16, number: u32) -> Leaf {
+        let mut leaf = Leaf { bytes: [0; 520] };
+        leaf.put(0, &[mark, width]);
+        leaf.put(2, &count.to_le_bytes());
+        leaf.put_number(1, number);
+        leaf
     }
-}
 
-// How many bytes a word of a block width has.
-pub(crate) fn bytes_of(w: u32) -> usize
-    ensures { (1 ≤ result) × (result ≤ 8) }
-{
-    match w {
-        8 => 1,
-        16 => 2,
-        32 => 4,
-        _ => 8,
+    // The block of w and c, and as many words as it has room for.
+    pub(crate) fn draw(w: Layout, count: u16, sequence: &mut Sequence) -> Leaf {
+        let number = sequence.next_low();
+        let mut leaf = Leaf::headed(MARK, w.number() as u8, count, number);
+        let size = w.bytes();
+        let words = leaf.bytes[8..504].chunks_exact_mut(size);
+        for word in words.take(count as usize) {
+            word.copy_from_slice(&sequence.next_number().to_le_bytes()[..size]);
+        }
+        leaf.seal();
+        leaf
     }
-}
 
-// How many words there are where a block says that it has some count of them.
-pub(crate) fn words_of(w: u32, count: u32) -> u32
-    ensures { (result ≤ 496) × (result ≤ count) }
-{
-    let full = full_of(w);
-    if count < full {
-        return count;
+    // The bytes of the block alone.
+    pub(crate) fn block(&self) -> &[u8] {
+        &self.bytes[..SIZE]
     }
-    full
-}
 
-// The first byte after the words.
-pub(crate) fn end_of_words(w: u32, count: u32) -> usize
-    ensures { (8 ≤ result) × (result ≤ 504) }
-{
-    8 + bounded(times(words_of(w, count) as u64, bytes_of(w) as u64), 496) as usize
-}
-
-// The product of two numbers of 32 bits.
-pub(crate) fn times(x: u64, y: u64) -> u64
-    requires { (x < 2 ^ 32) × (y < 2 ^ 32) }
-{
-    x * y
-}
-
-// The block of w and c.
-pub(crate) fn draw_block(w: u32, count: u32, start: u64) -> Drawn {
-    let number = scramble(start);
-    let drawn = draw_words(bytes_of(w), end_of_words(w, count), number);
-    let words = drawn.block;
-    let whole = put(words, 0, 8, head(MARK, w as u64, count as u64, number));
-    Drawn {
-        block: seal(whole),
-        state: drawn.state,
+    pub(crate) fn put(&mut self, at: usize, bytes: &[u8])
+        requires { at + length bytes.now ≤ 520 }
+    {
+        self.bytes[at..at + bytes.len()].copy_from_slice(bytes);
     }
-}
 
-// The words alone, among zero bytes. A word's first byte draws the word.
-fn draw_words(bytes: usize, end: usize, start: u64) -> Drawn
-    requires { (1 ≤ bytes) × (bytes ≤ 8) × (end ≤ 504) }
-{
-    let mut block = [0u8; 520];
-    let mut state = start;
-    let mut at = 8;
-    while at < end {
-        let byte = bounded(at as u64 % bytes as u64, 7);
-        state = drawn_at(byte, state);
-        block[at] = ((state >> (8 * byte)) % 256) as u8;
-        at += 1;
+    // A byte becomes its exclusive or with x.
+    pub(crate) fn flip(&mut self, at: usize, x: u8)
+        requires { at < 520 }
+    {
+        self.bytes[at] ^= x;
     }
-    Drawn { block, state }
-}
 
-fn drawn_at(byte: u64, state: u64) -> u64 {
-    if byte == 0 {
-        return scramble(state);
+    // The number at a place of the 126, and of those that A and B are.
+    pub(crate) fn number_at(&self, place: usize) -> u32
+        requires { place < 128 }
+    {
+        let at = 4 * place;
+        u32::from_le_bytes([
+            self.bytes[at],
+            self.bytes[at + 1],
+            self.bytes[at + 2],
+            self.bytes[at + 3],
+        ])
     }
-    state
+
+    pub(crate) fn put_number(&mut self, place: usize, number: u32)
+        requires { place < 128 }
+    {
+        self.put(4 * place, &number.to_le_bytes());
+    }
+
+    // Stores paper 01's sums A and B of the 126 numbers.
+    pub(crate) fn seal(&mut self) {
+        let mut a = 0u32;
+        let mut b = 0u32;
+        for place in 0..126 {
+            a = a.wrapping_add(self.number_at(place));
+            b = b.wrapping_add(a);
+        }
+        self.put_number(126, a);
+        self.put_number(127, b);
+    }
+
+    pub(crate) fn sealed(mut self) -> Leaf {
+        self.seal();
+        self
+    }
 }

@@ -1,9 +1,13 @@
 // Part 35: a block with any set of faults.
 ghost use Rattle.std.specs.Prelude.{◌≤◌};
 
-use crate::block::{MARK, SIZE, full_of};
-use crate::bytes::{flip, put, seal};
-use crate::reading::take_reading_of;
+use crate::block::{Leaf, MARK, SIZE};
+use crate::layout::Layout;
+use crate::reading::take_reading;
+use crate::row::Room;
+use census::digest::Digest;
+use census::runs::print_runs;
+use census::sequence::Sequence;
 
 const OF_SIZE: u64 = 1;
 
@@ -20,40 +24,48 @@ const OF_FILL: u64 = 32;
 const OF_ROOM: u64 = 64;
 
 // How often a set has a fault of the sum on the page: once or not at all.
-pub(crate) fn times_in(faults: u64, fault: u64) -> u64
+pub(crate) fn times_in(faults: u64, fault: u64) -> u8
     requires { 1 ≤ fault }
     ensures { result ≤ 1 }
 {
-    faults / fault % 2
+    (faults / fault % 2) as u8
 }
 
-// The block, which has half as many words as it has room for, is changed, and read.
-pub(crate) fn take_faults(digest: u64, block: [u8; 520], w: u32, faults: u64) -> u64
-    requires { w ≤ 64 }
-{
-    let spoilt = spoil(block, w, faults);
+// A place is a set of faults.
+pub(crate) fn print_faults(w: Layout) {
+    let mut sequence = Sequence::of(43_000 + w.number());
+    let leaf = Leaf::draw(w, w.full as u16 / 2, &mut sequence);
+    print_runs("fault", &[w.number()], 0..128, 16, |digest, faults| {
+        take_faults(digest, w, leaf, faults);
+    });
+}
+
+// The block, which has half as many words as it has room for, is changed, and read. Only CHECK is made after sealing.
+fn take_faults(digest: &mut Digest, w: Layout, leaf: Leaf, faults: u64) {
+    let mut spoilt = leaf;
+    spoilt.put(
+        0,
+        &[
+            MARK + times_in(faults, OF_MARK),
+            w.number() as u8 + 4 * times_in(faults, OF_WIDTH),
+        ],
+    );
+    let count = count_of(w, times_in(faults, OF_COUNT)) as u16;
+    spoilt.put(2, &count.to_le_bytes());
+    spoilt.put(503, &[times_in(faults, OF_FILL)]);
+    spoilt.seal();
+    spoilt.flip(508, times_in(faults, OF_CHECK));
     let lent = SIZE - times_in(faults, OF_SIZE) as usize;
-    let room = (full_of(w) / 2 + 4) as usize - 5 * times_in(faults, OF_ROOM) as usize;
-    take_reading_of(digest, spoilt, lent, room)
-}
-
-// The faults that are in the bytes. Only CHECK is made after sealing.
-fn spoil(block: [u8; 520], w: u32, faults: u64) -> [u8; 520]
-    requires { w ≤ 64 }
-{
-    let marked = put(block, 0, 1, MARK + times_in(faults, OF_MARK));
-    let wide = put(marked, 1, 1, w as u64 + 4 * times_in(faults, OF_WIDTH));
-    let counted = put(wide, 2, 2, count_of(w, times_in(faults, OF_COUNT)) as u64);
-    let filled = put(counted, 503, 1, times_in(faults, OF_FILL));
-    flip(seal(filled), 508, times_in(faults, OF_CHECK) as u8)
+    let words = w.full / 2 + 4 - 5 * times_in(faults, OF_ROOM) as usize;
+    take_reading(digest, &spoilt.bytes[..lent], Room { words });
 }
 
 // Half as many words as there is room for, or one more than there is.
-pub(crate) fn count_of(w: u32, too_many: u64) -> u32
-    ensures { result ≤ 1000 }
+pub(crate) fn count_of(w: Layout, too_many: u8) -> usize
+    ensures { result ≤ 497 }
 {
     if too_many == 1 {
-        return full_of(w) + 1;
+        return w.full + 1;
     }
-    full_of(w) / 2
+    w.full / 2
 }

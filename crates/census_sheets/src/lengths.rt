@@ -1,118 +1,63 @@
 // Parts 28 and 29: columns of drawn words, of many lengths, between many pairs of widths.
-ghost use Rattle.std.specs.Prelude.{◌≤◌};
+use crate::columns::{Move, draw_exact, draw_free};
+use bounds::good::GoodWidth;
+use census::digest::Digest;
+use census::line::print_line;
+use census::sequence::Sequence;
 
-use crate::columns::{Kind, Shape, draw_column, take_moves_around};
-use crate::planted::take_planted;
-use census::digest::{EMPTY, sequence};
-use census::line::print_of_three;
-
-// What a line tells: part 28, a column as it is drawn, or part 29, an exact column with bits set for some calls.
-#[derive(Clone, Copy)]
-enum Told {
-    Drawn,
-    Planted,
-}
-
+// Part 28: columns as they are drawn, from each width to the other, and from a width to itself.
 pub(crate) fn print_drawn_columns() {
-    print_drawn_pair(2, 64);
-    print_drawn_pair(64, 2);
-    print_drawn_pair(8, 16);
-    print_drawn_pair(16, 8);
-    print_drawn_pair(11, 13);
-    print_drawn_pair(13, 11);
-    print_drawn_pair(16, 32);
-    print_drawn_pair(32, 16);
-    print_drawn_pair(16, 64);
-    print_drawn_pair(64, 16);
-    print_drawn_pair(63, 64);
-    print_drawn_pair(64, 63);
-    print_drawn_pair(16, 16);
-    print_drawn_pair(64, 64);
-}
-
-pub(crate) fn print_planted_columns() {
-    print_planted_pair(8, 16);
-    print_planted_pair(16, 8);
-    print_planted_pair(16, 32);
-    print_planted_pair(32, 16);
-    print_planted_pair(16, 64);
-    print_planted_pair(64, 16);
-    print_planted_pair(63, 62);
-    print_planted_pair(16, 16);
-}
-
-// The empty column is part 28's alone.
-fn print_drawn_pair(from: u32, to: u32)
-    requires { (2 ≤ from) × (from ≤ 64) × (2 ≤ to) × (to ≤ 64) }
-{
-    let start = sequence(10_000 + 100 * from as u64 + to as u64);
-    let state = print_drawn(
-        Shape {
-            from,
-            to,
-            length: 0,
-        },
-        start,
-    );
-    print_lengths(Told::Drawn, from, to, state);
-}
-
-fn print_planted_pair(from: u32, to: u32)
-    requires { (2 ≤ from) × (from ≤ 64) × (2 ≤ to) × (to ≤ 64) }
-{
-    let start = sequence(20_000 + 100 * from as u64 + to as u64);
-    print_lengths(Told::Planted, from, to, start);
-}
-
-fn print_lengths(told: Told, from: u32, to: u32, start: u64)
-    requires { (2 ≤ from) × (from ≤ 64) × (2 ≤ to) × (to ≤ 64) }
-{
-    let mut state = print_line(told, from, to, 1, start);
-    state = print_line(told, from, to, 2, state);
-    state = print_line(told, from, to, 247, state);
-    state = print_line(told, from, to, 248, state);
-    print_line(told, from, to, 1000, state);
-}
-
-// Prints the line of a length, and gives back the state of the sequence after it.
-fn print_line(told: Told, from: u32, to: u32, length: usize, state: u64) -> u64
-    requires { (2 ≤ from) × (from ≤ 64) × (2 ≤ to) × (to ≤ 64) × (1 ≤ length) × (length ≤ 1000) }
-{
-    let shape = Shape { from, to, length };
-    match told {
-        Told::Drawn => print_drawn(shape, state),
-        Told::Planted => print_planted(shape, state),
+    for (a, b) in [(2, 64), (8, 16), (11, 13), (16, 32), (16, 64), (63, 64)] {
+        let a = GoodWidth { bits: a };
+        let b = GoodWidth { bits: b };
+        print_drawn(a, b);
+        print_drawn(b, a);
+    }
+    for bits in [16, 64] {
+        print_drawn(GoodWidth { bits }, GoodWidth { bits });
     }
 }
 
-fn print_drawn(shape: Shape, state: u64) -> u64
-    requires { (2 ≤ shape.from) × (shape.from ≤ 64) × (2 ≤ shape.to) × (shape.to ≤ 64) × (shape.length ≤ 1000) }
-{
-    let exact = draw_column(Kind::Exact, shape, state);
-    let exact_column = exact.column;
-    let after_exact = take_moves_around(EMPTY, &exact_column, shape);
-    let free = draw_column(Kind::Free, shape, exact.state);
-    let free_column = free.column;
-    let after_free = take_moves_around(after_exact, &free_column, shape);
-    print_of_shape(b"column", shape, after_free);
-    free.state
+fn print_drawn(from: GoodWidth, to: GoodWidth) {
+    let (a, b) = (from.bits as u64, to.bits as u64);
+    let mut sequence = Sequence::of(10_000 + 100 * a + b);
+    let mut words = [0; 1000];
+    for length in [0, 1, 2, 247, 248, 1000] {
+        let column = &mut words[..length];
+        let mut digest = Digest::EMPTY;
+        draw_exact(column, from, to, &mut sequence);
+        Move::between(from, to, column).take_around(&mut digest);
+        draw_free(column, from, &mut sequence);
+        Move::between(from, to, column).take_around(&mut digest);
+        print_line("column", &[a, b, length as u64], digest);
+    }
 }
 
-fn print_planted(shape: Shape, state: u64) -> u64
-    requires { (2 ≤ shape.from) × (shape.from ≤ 64) × (2 ≤ shape.to) × (shape.to ≤ 64) × (1 ≤ shape.length) × (shape.length ≤ 1000) }
-{
-    let drawn = draw_column(Kind::Exact, shape, state);
-    let column = drawn.column;
-    print_of_shape(b"planted", shape, take_planted(EMPTY, &column, shape));
-    drawn.state
+// Part 29: exact columns, with bits set for some calls. The empty column is part 28's alone.
+pub(crate) fn print_planted_columns() {
+    for (from, to) in [
+        (8, 16),
+        (16, 8),
+        (16, 32),
+        (32, 16),
+        (16, 64),
+        (64, 16),
+        (63, 62),
+        (16, 16),
+    ] {
+        print_planted(GoodWidth { bits: from }, GoodWidth { bits: to });
+    }
 }
 
-fn print_of_shape(name: &[u8], shape: Shape, digest: u64) {
-    print_of_three(
-        name,
-        shape.from,
-        shape.to as u64,
-        shape.length as u64,
-        digest,
-    );
+fn print_planted(from: GoodWidth, to: GoodWidth) {
+    let (a, b) = (from.bits as u64, to.bits as u64);
+    let mut sequence = Sequence::of(20_000 + 100 * a + b);
+    let mut words = [0; 1000];
+    for length in [1, 2, 247, 248, 1000] {
+        let column = &mut words[..length];
+        let mut digest = Digest::EMPTY;
+        draw_exact(column, from, to, &mut sequence);
+        Move::between(from, to, column).take_planted(&mut digest);
+        print_line("planted", &[a, b, length as u64], digest);
+    }
 }

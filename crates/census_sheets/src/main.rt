@@ -1,70 +1,74 @@
 // The census of sheets: the lines of columns and blocks that docs/CENSUS.md fixes and an independent program prints too.
 #![tactic(auto)]
 
+mod again;
 mod block;
-mod buffer;
-mod bytes;
 mod changed;
-mod changes;
 mod columns;
-mod contents;
 mod counts;
 mod faults;
+mod heads;
+mod layout;
 mod lengths;
-mod numbered;
 mod pairs;
-mod parts;
 mod planted;
 mod reading;
 mod row;
-mod runs;
 mod strayed;
+mod sums;
 mod uncolumned;
+mod unwritten;
 mod writing;
 mod written;
 
-use crate::changes::Change;
+use crate::again::print_again;
+use crate::changed::{print_bytes, print_numbers, print_sizes};
+use crate::counts::{print_blocks, print_fills};
+use crate::faults::print_faults;
+use crate::heads::{print_marks, print_width_bytes};
+use crate::layout::at_block_widths;
 use crate::lengths::{print_drawn_columns, print_planted_columns};
-use crate::parts::{print_pairs_everywhere, print_part};
-use crate::runs::print_one_line;
-use crate::uncolumned::print_bad_widths;
+use crate::pairs::print_pairs;
+use crate::strayed::print_strayed;
+use crate::sums::print_sums;
+use crate::uncolumned::take_uncolumned;
+use crate::unwritten::{print_unwritten, print_written_numbers, print_written_widths};
+use crate::written::print_written;
+use census::widths::{at_every_width, print_bad_widths};
 
 fn main() {
     print_columns();
-    print_blocks();
-    print_written_blocks();
+    print_blocks_read();
+    print_blocks_written();
 }
 
 // Parts 28 to 31.
 fn print_columns() {
     print_drawn_columns();
     print_planted_columns();
-    print_bad_widths(b"uncolumned");
-    print_pairs_everywhere(b"pairs");
+    print_bad_widths("uncolumned", take_uncolumned);
+    at_every_width(print_pairs);
 }
 
 // Parts 32 to 40.
-fn print_blocks() {
-    print_part(b"block", 32);
-    print_part(b"byte", 33);
-    print_part(b"sums", 34);
-    print_part(b"fault", 35);
-    print_one_line(b"widthbyte", Change::WidthByte, 1);
-    print_one_line(b"widthbyte", Change::WidthByte, 63);
-    print_one_line(b"mark", Change::Mark, 16);
-    print_part(b"fill", 38);
-    print_part(b"size", 39);
-    print_part(b"number", 40);
+fn print_blocks_read() {
+    at_block_widths(print_blocks);
+    at_block_widths(print_bytes);
+    at_block_widths(print_sums);
+    at_block_widths(print_faults);
+    print_width_bytes();
+    print_marks();
+    at_block_widths(print_fills);
+    at_block_widths(print_sizes);
+    at_block_widths(print_numbers);
 }
 
 // Parts 45 to 50.
-fn print_written_blocks() {
-    print_part(b"written", 45);
-    print_part(b"strayed", 46);
-    print_part(b"unwritten", 47);
-    print_one_line(b"writtenwidth", Change::WrittenWidth, 0);
-    print_one_line(b"writtenwidth", Change::WrittenWidth, 1);
-    print_one_line(b"writtenwidth", Change::WrittenWidth, 63);
-    print_part(b"writtennumber", 49);
-    print_part(b"again", 50);
+fn print_blocks_written() {
+    at_block_widths(print_written);
+    at_block_widths(print_strayed);
+    at_block_widths(print_unwritten);
+    print_written_widths();
+    at_block_widths(print_written_numbers);
+    at_block_widths(print_again);
 }

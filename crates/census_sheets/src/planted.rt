@@ -1,90 +1,69 @@
-// Bits set in a column for some calls: a stray one, and one that makes a word's move inexact.
-ghost use Rattle.std.specs.Prelude.{◌<◌, ◌≤◌};
+// Bits set in words for some calls: a stray one, and one that makes a word's move inexact.
+ghost use Rattle.std.specs.Prelude.{◌≤◌, length};
 
-use crate::columns::{Shape, take_move};
-use census::bits::power_of_two;
+use crate::columns::Move;
+use crate::row::Room;
+use bounds::width::Width;
+use census::digest::Digest;
 use round::value::Rule;
 
 // The bit of INEXACT.
 const LOWEST: u64 = 1;
 
-// The 21 ways to set bits at the first place, the middle one and the last one.
-pub(crate) fn take_planted(start: u64, column: &[u64; 1000], shape: Shape) -> u64
-    requires { (1 ≤ shape.length) × (shape.length ≤ 1000) }
-{
-    let middle = shape.length / 2;
-    let last = shape.length - 1;
-    let mut digest = take_at_one(start, column, shape, 0);
-    digest = take_at_one(digest, column, shape, middle);
-    digest = take_at_one(digest, column, shape, last);
-    digest = take_at_two(digest, column, shape, 0, middle);
-    digest = take_at_two(digest, column, shape, 0, last);
-    take_at_two(digest, column, shape, middle, last)
-}
+impl Move<'_> {
+    // The 21 ways to set bits at the first place, the middle one and the last one, and at each two of them.
+    pub(crate) fn take_planted(self, digest: &mut Digest) {
+        let stray = stray_bit(self.from);
+        let middle = self.column.len() / 2;
+        let last = self.column.len().saturating_sub(1);
+        for p in [0, middle, last] {
+            for bits in [stray, LOWEST, stray | LOWEST] {
+                self.take_way(digest, &[(p, bits)]);
+            }
+        }
+        for (p, q) in [(0, middle), (0, last), (middle, last)] {
+            for (bits_at_p, bits_at_q) in [
+                (stray, stray),
+                (stray, LOWEST),
+                (LOWEST, stray),
+                (LOWEST, LOWEST),
+            ] {
+                self.take_way(digest, &[(p, bits_at_p), (q, bits_at_q)]);
+            }
+        }
+    }
 
-fn take_at_one(start: u64, column: &[u64; 1000], shape: Shape, p: usize) -> u64
-    requires { (1 ≤ shape.length) × (shape.length ≤ 1000) × (p < 1000) }
-{
-    let stray = stray_bit(shape.from);
-    let mut digest = take_way(start, column, shape, p, stray, p, 0);
-    digest = take_way(digest, column, shape, p, LOWEST, p, 0);
-    take_way(digest, column, shape, p, stray, p, LOWEST)
-}
-
-fn take_at_two(start: u64, column: &[u64; 1000], shape: Shape, p: usize, q: usize) -> u64
-    requires { (1 ≤ shape.length) × (shape.length ≤ 1000) × (p < 1000) × (q < 1000) }
-{
-    let stray = stray_bit(shape.from);
-    let mut digest = take_way(start, column, shape, p, stray, q, stray);
-    digest = take_way(digest, column, shape, p, stray, q, LOWEST);
-    digest = take_way(digest, column, shape, p, LOWEST, q, stray);
-    take_way(digest, column, shape, p, LOWEST, q, LOWEST)
+    // The three calls of a way.
+    fn take_way(self, digest: &mut Digest, sets: &[(usize, u64)]) {
+        let words = self.column.len();
+        let planted = plant(self.column, sets);
+        let moving = Move {
+            from: self.from,
+            to: self.to,
+            column: &planted[..words],
+        };
+        moving.take(digest, Rule::Rounded, Room { words });
+        for words in [words + 8, words.saturating_sub(1)] {
+            moving.take(digest, Rule::Strict, Room { words });
+        }
+    }
 }
 
 // The bit worth 2^a. At width 64 there is none.
-pub(crate) fn stray_bit(from: u32) -> u64 {
-    if from < 64 {
-        return power_of_two(from);
+pub(crate) fn stray_bit(width: Width) -> u64 {
+    1u64.unbounded_shl(width.bits)
+}
+
+// A copy of the words, with bits set at places of it, which can be the same place.
+pub(crate) fn plant(words: &[u64], sets: &[(usize, u64)]) -> [u64; 1000]
+    requires { length words.now ≤ 1000 }
+{
+    let mut planted = [0; 1000];
+    planted[..words.len()].copy_from_slice(words);
+    for (place, bits) in sets {
+        if let Some(word) = planted.get_mut(*place) {
+            *word |= *bits;
+        }
     }
-    0
-}
-
-// The three calls, with bits set at p and at q, which can be the same place.
-fn take_way(
-    digest: u64,
-    column: &[u64; 1000],
-    shape: Shape,
-    p: usize,
-    bits_at_p: u64,
-    q: usize,
-    bits_at_q: u64,
-) -> u64
-    requires { (1 ≤ shape.length) × (shape.length ≤ 1000) × (p < 1000) × (q < 1000) }
-{
-    let planted = plant(column, p, bits_at_p, q, bits_at_q);
-    take_three_moves(digest, &planted, shape)
-}
-
-// The column with bits set at p and at q.
-pub(crate) fn plant(
-    column: &[u64; 1000],
-    p: usize,
-    bits_at_p: u64,
-    q: usize,
-    bits_at_q: u64,
-) -> [u64; 1000]
-    requires { (p < 1000) × (q < 1000) }
-{
-    let mut planted = *column;
-    planted[p] = planted[p] | bits_at_p;
-    planted[q] = planted[q] | bits_at_q;
     planted
-}
-
-fn take_three_moves(digest: u64, column: &[u64; 1000], shape: Shape) -> u64
-    requires { (1 ≤ shape.length) × (shape.length ≤ 1000) }
-{
-    let after_rounded = take_move(digest, Rule::Rounded, column, shape, shape.length);
-    let after_strict = take_move(after_rounded, Rule::Strict, column, shape, shape.length + 8);
-    take_move(after_strict, Rule::Strict, column, shape, shape.length - 1)
 }

@@ -1,41 +1,35 @@
-// The row of a call: sentinels before it, of which the inner ones are lent as results, and all taken in after it.
-ghost use Rattle.std.specs.Prelude.{◌≡◌, ◌≤◌, length};
-
-use bounds::refusal::Refusal;
-use census::bits::ALL_BITS;
-use census::digest::{take, take_kind};
-
-// The most numbers that a row has.
-const LONGEST: usize = 1024;
+// The row of a call: sentinels before it, of which the inner ones are lent as results or as a buffer, and all taken in after it.
+ghost use Rattle.std.specs.Prelude.{◌≤◌};
 
 // How many sentinels lie before the results, and how many after them.
 pub(crate) const BESIDE: usize = 8;
 
-pub(crate) fn fill_row(row: &mut [u64; 1024])
-    requires { length row.old ≡ 1024 }
-    ensures { length row.new ≡ 1024 }
-{
-    let mut i = 0;
-    while i < LONGEST {
-        row[i] = ALL_BITS - i as u64;
-        i += 1;
-    }
+// Rows are arrays, since no program here asks for memory. They are as long as the longest ones that a part needs.
+pub(crate) fn number_row() -> [u64; 1024] {
+    std::array::from_fn(|i| u64::MAX - i as u64)
 }
 
-pub(crate) fn take_row(start: u64, row: &[u64; 1024], count: usize) -> u64
-    requires { count ≤ 1024 }
-{
-    let mut digest = start;
-    let mut i = 0;
-    while i < count {
-        digest = take(digest, row[i]);
-        i += 1;
-    }
-    digest
+pub(crate) fn byte_row() -> [u8; 536] {
+    std::array::from_fn(|i| ((u64::MAX - i as u64) % 256) as u8)
 }
 
-// The answer of a call that refuses the word at a position.
-pub(crate) fn take_refusal_at(digest: u64, position: usize, refusal: Refusal) -> u64 {
-    let numbered = take_kind(digest, 4, refusal.number() as u64);
-    take(numbered, position as u64)
+// How many words a result slice has.
+#[derive(Clone, Copy)]
+pub(crate) struct Room {
+    pub(crate) words: usize,
+    pub(crate) ghost fits: { words ≤ 1008 },
+}
+
+// Each of the rooms around a number of words.
+pub(crate) fn at_rooms_around<F: FnMut(Room)>(words: usize, mut call: F)
+    requires within { words ≤ 1000 }
+    requires calls { F.IsAlwaysCallable call }
+{
+    call(Room { words: 0 });
+    if 0 < words {
+        call(Room { words: words - 1 });
+    }
+    for words in [words, words + 1, words + 8] {
+        call(Room { words });
+    }
 }

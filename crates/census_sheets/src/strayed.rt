@@ -1,43 +1,58 @@
-// The 12 ways of part 46 to set bits of a content's words for some calls.
-ghost use Rattle.std.specs.Prelude.{◌<◌, ◌≤◌};
+// Part 46: contents of each count, drawn from a sequence and written with stray bits.
+ghost use Rattle.std.specs.Prelude.{◌≤◌, length};
 
-use crate::block::SIZE;
+use crate::layout::Layout;
 use crate::planted::{plant, stray_bit};
-use crate::writing::{Content, take_writing};
-use census::bits::TOP_BIT;
-use census::digest::EMPTY;
+use crate::writing::{Content, draw_content};
+use census::digest::Digest;
+use census::line::print_line;
+use census::sequence::Sequence;
+use census::widths::TOP_BIT;
 
-// At the first place, the middle one and the last one, and at each two of them.
-pub(crate) fn take_strayed(content: Content, words: &[u64; 1000]) -> u64
-    requires { (1 ≤ content.count) × (content.count ≤ 1000) }
-{
-    let low = stray_bit(content.width);
-    let middle = content.count / 2;
-    let last = content.count - 1;
-    let mut digest = take_ways(EMPTY, content, words, 0, 0, 0, 0);
-    digest = take_ways(digest, content, words, middle, middle, 0, 0);
-    digest = take_ways(digest, content, words, last, last, 0, 0);
-    digest = take_ways(digest, content, words, 0, middle, TOP_BIT, low);
-    digest = take_ways(digest, content, words, 0, last, TOP_BIT, low);
-    take_ways(digest, content, words, middle, last, TOP_BIT, low)
+pub(crate) fn print_strayed(w: Layout) {
+    let mut sequence = Sequence::of(48_000 + w.number());
+    for count in [1, 2, w.full / 2, w.full] {
+        let mut words = [0; 1000];
+        let number = draw_content(&mut words[..count], w, &mut sequence);
+        let content = Content {
+            width: w.plain(),
+            number,
+            words: &words[..count],
+        };
+        let mut digest = Digest::EMPTY;
+        take_strayed(&mut digest, content);
+        print_line("strayed", &[w.number(), count as u64], digest);
+    }
 }
 
-// LOW at p and bits at q that go with it, then HIGH at p and those that go with that.
-fn take_ways(
-    digest: u64,
-    content: Content,
-    words: &[u64; 1000],
-    p: usize,
-    q: usize,
-    with_low: u64,
-    with_high: u64,
-) -> u64
-    requires { (content.count ≤ 1000) × (p < 1000) × (q < 1000) }
+// The 12 ways to set bits at the first place, the middle one and the last one, and at each two of them.
+fn take_strayed(digest: &mut Digest, content: Content)
+    requires { (1 ≤ length content.words.now) × (length content.words.now ≤ 1000) }
 {
-    let lows = plant(words, p, stray_bit(content.width), q, with_low);
-    let highs = plant(words, p, TOP_BIT, q, with_high);
-    let mut after = take_writing(digest, content, &lows, SIZE);
-    after = take_writing(after, content, &lows, 511);
-    after = take_writing(after, content, &highs, SIZE);
-    take_writing(after, content, &highs, 511)
+    let low = stray_bit(content.width);
+    let middle = content.words.len() / 2;
+    let last = content.words.len() - 1;
+    for p in [0, middle, last] {
+        for bits in [low, TOP_BIT] {
+            take_way(digest, content, &[(p, bits)]);
+        }
+    }
+    for (p, q) in [(0, middle), (0, last), (middle, last)] {
+        for (bits_at_p, bits_at_q) in [(low, TOP_BIT), (TOP_BIT, low)] {
+            take_way(digest, content, &[(p, bits_at_p), (q, bits_at_q)]);
+        }
+    }
+}
+
+fn take_way(digest: &mut Digest, content: Content, sets: &[(usize, u64)])
+    requires { length content.words.now ≤ 1000 }
+{
+    let words = plant(content.words, sets);
+    let strayed = Content {
+        words: &words[..content.words.len()],
+        ..content
+    };
+    for size in [512, 511] {
+        strayed.take(digest, size);
+    }
 }

@@ -1,59 +1,38 @@
 // Writing a block with a buffer of some length.
-ghost use Rattle.std.specs.Prelude.{◌≤◌, length};
+ghost use Rattle.std.specs.Prelude.{◌≤◌};
 
-use crate::buffer::{sentinels, take_bytes};
-use crate::row::{BESIDE, take_refusal_at};
+use crate::columns::draw_free;
+use crate::layout::Layout;
+use crate::row::{BESIDE, byte_row};
 use bounds::width::Width;
-use census::digest::{take, take_refusal};
-use sheet::writing::{Writing, write_block};
+use census::digest::Digest;
+use census::sequence::Sequence;
+use sheet::writing::write_block;
 
-// What is written: a width, a number, and how many of the words that are handed over with it.
+// What is written: a width, a number and words.
 #[derive(Clone, Copy)]
-pub(crate) struct Content {
-    pub(crate) width: u32,
+pub(crate) struct Content<'a> {
+    pub(crate) width: Width,
     pub(crate) number: u32,
-    pub(crate) count: usize,
+    pub(crate) words: &'a [u64],
 }
 
-// The digest after a call, and the row as the call has left it.
-#[derive(Clone, Copy)]
-pub(crate) struct Written {
-    pub(crate) digest: u64,
-    pub(crate) row: [u8; 536],
+// Draws the words of a content, and gives back its number, which is drawn before them.
+pub(crate) fn draw_content(words: &mut [u64], w: Layout, sequence: &mut Sequence) -> u32 {
+    let number = sequence.next_low();
+    draw_free(words, w.width, sequence);
+    number
 }
 
-pub(crate) fn take_writing(digest: u64, content: Content, words: &[u64; 1000], size: usize) -> u64
-    requires { (content.count ≤ 1000) × (size ≤ 520) }
-{
-    let written = write_lent(digest, content, words, size);
-    written.digest
-}
-
-pub(crate) fn write_lent(digest: u64, content: Content, words: &[u64], size: usize) -> Written
-    requires { (content.count ≤ length words.now) × (size ≤ 520) }
-{
-    let mut row = sentinels();
-    let count = content.count;
-    let end = BESIDE + size;
-    let writing = write_block(
-        Width {
-            bits: content.width,
-        },
-        content.number,
-        &words[..count],
-        &mut row[BESIDE..end],
-    );
-    let after_answer = take_answer(digest, writing);
-    Written {
-        digest: take_bytes(after_answer, &row, end + BESIDE),
-        row,
-    }
-}
-
-fn take_answer(digest: u64, writing: Writing) -> u64 {
-    match writing {
-        Writing::Written => take(digest, 0),
-        Writing::Refused(refusal) => take_refusal(digest, refusal),
-        Writing::RefusedAt { position, refusal } => take_refusal_at(digest, position, refusal),
+impl Content<'_> {
+    // Gives back the row as the call has left it, the buffer in its middle.
+    pub(crate) fn take(self, digest: &mut Digest, size: usize) -> [u8; 536]
+        requires { size ≤ 520 }
+    {
+        let mut row = byte_row();
+        let buffer = &mut row[BESIDE..BESIDE + size];
+        digest.take(write_block(self.width, self.number, self.words, buffer));
+        digest.take(&row[..size + 2 * BESIDE]);
+        row
     }
 }

@@ -1,26 +1,43 @@
 // The facts of words at a width, taken into a digest.
-ghost use Rattle.std.specs.Prelude.{◌≤◌};
-
-use crate::answers::{take_comparison, take_reading};
+use bounds::good::GoodWidth;
+use bounds::refusal::Refusal;
 use bounds::width::Width;
-use census::bits::low_bits;
-use census::digest::take_answer;
+use census::digest::Digest;
 use order::order::{compare, negate};
-use word::reading::read;
+use word::reading::{Kind, Reading, read};
 
-// The facts of the words a and b at the width n.
-pub(crate) fn take_facts(digest: u64, n: u32, a: u64, b: u64) -> u64
-    requires { (2 ≤ n) × (n ≤ 64) }
-{
-    let width = Width { bits: n };
-    let neighbour = low_bits(std::num::wrapping_add_u64(a, 1), n);
-    let after_itself = take_itself(digest, width, a);
-    let after_neighbour = take_comparison(after_itself, compare(width, a, neighbour));
-    take_comparison(after_neighbour, compare(width, a, b))
+// The facts of the words a and b.
+pub(crate) fn take_facts(digest: &mut Digest, good: GoodWidth, a: u64, b: u64) {
+    let width = Width { bits: good.bits };
+    take_itself(digest, width, a);
+    digest.take(compare(width, a, a.wrapping_add(1) & good.ones()));
+    digest.take(compare(width, a, b));
 }
 
 // What a word is by itself: its reading and its negation.
-pub(crate) fn take_itself(digest: u64, width: Width, word: u64) -> u64 {
-    let after_reading = take_reading(digest, read(width, word));
-    take_answer(after_reading, negate(width, word))
+pub(crate) fn take_itself(digest: &mut Digest, width: Width, word: u64) {
+    take_reading(digest, read(width, word));
+    digest.take(negate(width, word));
+}
+
+// Unlike other answers a reading has kinds of its own. Its own fraction bits come last.
+fn take_reading(digest: &mut Digest, answer: Result<Reading, Refusal>) {
+    match answer {
+        Ok(Reading { kind, own }) => {
+            take_kind(digest, kind);
+            digest.take(own);
+        }
+        Err(refusal) => digest.take(refusal),
+    }
+}
+
+fn take_kind(digest: &mut Digest, kind: Kind) {
+    match kind {
+        Kind::Zero => digest.take(0u64),
+        Kind::Nar => digest.take(1u64),
+        Kind::Number { negative, h, m, p } => {
+            digest.take((2u64, negative as u64));
+            digest.take((h as i64, m, p));
+        }
+    }
 }

@@ -1,88 +1,77 @@
 // The census of words: the lines of reading, writing and moving that docs/CENSUS.md fixes and an independent program prints too.
 #![tactic(auto)]
 
-mod answers;
 mod draws;
-mod edges;
 mod ends;
 mod facts;
 mod farther;
+mod long;
 mod longs;
 mod midpoints;
 mod midways;
 mod moves;
-mod offers;
-mod parts;
 mod past;
-mod places;
 mod refused;
-mod runs;
-mod subjects;
-mod unmoved;
-mod unread;
+mod size;
 mod ways;
 mod widths;
 mod words;
 mod writings;
 
-use crate::parts::{Part, print_at_all_widths, print_everywhere, print_part};
-use crate::refused::{Asked, print_bad_widths};
-use crate::subjects::Subject;
+use crate::draws::print_draws;
+use crate::ends::print_ends;
+use crate::farther::print_farther;
+use crate::longs::print_longs;
+use crate::midpoints::print_midpoints;
+use crate::midways::{print_drawn_midways, print_midways};
+use crate::moves::print_moves;
+use crate::past::print_past;
+use crate::refused::{
+    print_strays, take_facts_of_stray, take_moves_of_stray, take_unmoved, take_unread,
+};
+use crate::ways::{print_drawn_ways, print_ways};
+use crate::widths::print_width;
+use crate::words::{print_edge, print_words};
 use bounds::width::Width;
-use census::run::WIDEST_WHOLE;
+use census::widths::{WIDEST_WHOLE, at_every_width, at_widths, print_bad_widths};
 
 fn main() {
     print_readings();
     print_writings();
     print_long_values();
-    print_ways();
+    print_laws();
 }
 
 // Parts 1 to 6.
 fn print_readings() {
-    print_everywhere(b"width", Part::Widths);
-    print_everywhere(b"word", Part::Runs(Subject::Word));
-    print_everywhere(b"edge", Part::Line(Subject::Edge));
-    print_bad_widths(b"refused", Asked::Reading);
-    print_everywhere(b"stray", Part::Strays(Asked::Reading));
+    at_every_width(print_width);
+    at_every_width(print_words);
+    at_every_width(print_edge);
+    print_bad_widths("refused", take_unread);
+    at_every_width(|width| print_strays("stray", width, take_facts_of_stray));
 }
 
 // Parts 7 to 12.
 fn print_writings() {
-    print_part(
-        b"write",
-        Part::Runs(Subject::Write),
-        Width::LEAST,
-        WIDEST_WHOLE,
-    );
-    print_everywhere(b"past", Part::Past);
-    print_part(
-        b"move",
-        Part::Runs(Subject::Move),
-        Width::LEAST,
-        WIDEST_WHOLE,
-    );
-    print_everywhere(b"draw", Part::Runs(Subject::Draw));
-    print_bad_widths(b"unmoved", Asked::Moving);
-    print_everywhere(b"strayed", Part::Strays(Asked::Moving));
+    at_widths(Width::LEAST, WIDEST_WHOLE, print_midpoints);
+    at_every_width(print_past);
+    at_widths(Width::LEAST, WIDEST_WHOLE, print_moves);
+    at_every_width(print_draws);
+    print_bad_widths("unmoved", take_unmoved);
+    at_every_width(|width| print_strays("strayed", width, take_moves_of_stray));
 }
 
 // Parts 41 to 44, and then part 52, of short and of long values.
 fn print_long_values() {
-    print_part(b"midway", Part::Runs(Subject::Midway), 3, WIDEST_WHOLE);
-    print_part(
-        b"midway",
-        Part::Runs(Subject::DrawnMidway),
-        17,
-        Width::GREATEST,
-    );
-    print_everywhere(b"long", Part::Runs(Subject::Long));
-    print_at_all_widths(b"farther");
-    print_everywhere(b"ends", Part::Ends);
+    at_widths(3, WIDEST_WHOLE, print_midways);
+    at_widths(17, Width::GREATEST, print_drawn_midways);
+    at_every_width(print_longs);
+    print_farther();
+    at_every_width(print_ends);
 }
 
 // Parts 57 and 58.
-fn print_ways() {
-    print_part(b"way", Part::Runs(Subject::Way), Width::LEAST, WIDEST_WHOLE);
-    print_everywhere(b"drawnway", Part::Runs(Subject::DrawnWay));
+fn print_laws() {
+    at_widths(Width::LEAST, WIDEST_WHOLE, print_ways);
+    at_every_width(print_drawn_ways);
 }

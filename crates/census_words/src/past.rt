@@ -1,29 +1,36 @@
 // Part 8: the writings of no size, of the least and of the greatest significand, at exponents up to the last that there are.
+use crate::size::Size;
 use crate::writings::take_writings;
-use census::bits::ALL_BITS;
-use census::digest::EMPTY;
-use census::line::print_of_one;
+use bounds::good::GoodWidth;
+use bounds::width::Width;
+use census::digest::Digest;
+use census::line::print_line;
 
-pub(crate) fn print_past(name: &[u8], n: u32) {
-    let after_zero = take_exponents(EMPTY, n, 0);
-    let after_one = take_exponents(after_zero, n, 1);
-    print_of_one(name, n, take_exponents(after_one, n, ALL_BITS));
-}
+const EXPONENTS: [i32; 15] = [
+    i32::MIN,
+    -2147483647,
+    -1000,
+    -308,
+    -307,
+    -256,
+    -255,
+    0,
+    191,
+    192,
+    254,
+    255,
+    1000,
+    2147483646,
+    i32::MAX,
+];
 
-fn take_exponents(start: u64, n: u32, m: u64) -> u64 {
-    let mut digest = take_writings(start, n, m, -2147483648);
-    digest = take_writings(digest, n, m, -2147483647);
-    digest = take_writings(digest, n, m, -1000);
-    digest = take_writings(digest, n, m, -308);
-    digest = take_writings(digest, n, m, -307);
-    digest = take_writings(digest, n, m, -256);
-    digest = take_writings(digest, n, m, -255);
-    digest = take_writings(digest, n, m, 0);
-    digest = take_writings(digest, n, m, 191);
-    digest = take_writings(digest, n, m, 192);
-    digest = take_writings(digest, n, m, 254);
-    digest = take_writings(digest, n, m, 255);
-    digest = take_writings(digest, n, m, 1000);
-    digest = take_writings(digest, n, m, 2147483646);
-    take_writings(digest, n, m, 2147483647)
+pub(crate) fn print_past(good: GoodWidth) {
+    let width = Width { bits: good.bits };
+    let mut digest = Digest::EMPTY;
+    for m in [0, 1, u64::MAX] {
+        for k in EXPONENTS {
+            take_writings(&mut digest, width, Size { m, k });
+        }
+    }
+    print_line("past", &[good.bits as u64], digest);
 }

@@ -1,59 +1,64 @@
 // Parts 5, 6, 11 and 12: what is refused, at bad widths and of words with a bit at or above their width.
-ghost use Rattle.std.specs.Prelude.{◌≤◌};
-
-use crate::unmoved::{take_moves_of_stray, take_unmoved};
-use crate::unread::{take_facts_of_stray, take_unread};
+use crate::facts::take_itself;
+use crate::moves::take_moves;
+use crate::size::Size;
+use crate::writings::take_writings;
+use bounds::good::GoodWidth;
 use bounds::width::Width;
-use census::bits::{ALL_BITS, TOP_BIT, power_of_two};
-use census::digest::EMPTY;
-use census::line::print_of_one;
+use census::digest::Digest;
+use census::line::print_line;
+use census::widths::TOP_BIT;
+use order::order::compare;
 
-// What the library is asked of words.
-#[derive(Clone, Copy)]
-pub(crate) enum Asked {
-    Reading,
-    Moving,
-}
-
-pub(crate) fn print_bad_widths(name: &[u8], asked: Asked) {
-    print_bad_width(name, asked, 0);
-    print_bad_width(name, asked, 1);
-    print_bad_width(name, asked, 65);
-    print_bad_width(name, asked, 0x8000_0000);
-    print_bad_width(name, asked, 0xffff_ffff);
-}
-
-fn print_bad_width(name: &[u8], asked: Asked, n: u32) {
-    print_of_one(name, n, take_at_bad_width(asked, n));
-}
-
-fn take_at_bad_width(asked: Asked, n: u32) -> u64 {
-    match asked {
-        Asked::Reading => take_unread(EMPTY, n),
-        Asked::Moving => take_unmoved(EMPTY, n),
+// Part 5.
+pub(crate) fn take_unread(digest: &mut Digest, width: Width) {
+    digest.take(Width::new(width.bits));
+    digest.take(width.largest());
+    digest.take(width.smallest());
+    digest.take(width.nar());
+    digest.take(width.limit());
+    for word in [0, 1, TOP_BIT, u64::MAX] {
+        take_itself(digest, width, word);
+        digest.take(compare(width, word, word));
     }
 }
 
-// At width 64 no word is stray.
-pub(crate) fn print_strays(name: &[u8], asked: Asked, n: u32) {
-    if n < Width::GREATEST {
-        print_of_one(name, n, take_strays(asked, n));
+// Part 11: writing at the bad width; and moving from it, to it, and both.
+pub(crate) fn take_unmoved(digest: &mut Digest, width: Width) {
+    take_writings(digest, width, Size { m: 1, k: 0 });
+    for word in [1, TOP_BIT] {
+        take_moves(digest, width, Width { bits: 16 }, word);
+        take_moves(digest, Width { bits: 16 }, width, word);
+        take_moves(digest, width, width, word);
     }
 }
 
-fn take_strays(asked: Asked, n: u32) -> u64
-    requires { n ≤ 63 }
+// Parts 6 and 12: a line of what is taken in of each stray word. At width 64 there is none.
+pub(crate) fn print_strays<F: Fn(&mut Digest, Width, u64)>(name: &str, width: GoodWidth, take: F)
+    requires { F.IsAlwaysCallable take }
 {
-    let least = power_of_two(n);
-    let after_least = take_stray(asked, EMPTY, n, least);
-    let after_next = take_stray(asked, after_least, n, least + 1);
-    let after_top = take_stray(asked, after_next, n, TOP_BIT);
-    take_stray(asked, after_top, n, ALL_BITS)
+    let bits = width.bits;
+    if bits < Width::GREATEST {
+        let least = 1 << bits;
+        let mut digest = Digest::EMPTY;
+        for word in [least, least + 1, TOP_BIT, u64::MAX] {
+            take(&mut digest, Width { bits }, word);
+        }
+        print_line(name, &[bits as u64], digest);
+    }
 }
 
-fn take_stray(asked: Asked, digest: u64, n: u32, word: u64) -> u64 {
-    match asked {
-        Asked::Reading => take_facts_of_stray(digest, n, word),
-        Asked::Moving => take_moves_of_stray(digest, n, word),
+// Part 6.
+pub(crate) fn take_facts_of_stray(digest: &mut Digest, width: Width, word: u64) {
+    take_itself(digest, width, word);
+    digest.take(compare(width, word, 1));
+    digest.take(compare(width, 1, word));
+    digest.take(compare(width, word, word));
+}
+
+// Part 12: to a good width, to a bad one, and to its own.
+pub(crate) fn take_moves_of_stray(digest: &mut Digest, width: Width, word: u64) {
+    for bits in [64, 65, width.bits] {
+        take_moves(digest, width, Width { bits }, word);
     }
 }

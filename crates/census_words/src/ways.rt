@@ -1,13 +1,13 @@
 // Parts 57 and 58: the ways of words from width to width, of which the laws of moving speak (paper 02, Wish 14).
-ghost use Rattle.std.specs.Prelude.{◌≤◌};
-
-use crate::answers::take_comparison;
 use crate::draws::drawn_width;
-use bounds::answer::{Answer, Written};
+use bounds::answer::Written;
+use bounds::good::GoodWidth;
+use bounds::refusal::Refusal;
 use bounds::width::Width;
-use census::bits::low_bits;
-use census::digest::{scramble, take_written};
-use census::run::{Run, WIDEST_WHOLE};
+use census::digest::Digest;
+use census::runs::print_runs;
+use census::sequence::Sequence;
+use census::widths::{WIDEST_WHOLE, words_of};
 use order::order::{compare, negate};
 use round::value::Rule;
 use write::moving::move_word;
@@ -21,71 +21,58 @@ struct Way {
 }
 
 // Part 57: by every b up to 16, and a c that changes with the word and with b, beside the next word.
-pub(crate) fn take_ways_of(start: u64, a: u32, w: u64) -> u64
-    requires { (2 ≤ a) × (a ≤ 64) }
-{
-    let next = low_bits(std::num::wrapping_add_u64(w, 1), a);
-    let mut digest = start;
-    let mut b = Width::LEAST;
-    while b <= WIDEST_WHOLE {
-        let c = drawn_width(w % 63 + 7 * b as u64);
-        digest = take_way(digest, way_by(a, b, c), w, next);
-        b += 1;
-    }
-    digest
+pub(crate) fn print_ways(good: GoodWidth) {
+    let n = good.bits;
+    print_runs("way", &[n as u64], 0..words_of(good), 256, |digest, w| {
+        let next = w.wrapping_add(1) & good.ones();
+        for b in Width::LEAST..=WIDEST_WHOLE {
+            let way = Way {
+                a: Width { bits: n },
+                b: Width { bits: b },
+                c: drawn_width(w % 63 + 7 * b as u64),
+            };
+            way.take(digest, w, next);
+        }
+    });
 }
 
 // Part 58: a draw takes four numbers from the sequence.
-pub(crate) fn take_drawn_way(run: Run, a: u32) -> Run
-    requires { (2 ≤ a) × (a ≤ 64) }
-{
-    let first = scramble(run.state);
-    let second = scramble(first);
-    let by = scramble(second);
-    let to = scramble(by);
-    let drawn = way_by(a, drawn_width(by), drawn_width(to));
-    Run {
-        state: to,
-        digest: take_way(run.digest, drawn, low_bits(first, a), low_bits(second, a)),
+pub(crate) fn print_drawn_ways(good: GoodWidth) {
+    let n = good.bits as u64;
+    let mut sequence = Sequence::of(60_000 + n);
+    print_runs("drawnway", &[n], 0..1024, 256, |digest, _| {
+        let w = sequence.next_word(good);
+        let x = sequence.next_word(good);
+        let way = Way {
+            a: Width { bits: good.bits },
+            b: drawn_width(sequence.next_number()),
+            c: drawn_width(sequence.next_number()),
+        };
+        way.take(digest, w, x);
+    });
+}
+
+impl Way {
+    // The way of w, beside x. No word is refused here, since the widths are good and the words are cut to them: 0 stands for what doesn't come up.
+    fn take(self, digest: &mut Digest, w: u64, x: u64) {
+        let Way { a, b, c } = self;
+        let there = rounded(a, b, w);
+        let out = rounded(b, c, word_of(there));
+        digest.take(there);
+        digest.take(out);
+        digest.take(rounded(c, b, word_of(out)));
+        digest.take(rounded(a, c, w));
+        digest.take(rounded(a, b, negate(a, w).unwrap_or(0)));
+        digest.take(compare(a, w, x));
+        let beside = rounded(a, b, x);
+        digest.take(compare(b, word_of(there), word_of(beside)));
     }
 }
 
-fn way_by(a: u32, b: u32, c: u32) -> Way {
-    Way {
-        a: Width { bits: a },
-        b: Width { bits: b },
-        c: Width { bits: c },
-    }
-}
-
-// The way of w, beside x.
-fn take_way(start: u64, way: Way, w: u64, x: u64) -> u64 {
-    let there = rounded(way.a, way.b, w);
-    let out = rounded(way.b, way.c, word_of(there));
-    let back = rounded(way.c, way.b, word_of(out));
-    let mut digest = take_written(take_written(take_written(start, there), out), back);
-    digest = take_written(digest, rounded(way.a, way.c, w));
-    digest = take_written(digest, rounded(way.a, way.b, opposite_of(way.a, w)));
-    digest = take_comparison(digest, compare(way.a, w, x));
-    let beside = rounded(way.a, way.b, x);
-    take_comparison(digest, compare(way.b, word_of(there), word_of(beside)))
-}
-
-fn rounded(from: Width, to: Width, word: u64) -> Written {
+fn rounded(from: Width, to: Width, word: u64) -> Result<Written, Refusal> {
     move_word(from, to, Rule::Rounded, word)
 }
 
-// No word is refused here, since the widths are good and the words are cut to them: 0 stands for what doesn't come up.
-fn word_of(written: Written) -> u64 {
-    match written {
-        Written::Word { word, .. } => word,
-        Written::Refused(_) => 0,
-    }
-}
-
-fn opposite_of(width: Width, word: u64) -> u64 {
-    match negate(width, word) {
-        Answer::Word(opposite) => opposite,
-        Answer::Refused(_) => 0,
-    }
+fn word_of(answer: Result<Written, Refusal>) -> u64 {
+    answer.map_or(0, |written| written.word)
 }

@@ -1,30 +1,23 @@
 // Part 1: the numbers that belong to each width.
-use bounds::answer::Answer;
-use bounds::width::{Limit, Width};
+use bounds::good::GoodWidth;
+use bounds::width::Width;
 use census::line::{print_end, print_number, print_text};
 
-pub(crate) fn print_width(name: &[u8], n: u32) {
-    let width = Width { bits: n };
-    print_text(name);
-    print_number(n as u64);
-    print_word(width.largest());
-    print_word(width.smallest());
-    print_word(width.nar());
-    print_limit(width.limit());
-    print_end();
-}
-
 // A width of this part is never refused; where the library refuses it all the same, the line has to show it.
-fn print_word(answer: Answer) {
-    match answer {
-        Answer::Word(word) => print_number(word),
-        Answer::Refused(_) => print_text(b" refused"),
+pub(crate) fn print_width(good: GoodWidth) {
+    let width = Width { bits: good.bits };
+    print_text("width");
+    print_number(good.bits as u64);
+    for answer in [
+        width.largest(),
+        width.smallest(),
+        width.nar(),
+        width.limit(),
+    ] {
+        match answer {
+            Ok(number) => print_number(number),
+            Err(_) => print_text(" refused"),
+        }
     }
-}
-
-fn print_limit(limit: Limit) {
-    match limit {
-        Limit::Count(count) => print_number(count),
-        Limit::Refused(_) => print_text(b" refused"),
-    }
+    print_end();
 }

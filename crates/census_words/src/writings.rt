@@ -1,36 +1,29 @@
-// The four writings of a size: with either sign, rounded and strict.
-ghost use Rattle.std.specs.Prelude.{◌≤◌};
-
-use crate::offers::Size;
+// The four writings of a size, and of a short or a long value whatever writes it: with either sign, rounded and strict.
+use crate::size::Size;
+use bounds::answer::Written;
+use bounds::refusal::Refusal;
 use bounds::width::Width;
-use census::digest::take_written;
-use census::exponent::exponent;
+use census::digest::Digest;
 use round::value::Rule;
 use write::value::Value;
 use write::writing::write;
 
-pub(crate) fn take_size(digest: u64, n: u32, size: Size) -> u64
-    requires { size.place ≤ 3000 }
+pub(crate) fn take_writings(digest: &mut Digest, width: Width, size: Size) {
+    let Size { m, k } = size;
+    take_four(digest, |rule, negative| {
+        write(width, rule, Value { negative, m, k })
+    });
+}
+
+pub(crate) fn take_four<F: Fn(Rule, bool) -> Result<Written, Refusal>>(
+    digest: &mut Digest,
+    write: F,
+)
+    requires { F.IsAlwaysCallable write }
 {
-    take_writings(digest, n, size.m, exponent(size.place))
-}
-
-pub(crate) fn take_writings(digest: u64, n: u32, m: u64, k: i32) -> u64 {
-    let width = Width { bits: n };
-    let plus = Value {
-        negative: false,
-        m,
-        k,
-    };
-    let minus = Value {
-        negative: true,
-        m,
-        k,
-    };
-    take_both_rules(take_both_rules(digest, width, plus), width, minus)
-}
-
-fn take_both_rules(digest: u64, width: Width, value: Value) -> u64 {
-    let after_rounded = take_written(digest, write(width, Rule::Rounded, value));
-    take_written(after_rounded, write(width, Rule::Strict, value))
+    for negative in [false, true] {
+        for rule in [Rule::Rounded, Rule::Strict] {
+            digest.take(write(rule, negative));
+        }
+    }
 }

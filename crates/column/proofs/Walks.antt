@@ -10,7 +10,6 @@ use Rattle.bounds.proofs.Answers.{is_exact}
 use mathlib.Core.Path.{◌≡◌, refl, sym, ◌∙◌, subst}
 use mathlib.Core.List.{List}
 use Prim.Native.Nat.{ℕ, ◌+◌, ◌≤◌, ◌<◌}
-use native.Mathlib.Nat.{le_antisymm}
 use native.Mathlib.Omega.{arith}
 use mir.Val.{bool_byte}
 use borrow.Author.Count.{below_none, below_more}
@@ -63,9 +62,6 @@ module _ (n n' : ℕ) (rule : Rule) (words : List ℕ) where
         others = λ k h. get_or-set_other after i k w' 0 (λ q. omega (arith, h, q)) ∙ x.others k (omega (arith, h));
       }
 
-  pub all_written : (i : ℕ) (before after : List ℕ) → i ≤ length words → length words ≤ i → AreMoved n n' rule words i before after → AreMoved n n' rule words (length words) before after
-  all_written i before after lo hi = subst (λ (k : ℕ). AreMoved n n' rule words k before after) (le_antisymm lo hi)
-
 -- the word that w is moved to, and whether it means the same
 pub record MovesWord (n n' : ℕ) (rule : Rule) (w : ℕ) (m : Written) : Type 0 where
   pub moves : Moves n n' rule w (Ok m.word)
@@ -106,6 +102,3 @@ one_more_counted n n' rule words after i exact m inside x y more q =
   where
     here : get_or (set after i m.word) i 0 ≡ m.word
     here = get_or-set_same after i m.word 0 inside
-
-pub all_counted : (n n' : ℕ) (words after : List ℕ) (i exact : ℕ) → i ≤ length words → length words ≤ i → Counts (KeepsTheMeaning n n' words after) i exact → Counts (KeepsTheMeaning n n' words after) (length words) exact
-all_counted n n' words after i exact lo hi = subst (λ (k : ℕ). Counts (KeepsTheMeaning n n' words after) k exact) (le_antisymm lo hi)

@@ -96,6 +96,7 @@ impl Move {
         ensures counts { Counts (KeepsTheMeaning self.from.bits self.to.bits words.now results.new) (length words.now) result }
     {
         let mut exact = 0;
+        // results by index: of what is written through a zip with iter_mut the check knows nothing afterwards
         for (i, word) in words.iter().enumerate() {
             // it has been tried, so it is not refused
             let written = self.word(*word).unwrap();

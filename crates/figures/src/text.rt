@@ -1,9 +1,14 @@
-// The pieces of a line: bytes as they stand, and numbers.
+// The pieces of a line: text as it stands, and numbers.
 // Standard output.
 const STDOUT_FILENO: i32 = 1;
 
-pub(crate) fn print_bytes(bytes: &[u8]) {
-    io::write_all(STDOUT_FILENO, bytes);
+// Not by println!: that hands up a failure to write, and this program goes on.
+pub(crate) fn print_text(text: &str) {
+    io::write_all(STDOUT_FILENO, text.as_bytes());
+}
+
+pub(crate) fn print_end() {
+    print_text("\n");
 }
 
 pub(crate) fn print_number(x: u64) {
@@ -16,10 +21,7 @@ pub(crate) fn print_hex(x: u64) {
 
 pub(crate) fn print_signed(z: i64) {
     if z < 0 {
-        print_bytes(b"-");
-        // The size of the least i64 is no i64, so one is added after the cast.
-        print_number((-1 - z) as u64 + 1);
-        return;
+        print_text("-");
     }
-    print_number(z as u64);
+    print_number(z.unsigned_abs());
 }

@@ -28,8 +28,5 @@ fn main(rt: HostRuntime) -> ExitCode {
 // Whether there is one after the program's name, however long it is.
 fn has_argument(rt: HostRuntime) -> bool {
     let mut start = [0u8; 1];
-    match rt.arg(1, &mut start) {
-        Err(FillError::NotPresent) => false,
-        _ => true,
-    }
+    !matches!(rt.arg(1, &mut start), Err(FillError::NotPresent))
 }

@@ -47,7 +47,7 @@ pub(crate) fn list_all(rt: HostRuntime, counts: &mut Counts) -> Ending
 }
 
 // One read behind the `total` bytes that came before, and what it makes whole goes out. A piece of a block waits for its rest, until none comes. It goes
-// on with the bytes that have come now, or ends.
+// on with the bytes that have come now, or ends. The buffers are lent as slices: a part that is cut from an array leaves goals that have no lasting names.
 fn list_piece(
     rt: HostRuntime,
     piece: &mut [u8],

@@ -1,14 +1,13 @@
 -- Digits of a number: one more of them stands in front, there are as many as asked for, and how many a number needs in decimal. Assumes nothing.
 use mathlib.Core.Path.{◌≡◌, refl, sym, ap, ◌∙◌, subst}
-use mathlib.Core.List.{List, [], ◌∷◌, ◌++◌, append-nil}
+use mathlib.Core.List.{List, [], ◌∷◌, ◌++◌}
 use Prim.Native.Nat.{ℕ, zero, suc, ◌+◌, ◌-◌, ◌/◌, ◌%◌, ◌^◌, ◌≤◌, ◌<◌}
-use native.Mathlib.Nat.{div-one, div-div-eq-div-mul, pow-zero, pow-suc, pow-le-pow_right, mul_comm, sub_self, lt_of_lt_of_le}
+use native.Mathlib.Nat.{div-one, div-div-eq-div-mul, pow-zero, pow-suc, pow-le-pow_right, mul_comm, lt_of_lt_of_le}
 use native.Mathlib.Decide.{dec_lt}
 use native.Mathlib.Omega.{arith}
 use native.Mathlib.Numerals.{add-one}
 use lib.Dec.{lit<, lit≤}
 use lib.ListN.{length, take, set, length-append}
-use lib.Seq.{take-length}
 use Rattle.bounds.proofs.Powers.{not_more}
 use Rattle.io.specs.Digits.{hex_digit_ascii, last_digits}
 use Rattle.listing.specs.Text.{IsDecimal}
@@ -33,10 +32,7 @@ fewer n k j top h = by (dec_lt k j)
     by (yes l) = l
     by (no f) = absurd (omega (arith, top, h, pow-le-pow_right {n = 10} (lit< tt) {i = j} {j = k} (not_more f)))
 
--- so one of 64 bits has no more than 20, and one of 32 bits no more than 10
-pub few : (n k : ℕ) → n < 2 ^ 64 → 10 ^ k ≤ n → k < 20
-few n k top h = fewer n k 20 (lt_of_lt_of_le top (lit≤ tt)) h
-
+-- so one of 32 bits has no more than 10
 pub short_decimal : (n : ℕ) (t : List ℕ) → n < 2 ^ 32 → IsDecimal n t → length t ≤ 10
 unfolding IsDecimal
 short_decimal n t top (k, fewest, is) = subst (λ (x : ℕ). x ≤ 10) (sym (ap length is ∙ as_many 10 k n)) (by (dec_lt 1 k))
@@ -47,13 +43,6 @@ short_decimal n t top (k, fewest, is) = subst (λ (x : ℕ). x ≤ 10) (sym (ap 
 
 -- ---- putting digits from the last one to the first: before place i nothing has changed, and from it on the last digits stand
 module _ (e : List ℕ) (base n : ℕ) where
-  -- no digit yet
-  pub none_yet : e ≡ take (length e) e ++ last_digits base (length e - length e) n
-  none_yet = sym (ap (λ (k : ℕ). take (length e) e ++ last_digits base k n) (sub_self (length e)) ∙ append-nil (take (length e) e) ∙ take-length e)
-
-  pub whole_left : n ≡ n / base ^ (length e - length e)
-  whole_left = sym (ap (λ (k : ℕ). n / base ^ k) (sub_self (length e)) ∙ ap (λ (x : ℕ). n / x) (pow-zero base) ∙ div-one n)
-
   module _ (i : ℕ) (some : 0 < i) (most : i ≤ length e) where
     next : length e - (i - 1) ≡ suc (length e - i)
     next = omega (arith, some, most)

@@ -1,12 +1,11 @@
--- Text at a place of a buffer: one byte, one text after another, and one digit in front of the digits that stand. Assumes nothing.
+-- Text at a place of a buffer: one after another, nothing at all, and one digit in front of the digits that stand. Assumes nothing.
 use mathlib.Core.Path.{◌≡◌, refl, sym, ap, ap₂, ◌∙◌, subst}
 use mathlib.Core.List.{List, [], ◌∷◌, ◌++◌, append_assoc, append-nil}
 use Prim.Native.Nat.{ℕ, suc, ◌+◌, ◌≤◌, ◌<◌}
 use native.Mathlib.Nat.{le_trans, le_of_lt, le-add_right, add_assoc, add-zero}
-use native.Mathlib.Numerals.{add-one}
 use native.Mathlib.Omega.{arith}
 use lib.ListN.{length, take, drop, set, get_or, length-append, length-drop, take-append-drop}
-use lib.Seq.{length-take-le, take-suc, append_snoc, set_split, set_at, take_at, drop-append-add, drop-drop}
+use lib.Seq.{length-take-le, take-suc, append_snoc, set_at, take_at, drop-append-add, drop-drop}
 use Rattle.listing.specs.declared.text.Text.{Text}
 use Rattle.listing.specs.Puts.{Puts}
 use Rattle.listing.specs.Adds.{Adds}
@@ -18,14 +17,6 @@ head_length e at t h = length-append (take at e) t ∙ ap (λ (k : ℕ). k + len
 pub same_length : (e : List ℕ) (at : ℕ) (t f : List ℕ) (r : ℕ) → Puts e at t f r → length f ≡ length e
 same_length e at t f r p =
     ap length p.content ∙ length-append (take at e ++ t) (drop (at + length t) e) ∙ ap₂ (λ (x y : ℕ). x + y) (head_length e at t p.room) (length-drop (at + length t) e) ∙ omega (arith, p.room)
-
-pub byte_put : (e : List ℕ) (at b : ℕ) → at < length e → Puts e at (b ∷ []) (set e at b) (at + 1)
-byte_put e at b h =
-    record {
-      room = omega (arith, h);
-      content = set_split e at b h ∙ ap (λ (k : ℕ). take at e ++ b ∷ drop k e) (sym (add-one at)) ∙ sym (append_snoc (take at e) b (drop (at + 1) e));
-      place = refl;
-    }
 
 -- one text after another
 pub joined : (e : List ℕ) (at : ℕ) (t f : List ℕ) (i : ℕ) (u g : List ℕ) (r : ℕ) → Puts e at t f i → Puts f i u g r → Puts e at (t ++ u) g r

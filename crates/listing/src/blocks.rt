@@ -1,5 +1,5 @@
 // The text of a block: a line for each of its words, or its refusal.
-ghost use Rattle.std.specs.Prelude.{◌≡◌, ◌*◌, ◌≤◌, length};
+ghost use Rattle.std.specs.Prelude.{◌≡◌, ◌*◌, ◌^◌, ◌<◌, ◌≤◌, length};
 ghost use Rattle.listing.specs.Adds.{AddsSome, HasRoom};
 ghost use Rattle.sheet.specs.Reads.{block_test};
 ghost use Rattle.listing.specs.Listing.{most, refusal_of, text_room, ListsBlock, ListsInto};
@@ -29,22 +29,22 @@ pub fn list_block(block: &[u8], place: u64, out: &mut [u8]) -> Result<Listed, Re
     ensures { ListsInto block.now place out.old out.new result }
 {
     test_room(ROOM, out.len())?;
-    // None is read before it is written. Zeros would be a call of the C library's memset for each block, and under the emulator that is slow.
-    let mut words = [1u64; WORDS];
     let mut text = Text { out, at: 0 };
-    let refused = put_block(&mut text, &mut words, block, place);
+    let refused = put_block(&mut text, block, place);
     Ok(Listed {
         length: text.at,
         refused,
     })
 }
 
-// The text of a block, for which there is room; the answer is why it is refused, if it is. The lent words are for its words.
-fn put_block(text: &mut Text<'_>, words: &mut [u64], block: &[u8], place: u64) -> Option<Refusal>
-    requires { (length words.old ≡ most) × HasRoom text_room text.old }
+// The text of a block, for which there is room; the answer is why it is refused, if it is.
+fn put_block(text: &mut Text<'_>, block: &[u8], place: u64) -> Option<Refusal>
+    requires { HasRoom text_room text.old }
     ensures { AddsSome text_room (ListsBlock block.now place) text.old text.new × (result ≡ refusal_of (block_test block.now most)) }
 {
-    match read_block(block, words) {
+    // None is read before it is written. Zeros would be a call of the C library's memset for each block, and under the emulator that is slow.
+    let mut words = [1u64; WORDS];
+    match read_block(block, &mut words) {
         Ok(read) => {
             put_lines(text, read, &words[..read.count as usize]);
             None
@@ -58,7 +58,7 @@ fn put_block(text: &mut Text<'_>, words: &mut [u64], block: &[u8], place: u64) -
 
 // A line for each word of a block.
 fn put_lines(text: &mut Text<'_>, block: Block, words: &[u64])
-    requires { (block.width ≤ 64) × (length words.now ≤ most) × HasRoom (96 * length words.now) text.old }
+    requires { (block.width ≤ 64) × (length words.now < 2 ^ 32) × HasRoom (96 * length words.now) text.old }
     ensures { AddsSome (96 * length words.now) (AreLines block.number block.width 0 words.now) text.old text.new }
 {
     for (position, word) in words.iter().enumerate() {

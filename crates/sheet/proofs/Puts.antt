@@ -1,13 +1,13 @@
 -- What puts into a buffer leave there, one after the other: what stands outside stays, and two parts beside each other are one number. Assumes nothing.
-use Rattle.std.proofs.Common.{◌≡◌, ℕ, ◌+◌, ◌-◌, ◌*◌, ◌^◌, ◌<◌, ◌≤◌, ◌⊎◌, List, length, get_or, take, drop, replicate, sym, refl, ap, ◌∙◌, subst, ap₂, inl, inr, ⊎_elim, arith, rules}
+use Rattle.std.proofs.Common.{◌≡◌, ℕ, ◌+◌, ◌-◌, ◌*◌, ◌^◌, ◌<◌, ◌≤◌, ◌⊎◌, List, length, get_or, take, drop, sym, refl, ap, ◌∙◌, subst, ap₂, inl, inr, ⊎_elim, arith, rules}
 use borrow.Rule.Slice.PartMut.{put_mid}
 use native.Mathlib.Decide.{dec_lt}
 use Rattle.std.proofs.lemmas.Grind.{common_steps}
-use Rattle.std.proofs.lemmas.List.{length-replicate, places}
+use Rattle.std.proofs.lemmas.List.{places}
 use Rattle.std.proofs.lemmas.Slice.{between-put_mid}
 use Rattle.bounds.proofs.Powers.{not_more}
 use Rattle.sheet.specs.Layout.{number, number_at, mark, width, count, block_number, numbers, A, B}
-use Rattle.sheet.specs.Puts.{Within, Puts, Packs, Clears, PutsHeader, Seals}
+use Rattle.sheet.specs.Puts.{Within, Puts, Packs, PutsHeader, Seals}
 use Rattle.sheet.specs.Sums.{sum_a, sum_b}
 use Rattle.sheet.proofs.LittleEndian.{number_at_one, number_at_split, number_same}
 use Rattle.sheet.proofs.Packing.{numbers_same, word_inside}
@@ -78,19 +78,6 @@ module _ (k : ℕ) (words before : List ℕ) where
       by j h (no f) =
           let last : i ≡ j = omega (arith, h, not_more f) in
           subst (λ (n : ℕ). number_at k (8 + k * n) after ≡ get_or words n 0) last q.is
-
--- ---- zeros
-pub clears_part : (from to : ℕ) (xs ys : List ℕ) → from ≤ to → to ≤ length xs → ys ≡ replicate (to - from) 0 → Clears from to xs (put_mid from (to - from) xs ys)
-clears_part from to xs ys lo fits e = record { within = within; zero = λ j l u. ap (λ (zs : List ℕ). get_or (put_mid from (to - from) xs zs) j 0) e ∙ search (rules, places) }
-  where
-    whole : from + (to - from) ≡ to
-    whole = omega (arith, lo)
-
-    long : length ys ≡ to - from
-    long = ap length e ∙ length-replicate (to - from) 0
-
-    within : Within from to xs (put_mid from (to - from) xs ys)
-    within = subst (λ (n : ℕ). Within from n xs (put_mid from (to - from) xs ys)) whole (part_put from (to - from) xs ys (omega (arith, whole, fits)) long)
 
 -- ---- A and B
 pub sealed : {a b : ℕ} {before mid after : List ℕ} → a ≡ sum_a (numbers before) → b ≡ sum_b (numbers before) → Puts 4 504 a before mid → Puts 4 508 b mid after → Seals before after

@@ -20,7 +20,7 @@ pub fn read_block(block: &[u8], results: &mut [u64]) -> Result<Block, Refusal>
     ensures reads_block { ReadsBlock block.now (length results.old) result }
     ensures fills_results { FillsResults block.now results.old results.new }
 {
-    let bytes = Bytes::of(block)?;
+    let bytes = Bytes::try_from(block)?;
     test(bytes, results.len())?;
     let count = bytes.count();
     unpack(bytes.all, bytes.word_bytes(), count as usize, results);

@@ -1,4 +1,5 @@
-// The bytes of a block, 512 of them, and the fields that lie in them.
+// The bytes of a block, 512 of them, and the fields that lie in them. That they are as many stands beside the slice: a type with a length in it would be an
+// array, and tests/stack lets no crate of the library have one.
 ghost use Rattle.std.specs.Prelude.{◌≡◌, ◌^◌, ◌<◌, length};
 
 use crate::numbers::number;
@@ -10,19 +11,24 @@ pub(crate) struct Bytes<'a> {
     ghost sized: { length all.now ≡ 512 },
 }
 
-impl<'a> Bytes<'a> {
-    ghost use Rattle.sheet.specs.Layout.{width, count, block_number, word_bytes, end, A, B};
+// Refuses what isn't 512 bytes.
+impl<'a> TryFrom<&'a [u8]> for Bytes<'a> {
+    type Error = Refusal;
+
     ghost use Rattle.sheet.specs.Whole.{IsBytes};
 
-    // Refuses what isn't 512 bytes.
-    pub(crate) fn of(bytes: &'a [u8]) -> Result<Bytes<'a>, Refusal>
-        ensures { IsBytes bytes.now result }
-    {
-        if bytes.len() != 512 {
+    ghost try_from_gives = { λ block a. IsBytes block.now a };
+
+    fn try_from(block: &'a [u8]) -> Result<Bytes<'a>, Refusal> {
+        if block.len() != 512 {
             return Err(Refusal::Size);
         }
-        Ok(Bytes { all: bytes })
+        Ok(Bytes { all: block })
     }
+}
+
+impl Bytes<'_> {
+    ghost use Rattle.sheet.specs.Layout.{width, count, block_number, word_bytes, end, A, B};
 
     pub(crate) fn width(self) -> u32
         ensures { (result ≡ width self.entry.all.now) × (result < 2 ^ 8) }

@@ -1,4 +1,5 @@
-// The parts of a block, put into a lent buffer where they stand.
+// The parts of a block, put into a lent buffer where they stand. Each asks for the length that it needs, since a struct can't hold a fact beside what it is
+// lent to write (the kit's docs/NOT_COVERED.md).
 ghost use Rattle.std.specs.Prelude.{◌≡◌, ◌+◌, ◌*◌, ◌^◌, ◌<◌, ◌≤◌, length};
 ghost use Rattle.sheet.specs.Layout.{IsWordBytes};
 ghost use Rattle.sheet.specs.Puts.{AreOfBytes, Packs, Clears, PutsHeader, Seals};

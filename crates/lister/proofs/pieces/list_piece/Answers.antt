@@ -1,5 +1,5 @@
 -- `list_piece` meets its contract: it goes on only where bytes came, and is complete only where none did and the text is written. Assumes nothing.
-use Rattle.std.proofs.Common.{◌≡◌, ℕ, ◌<◌, ◌≤◌, length, Option, sym, ap, ◌∙◌, arith, length-take-le}
+use Rattle.std.proofs.Common.{ℕ, ◌≤◌, length, Option, sym, ap, ◌∙◌, arith, length-take-le}
 use Rattle.std.specs.Option.{unwrap_or}
 use Rattle.listing.specs.Puts.{PutsSome}
 use Rattle.listing.proofs.Placed as Placed

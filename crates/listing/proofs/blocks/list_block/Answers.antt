@@ -8,7 +8,7 @@ use Rattle.bounds.proofs.Rooms.{room_through}
 use Rattle.listing.specs.declared.text.Text.{Text}
 use Rattle.listing.specs.Adds.{AddsSome}
 use Rattle.listing.specs.Puts.{Puts, PutsSome}
-use Rattle.listing.specs.Listing.{most, text_room, ListsInto, IsListed}
+use Rattle.listing.specs.Listing.{text_room, ListsInto, IsListed}
 use Rattle.listing.proofs.blocks.list_block.Goals as goal
 
 -- the slice afterwards is what the buffer held
@@ -23,8 +23,8 @@ returns-in_err-test_room c =
     refused (sym c.in_err-test_room.ensures) (p.1 ∙ ap (λ (q : Refusal). Err q) p.2, refl)
 
 pub put_block-refused-requires : goal.put_block-refused-requires
-unfolding most text_room
-put_block-refused-requires c = (refl, room_through 47616 _ (sym c.in_ok-test_room.ensures))
+unfolding text_room
+put_block-refused-requires c = room_through 47616 _ (sym c.in_ok-test_room.ensures)
 
 pub returns : goal.returns
 unfolding ListsInto IsListed text_room

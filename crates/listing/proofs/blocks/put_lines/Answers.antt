@@ -1,15 +1,10 @@
 -- `put_lines` meets its contract. Assumes nothing.
-use Rattle.std.proofs.Common.{[], ◌++◌, zero-le, arith, length-append}
-use Rattle.listing.specs.Listing.{most}
-use Rattle.listing.proofs.Placed.{nothing_added, joined_adds}
-use Rattle.listing.proofs.Listed.{none_yet, one_more, all_of_them}
+use Rattle.std.proofs.Common.{◌++◌, arith, length-append}
+use Rattle.listing.proofs.Placed.{joined_adds}
+use Rattle.listing.proofs.Listed.{one_more, all_of_them}
 use Rattle.listing.proofs.blocks.put_lines.Goals as goal
 
-pub loop-position-init : goal.loop-position-init
-loop-position-init c = ([], zero-le, nothing_added _ (omega arith), none_yet _ _ _)
-
 pub overflow_cast-position : goal.overflow_cast-position
-unfolding most
 overflow_cast-position c = record { fits = omega (arith, c.loop-position-test.true, c.requires.1) }
 
 pub loop-position-preserved : goal.loop-position-preserved

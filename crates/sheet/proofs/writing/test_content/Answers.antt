@@ -1,7 +1,7 @@
 -- `test_content` meets its contract: the tests are made in the paper's order. Assumes nothing.
 use Rattle.std.proofs.Common.{sym, arith}
 use Rattle.sheet.proofs.Contents.{is_wide, isn't_wide, other_width, old_width, too_many, other_buffer, content_passes}
-use Rattle.sheet.proofs.Rooms.{some_bytes, small_room}
+use Rattle.sheet.proofs.Rooms.{some_bytes}
 use Rattle.sheet.proofs.Tests.{is_width}
 use Rattle.sheet.proofs.writing.test_content.Goals as goal
 
@@ -15,10 +15,6 @@ returns-then-n-eq-RETIRED c =
 
 pub nonzero_div-n-2 : goal.nonzero_div-n-2
 nonzero_div-n-2 c = some_bytes _ (is_width _ (is_wide _ c.is_block_width.result c.is_block_width.ensures c.if-not-is_block_width.false))
-
-pub overflow_cast-n : goal.overflow_cast-n
-overflow_cast-n c =
-    omega (arith, small_room _ (is_width _ (is_wide _ c.is_block_width.result c.is_block_width.ensures c.if-not-is_block_width.false)))
 
 pub returns-then-count-n : goal.returns-then-count-n
 returns-then-count-n c =

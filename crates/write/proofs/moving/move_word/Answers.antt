@@ -1,11 +1,12 @@
 -- `move_word` meets its contract: the word's size is written at the other width, with its sign. Assumes nothing.
-use mathlib.Core.Path.{◌≡◌, refl, sym, subst}
+use mathlib.Core.Path.{◌≡◌, refl, sym, ap, ◌∙◌, subst}
 use mathlib.Core.Bool.{false}
 use Prim.Native.Nat.{ℕ}
 use Rattle.std.specs.Prelude.{Ok, Err}
+use Rattle.bounds.specs.declared.answer.Written.{Written}
 use Rattle.bounds.specs.declared.saying.Saying.TheVariants.{Exact}
 use Rattle.bounds.specs.Refusals.{Verdict, passed, width_test, stray_test, word_test, ◌then◌, through}
-use Rattle.bounds.specs.Sayings.{plain}
+use Rattle.bounds.specs.Sayings.{plain, exactly}
 use Rattle.bounds.specs.Widths.{nar_word}
 use Rattle.bounds.proofs.Answers.{word_said, decided_said}
 use Rattle.bounds.proofs.Goods.{good_through, good_refused}
@@ -46,7 +47,7 @@ returns-in-Zero c =
     let target = (good_through _ _ c.in_ok-good.ensures).0 in
     let x = told n w c.in_ok-read_size.ensures c.in-Zero.is in
     let t = width_through n' target in
-    rw c.exactly.ensures
+    subst (λ (a : Written). MovesAndSays n n' c.args.rule w (Ok a)) (sym c.exactly.ensures)
     (word_said 0 Exact (through (tested n n' w target x.0) (subst (λ (t : Takum). IsMoved n' c.args.rule t (Ok 0)) (sym x.1) (zero_written n' t.0 t.1 c.args.rule false 0 1 refl)))
     (subst (λ (t : Takum). SaysMoved n' t 0 Exact) (sym x.1) (size_exact n' t.0 t.1 false 0 0 1 0 (zero_value n' t.0 t.1 false) refl)))
 
@@ -58,7 +59,7 @@ returns-in-Nar c =
     let w = c.args.word in
     let target = good_through _ _ c.in_ok-good.ensures in
     let x = told n w c.in_ok-read_size.ensures c.in-Nar.is in
-    rw (c.exactly-in-Nar.ensures, c.nar.ensures, target.1)
+    subst (λ (a : Written). MovesAndSays n n' c.args.rule w (Ok a)) (sym (c.exactly-in-Nar.ensures ∙ ap exactly (c.nar.ensures ∙ ap nar_word target.1)))
     (word_said (nar_word n') Exact (through (tested n n' w target.0 x.0) (subst (λ (t : Takum). IsMoved n' c.args.rule t (Ok (nar_word n'))) (sym x.1) refl)) (subst (λ (t : Takum). SaysMoved n' t (nar_word n') Exact) (sym x.1) refl))
 
 pub returns-in-Number : goal.returns-in-Number

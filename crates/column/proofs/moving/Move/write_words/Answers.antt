@@ -1,7 +1,7 @@
 -- `Move::write_words` meets its contract. Assumes nothing.
 use mathlib.Core.Bool.{Bool, true, false}
 use mathlib.Core.Path.{refl, ap, subst}
-use lib.ListN.{length, get_or}
+use lib.ListN.{get_or}
 use Prim.Native.Nat.{◌+◌, ◌≤◌, zero-le}
 use native.Mathlib.Nat.{le_refl}
 use native.Mathlib.Omega.{arith}
@@ -13,7 +13,7 @@ use Rattle.write.specs.Sayings.{MovesAndSays}
 use Rattle.column.specs.Columns.{MovableUpTo}
 use Rattle.column.specs.Counts.{none}
 use Rattle.column.proofs.Counts.{counts_le}
-use Rattle.column.proofs.Walks.{none_written, one_more_written, all_written, moves_word, not_an_error, one_more_counted, all_counted}
+use Rattle.column.proofs.Walks.{none_written, one_more_written, moves_word, not_an_error, one_more_counted}
 use Rattle.column.proofs.moving.Move.write_words.Goals as goal
 
 -- a flag counts at most one
@@ -35,10 +35,3 @@ pub loop-i-preserved : goal.loop-i-preserved
 loop-i-preserved c =
     let m = moves_word _ _ _ _ _ (subst (λ (a : Answer Written). MovesAndSays c.args.self.from.bits c.args.self.to.bits c.args.self.rule (get_or c.args.words.now c.loop-i.i 0) a) c.unwrap-written.ensures c.word.ensures) in
     (c.loop-i.invariant.0, one_more_written _ _ _ _ _ _ _ _ (search rules) c.loop-i.invariant.1 m.moves, one_more_counted _ _ _ _ _ _ _ _ (search rules) c.loop-i.invariant.2 m _ (ap (λ (b : Bool). c.loop-i.exact + bool_byte b) c.is_exact.ensures))
-
-pub returns : goal.returns
-returns c =
-    let t = c.loop-i.invariant in
-    let most : c.loop-i.i ≤ length c.args.words.now = omega (arith, c.loop-i.auto.i-end, t.0) in
-    let least : length c.args.words.now ≤ c.loop-i.i = omega (arith, c.loop-i-test.false, t.0) in
-    record { are_moved = all_written _ _ _ _ _ _ _ most least t.1; counts = all_counted _ _ _ _ _ _ most least t.2 }

@@ -1,9 +1,0 @@
--- `take_lent` is safe: the results are within the row. Assumes nothing.
-use Rattle.std.proofs.Common.{sym, arith, length-take-le}
-use Rattle.census_sheets.proofs.columns.take_lent.Goals as goal
-
-pub slice_bounds-move_column-end : goal.slice_bounds-move_column-end
-slice_bounds-move_column-end c = sym (length-take-le _ _ c.before.requires.0)
-
-pub slice_bounds-row-end : goal.slice_bounds-row-end
-slice_bounds-row-end c = omega arith

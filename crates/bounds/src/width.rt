@@ -94,7 +94,7 @@ fn limit_exponent(n: u32) -> u32
         return 0;
     }
     let room = n - 4;
-    let log = room.ilog2();
+    let log = 31 - room.leading_zeros();
     let v = room - log;
     if v + 1 < 1 << log {
         return v + 1;

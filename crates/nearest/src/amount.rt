@@ -17,7 +17,7 @@ pub(crate) struct Amount {
 
 impl Amount {
     // Whether the size is exactly low, `bits` being the first of its string: neither the string nor the significand nor the rest goes on behind low.
-    pub fn ends_at(self, width: GoodWidth, low: u64, bits: u64, start: Start) -> bool
+    pub(crate) fn ends_at(self, width: GoodWidth, low: u64, bits: u64, start: Start) -> bool
         requires { low < 2 ^ (width.bits - 1) }
         ensures { TellsEnd width.bits low bits start.r self.m self.rest result }
     {
@@ -30,7 +30,7 @@ impl Amount {
     }
 
     // On which side of the midpoint of 2^i and 2^j the size lies, e being its own exponent. The midpoint is 2^(j - 1) + 2^(i - 1).
-    pub fn side_of_powers(self, i: u32, j: u32, e: u32) -> Ordering
+    pub(crate) fn side_of_powers(self, i: u32, j: u32, e: u32) -> Ordering
         requires { (i < j) × (j ≤ i + 64) × (e < j) × (j < 510) }
         ensures { TellsPowers i j e self.m self.rest result }
     {
@@ -54,7 +54,7 @@ pub(crate) struct Tail {
 }
 
 impl Tail {
-    pub fn is_nothing(self) -> bool
+    pub(crate) fn is_nothing(self) -> bool
         ensures { TellsNothing self.bits self.rest result }
     {
         self.bits == 0 && self.rest.is_nothing()
@@ -62,7 +62,7 @@ impl Tail {
 
     // Low or low + 1, halfway the even one. One test decides, since nobody can foretell which way it goes: with `chosen` and the order of the bits beside a half
     // in its place, writing at 16 bits took 1.5 of the time.
-    pub fn chosen(self, low: u64) -> u64
+    pub(crate) fn chosen(self, low: u64) -> u64
         requires { low + 1 < 2 ^ 63 }
         ensures { ChoosesByCut low self.bits self.rest result }
     {

@@ -15,7 +15,7 @@ impl Characteristic {
     ghost use Rattle.nearest.specs.Parts.{IsCharacteristic, IsRaised, Begins};
 
     // The exponent, if it is one.
-    pub fn new(h: i64) -> Option<Characteristic>
+    pub(crate) fn new(h: i64) -> Option<Characteristic>
         ensures { IsCharacteristic h result }
     {
         if (-255..255).contains(&h) {
@@ -25,13 +25,13 @@ impl Characteristic {
     }
 
     // So that it isn't negative.
-    pub fn raised(self) -> u32
+    pub(crate) fn raised(self) -> u32
         ensures { IsRaised self.c result }
     {
         (self.c + 255) as u32
     }
 
-    pub fn start(self) -> Start
+    pub(crate) fn start(self) -> Start
         ensures { Begins self.c result.bits result.r }
     {
         let above = Start::above(self.size());
@@ -88,7 +88,7 @@ impl Start {
     }
 
     // The first 64 bits of a size's endless string, its sign among them.
-    pub fn first_bits(self, amount: Amount) -> u64
+    pub(crate) fn first_bits(self, amount: Amount) -> u64
         ensures { result ≡ first_bits self amount.m }
     {
         (self.bits << (59 - self.r)) + ((amount.m << 1) >> (5 + self.r))

@@ -36,9 +36,9 @@ impl From<Result<MovedColumn, ListRefusal>> for HandedColumn {
             },
             Err(ListRefusal::At { position, refusal }) => HandedColumn {
                 refusal: refusal.number(),
-                position,
+                position, // of the word
                 moved: 0,
-                exact: 0,
+                exact: 0, // the words before it were not moved
             },
         }
     }

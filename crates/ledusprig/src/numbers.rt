@@ -20,7 +20,7 @@ use whole::writing::write_whole;
 pub fn takum_write_whole(n: u32, rule: u32, x: i64) -> HandedSaying
     ensures { HandsOver saying_handed (WritesWholeAndSays n (rule_of rule) x) result }
 {
-    by_rule(rule, |rule| write_whole(Width { bits: n }, rule, x)).into()
+    by_rule(rule, |rule| write_whole(Width { bits: n }, rule, x))
 }
 
 // The number is asked first, so that each taking is compiled by itself.
@@ -42,7 +42,7 @@ pub fn takum_shortest_width(x: i64) -> HandedWidth
 pub fn takum_write_binary64(n: u32, rule: u32, x: f64) -> HandedSaying
     ensures { HandsOver saying_handed (WritesBinary64AndSays n (rule_of rule) x) result }
 {
-    by_rule(rule, |rule| write_binary64(Width { bits: n }, rule, x)).into()
+    by_rule(rule, |rule| write_binary64(Width { bits: n }, rule, x))
 }
 
 pub fn takum_take_binary64(n: u32, word: u64) -> HandedNumber

@@ -1,16 +1,22 @@
-// The rule that a number names, asked once and before the call, so that each rule's call is compiled by itself.
+// What is written by the rule that a number names. The number is asked once and before the call, so that each rule's call is compiled by itself.
 ghost use Rattle.round.specs.declared.value.Rule.{Rule};
-ghost use Rattle.ledusprig.specs.Handed.{rule_of};
+ghost use Rattle.ledusprig.specs.Handed.{HandsOver, saying_handed, rule_of};
 
+use crate::handed::words::HandedSaying;
+use bounds::answer::Written;
+use bounds::refusal::Refusal;
 use round::value::Rule;
 
-pub(crate) fn by_rule<T, F: FnOnce(Rule) -> T>(number: u32, call: F) -> T
-    requires rounded { F.pre call Rule.Rounded }
-    requires strict { F.pre call Rule.Strict }
-    ensures { F.post call (rule_of number) result }
+pub(crate) fn by_rule<F: FnOnce(Rule) -> Result<Written, Refusal>>(
+    number: u32,
+    write: F,
+) -> HandedSaying
+    requires rounded { F.pre write Rule.Rounded }
+    requires strict { F.pre write Rule.Strict }
+    ensures { HandsOver saying_handed (F.post write (rule_of number)) result }
 {
     if number == 0 {
-        return call(Rule::Rounded);
+        return write(Rule::Rounded).into();
     }
-    call(Rule::Strict)
+    write(Rule::Strict).into()
 }

@@ -36,7 +36,7 @@ pub fn takum_write(n: u32, rule: u32, negative: bool, m: u64, k: i32) -> HandedS
     ensures { HandsOver saying_handed (WritesAndSays n (rule_of rule) (record { negative = negative; m = m; k = k })) result }
 {
     let value = Value { negative, m, k };
-    by_rule(rule, |rule| write(Width { bits: n }, rule, value)).into()
+    by_rule(rule, |rule| write(Width { bits: n }, rule, value))
 }
 
 pub fn takum_move(from: u32, to: u32, rule: u32, word: u64) -> HandedSaying
@@ -45,5 +45,4 @@ pub fn takum_move(from: u32, to: u32, rule: u32, word: u64) -> HandedSaying
     by_rule(rule, |rule| {
         move_word(Width { bits: from }, Width { bits: to }, rule, word)
     })
-    .into()
 }

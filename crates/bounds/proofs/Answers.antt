@@ -2,13 +2,14 @@
 use mathlib.Core.Bool.{true, true≢false}
 use mathlib.Core.Path.{◌≡◌, refl, sym, ap, ap₂, ◌∙◌, subst, subst₂}
 use Prim.Native.Nat.{ℕ}
+use Rattle.std.specs.Result.{result_map_both}
 use Rattle.bounds.specs.declared.answer.Written.{Written}
 use Rattle.std.specs.Prelude.{Ok, Err}
 use Rattle.bounds.specs.declared.refusal.Refusal.{Refusal}
 use Rattle.bounds.specs.declared.saying.Saying.{Saying}
 use Rattle.bounds.specs.declared.saying.Saying.TheVariants.{Exact, Below, Above, PastTheEnd}
 use Rattle.bounds.specs.Refusals.{Answer, Verdict, Decided, through, refused}
-use Rattle.bounds.specs.Sayings.{says_exact, written, plain, AndSays}
+use Rattle.bounds.specs.Sayings.{says_exact, written, plain, exactly, exactly_of, AndSays}
 
 unfoldable pub word_of : Answer ℕ → ℕ
 word_of (Ok w) = w
@@ -37,6 +38,11 @@ same_word q = (ap (λ (r : Answer Written). word_of (plain r)) q, ap saying_of q
 pub no_refusal : {w : ℕ} {s : Saying} {q : Refusal} → Err q ≡ written w s → ⊥
 unfolding GivesAWord
 no_refusal e = subst (λ (r : Answer Written). GivesAWord (plain r)) (sym e) tt
+
+-- what an answer is with the saying that it is exact, is what std's `map` makes of it
+pub exactly_is_map : (a : Answer ℕ) → exactly_of a ≡ result_map_both exactly (λ q. q) a
+exactly_is_map (Ok w) = refl
+exactly_is_map (Err q) = refl
 
 -- refused, with a saying or without it
 pub plain_refused : (r : Answer Written) (q : Refusal) → plain r ≡ Err q → r ≡ Err q

@@ -6,6 +6,7 @@ use lib.Dec.{leb, ltb}
 use borrow.Author.Tests.{le-leb, lt-leb, lt-ltb, le-ltb, leb-true, ltb-true}
 use Rattle.std.specs.Prelude.{Ok, Err, IsErrAnd}
 use Rattle.std.proofs.lemmas.Result.{err_from_is_err_and}
+use Rattle.std.specs.Result.{result_and}
 use Rattle.bounds.specs.declared.refusal.Refusal.{Refusal}
 use Rattle.bounds.specs.Refusals.{Answer, Verdict, passed, unless, width_test, stray_test, word_test, ◌then◌, IsWord, Decided, through, refused}
 
@@ -53,6 +54,11 @@ width_through n h = (leb-true 2 n t.0, leb-true n 64 t.1)
   where
     t : (leb 2 n ≡ true) × (leb n 64 ≡ true)
     t = both (leb 2 n) (leb n 64) (open_when (leb 2 n && leb n 64) Refusal.Width h)
+
+-- of tests in a row the first that refuses decides, as std's `and` has it
+pub then_is_and : (a b : Verdict) → a then b ≡ result_and a b
+then_is_and (Ok _) b = refl
+then_is_and (Err q) b = refl
 
 -- a test that is made again changes nothing
 pub once : (a b c : Verdict) → a then b then (a then c) ≡ a then b then c

@@ -38,6 +38,11 @@ plain (Err q) = Err q
 abbrev pub exactly : ℕ → Written
 exactly w = record { word = w; saying = Exact }
 
+-- and of an answer, of which a refusal stays that refusal
+abbrev pub exactly_of : Answer ℕ → Answer Written
+exactly_of (Ok w) = Ok (exactly w)
+exactly_of (Err q) = Err q
+
 -- A call answers a word or a refusal, as it does without sayings; and with a word it says this.
 pub record AndSays (Answers : Answer ℕ → Type 0) (Says : ℕ → Saying → Type 0) (r : Answer Written) : Type 0 where
   pub answers : Answers (plain r)

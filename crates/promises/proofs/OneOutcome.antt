@@ -18,7 +18,7 @@ use Rattle.bounds.specs.declared.saying.Saying.{Saying}
 use Rattle.word.specs.Cuts.{Cuts}
 use Rattle.sizes.specs.Sizes.{Sizes}
 use Rattle.bounds.specs.Refusals.{number_of, width_test, word_test, room_test, ◌then◌, Answer, Verdict}
-use Rattle.bounds.specs.Sayings.{saying_number, says_exact, opposite_saying, exactly}
+use Rattle.bounds.specs.Sayings.{saying_number, says_exact, opposite_saying, exactly, exactly_of}
 use Rattle.bounds.specs.Widths.{Greatest, greatest, none, IsLimit, Makes, GivesWord, GivesLimit}
 use Rattle.word.specs.Reads.{Reads}
 use Rattle.word.specs.Orders.{signed, negated}
@@ -71,8 +71,11 @@ is_exact_one s = given (says_exact s)
 pub opposite_one : (s a b : Saying) → a ≡ opposite_saying s → b ≡ opposite_saying s → a ≡ b
 opposite_one s = given (opposite_saying s)
 
-pub exactly_one : (w : ℕ) (a b : Written) → a ≡ exactly w → b ≡ exactly w → a ≡ b
-exactly_one w = given (exactly w)
+pub exactly_one : (answer : Answer ℕ) (a b : Answer Written) → a ≡ exactly_of answer → b ≡ exactly_of answer → a ≡ b
+exactly_one answer = given (exactly_of answer)
+
+pub exactly_word_one : (w : ℕ) (a b : Written) → a ≡ exactly w → b ≡ exactly w → a ≡ b
+exactly_word_one w = given (exactly w)
 
 -- ---- widths
 pub makes_one : (n : ℕ) (a b : Answer Width) → Makes n a → Makes n b → a ≡ b

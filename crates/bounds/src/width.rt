@@ -31,7 +31,7 @@ impl Width {
         Ok(())
     }
 
-    // The width as one that needs no more tests. Every call begins with `width.good()?`, which says more than a TryFrom would.
+    // The width as one that needs no more tests. Nearly every call begins with `width.good()?`, which says more than a TryFrom would.
     pub fn good(self) -> Result<GoodWidth, Refusal>
         ensures { IsGood self.bits result }
     {
@@ -86,7 +86,17 @@ impl Width {
     }
 }
 
-// v of paper 01: the greatest whole number with v >= 1 and v + floor(log2 v) <= n - 4, or 0.
+// The way back, for the calls that take any width.
+impl From<GoodWidth> for Width {
+    ghost from_gives = { λ good width. width.bits ≡ good.bits };
+
+    fn from(good: GoodWidth) -> Width {
+        Width { bits: good.bits }
+    }
+}
+
+// v of paper 01: the greatest whole number with v >= 1 and v + floor(log2 v) <= n - 4, or 0. Paper 01 names
+// leading zeros for the logarithm.
 fn limit_exponent(n: u32) -> u32
     ensures { Greatest n result }
 {

@@ -179,8 +179,8 @@ fn chosen(low: u64, side: Ordering) -> u64
     }
 }
 
-// The characteristic of a positive word, raised. That a word is positive is asked of three (here, `with_sign`, `ends_at`), each of another word: a type for it
-// would be made three times, and read longer.
+// The characteristic of a positive word, raised. That a word lies below NaR is asked of three (here, `with_sign`, `ends_at`), each of another word: a type
+// for it would be made three times, and read longer.
 fn exponent(width: GoodWidth, word: u64) -> u32
     requires { (0 < word) × (word < 2 ^ (width.bits - 1)) }
     ensures { IsRaised (Takum.c 64 (word * 2 ^ (64 - width.bits))) result }

@@ -46,7 +46,7 @@ impl Characteristic {
         ensures { result ≡ mag self.c + 1 }
     {
         if self.c < 0 {
-            return (-1 - self.c) as u64 + 1;
+            return self.c.unsigned_abs();
         }
         self.c as u64 + 1
     }
@@ -64,12 +64,12 @@ pub(crate) struct Start {
 impl Start {
     ghost use Rattle.nearest.specs.Parts.{StartsAbove, IsTurned, first_bits};
 
-    // The characteristic is size - 1, and the regime floor(log2 size).
+    // The characteristic is size - 1, and the regime floor(log2 size), by leading zeros, as paper 01 names it.
     fn above(size: u64) -> Start
         requires { (0 < size) × (size ≤ 255) }
         ensures { StartsAbove size result }
     {
-        let r = 63 - u64::leading_zeros(size);
+        let r = 63 - size.leading_zeros();
         Start {
             bits: ((7 + r as u64) << r) + size,
             r,

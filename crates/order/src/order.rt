@@ -31,7 +31,7 @@ pub fn negate(width: Width, word: u64) -> Result<u64, Refusal>
     Ok(good.ones() - word + 1)
 }
 
-// The word as an n-bit two's complement number.
+// The word as an n-bit two's complement number, whose order paper 01 names.
 fn as_signed(good: GoodWidth, word: u64) -> i64
     requires { IsWord good.bits word }
     ensures { result ≡ signed good.bits word }

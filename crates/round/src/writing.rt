@@ -42,7 +42,8 @@ pub fn write_size(width: Width, rule: Rule, size: Size) -> Result<Written, Refus
     write_normal(width, rule, size.negative, size.h as i64, size.m)
 }
 
-// The same of m * 2^(h - 63) with its sign: the top bit of m is moved to 2^63, and h makes up for it.
+// The same of m * 2^(h - 63) with its sign: the top bit of m is moved to 2^63, and h makes up for it. The parts go
+// by themselves and are no `Size`: with 63 more, h can need more than its 32 bits.
 fn write_normal(
     width: Width,
     rule: Rule,

@@ -18,7 +18,8 @@ pub(crate) fn put_header(width: u32, count: u32, number: u32, buffer: &mut [u8])
     put::<4>(number as u64, buffer, 4);
 }
 
-// The words from byte 8 on. The choice by the size stands outside the loop; no word that is written has one byte.
+// The words from byte 8 on. The size is a number of the block, width / 8; here, outside the loop, it becomes the N. No word that
+// is written has one byte.
 pub(crate) fn pack(size: usize, words: &[u64], buffer: &mut [u8])
     requires { IsWordBytes size × (1 < size) × (8 + size * length words.now ≤ length buffer.old) × AreOfBytes size words.now }
     ensures { Packs size words.now (length words.now) buffer.old buffer.new }

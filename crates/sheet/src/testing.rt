@@ -24,7 +24,7 @@ pub(crate) fn test(block: Bytes<'_>, places: usize) -> Result<(), Refusal>
     if end > 504 {
         return Err(Refusal::Count);
     }
-    // the unused bytes are all zero exactly if their sum is
+    // the unused bytes are all zero exactly if their sum is; by `all`, which isn't made of vectors, it took 1.5 times as long and more
     if sum_of(&block.all[end..504]) != 0 {
         return Err(Refusal::Fill);
     }

@@ -4,7 +4,7 @@ ghost use Rattle.sheet.specs.Layout.{packed, IsWordBytes};
 
 use crate::numbers::number;
 
-// The choice by the size stands outside the loop.
+// The size is a number of the block, width / 8; here, outside the loop, it becomes the N.
 pub(crate) fn unpack(block: &[u8], size: usize, count: usize, results: &mut [u64])
     requires { IsWordBytes size × (8 + size * count ≤ length block.now) × (count ≤ length results.old) }
     ensures { results.new ≡ packed size count (drop 8 block.now) ++ drop count results.old }

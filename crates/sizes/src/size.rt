@@ -40,7 +40,7 @@ pub fn read_size(width: Width, word: u64) -> Result<WordSize, Refusal>
 }
 
 // The size of a string of 64 bits, as a word of any width is one with zero bits after it. Every string has one, also zero's and NaR's;
-// what they mean is for `read` to say.
+// what they mean is for `read_size` to say.
 pub fn size_of(t: u64) -> Size
     ensures { Sizes t result }
 {

@@ -1,5 +1,5 @@
 // Every exported call, called as a reader calls it: the contract here is what is promised of the struct that it hands over, and the proof has only the
-// exported function's contract to go by.
+// exported function's contract to go by. The C interface has these calls one by one, so each has its function here.
 #![tactic(auto)]
 
 ghost use Rattle.promises.specs.Face.{is_strict, HandsLargest, HandsSmallest, HandsNaR, HandsLimit, HandsReading, HandsComparison, HandsNegated, HandsWritten, HandsMoved, HandsWholeWritten, HandsWhole, HandsShortest, HandsBinary64Written, HandsNumber, HandsColumn, HandsBlock, HandsBlockWritten};

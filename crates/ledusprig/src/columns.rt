@@ -10,8 +10,8 @@ use round::value::Rule;
 use sheet::block::read_block;
 use sheet::writing::write_block;
 
-// The rule's number is asked here, so that each rule has a loop of its own. `by_rule` can't do it: what is known of a closure that was called says nothing of
-// what it left in a slice.
+// C names the rule by a number. It is asked here, so that each rule has a loop of its own. `by_rule` can't do it: what is known of a closure that was called
+// says nothing of what it left in a slice.
 #[tactic(auto, unfolding(crate::specs::Handed::MovesTheColumn))]
 pub fn takum_move_column(
     from: u32,

@@ -1,4 +1,4 @@
-// Whole numbers and binary64 numbers, in and out, and how wide a word a whole number needs.
+// Whole numbers and binary64 numbers, in and out, and how wide a word a whole number needs: one function for each call that C has.
 ghost use Rattle.whole.specs.Wholes.{TakesWhole};
 ghost use Rattle.whole.specs.Sayings.{WritesWholeAndSays};
 ghost use Rattle.whole.specs.Shortest.{GivesShortest};
@@ -23,7 +23,7 @@ pub fn takum_write_whole(n: u32, rule: u32, x: i64) -> HandedSaying
     by_rule(rule, |rule| write_whole(Width { bits: n }, rule, x))
 }
 
-// The number is asked first, so that each taking is compiled by itself.
+// C names a taking by a number. It is asked first, so that each taking is compiled by itself.
 pub fn takum_take_whole(n: u32, taking: u32, word: u64) -> HandedWhole
     ensures { HandsOver whole_handed (TakesWhole n (taking_of taking) word) result }
 {

@@ -1,4 +1,4 @@
-// What is written by the rule that a number names. The number is asked once and before the call, so that each rule's call is compiled by itself.
+// What is written by the rule that a number of C names. The number is asked once and before the call, so that each rule's call is compiled by itself.
 ghost use Rattle.round.specs.declared.value.Rule.{Rule};
 ghost use Rattle.ledusprig.specs.Handed.{HandsOver, saying_handed, rule_of};
 

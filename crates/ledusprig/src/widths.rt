@@ -1,4 +1,4 @@
-// What belongs to a width: its end words, NaR word and exact-count limit.
+// What belongs to a width: its end words, NaR word and exact-count limit. C has a call for each, so each is a function.
 ghost use Rattle.bounds.specs.Widths.{largest, smallest, nar_word, GivesWord, GivesLimit};
 ghost use Rattle.ledusprig.specs.Handed.{HandsOver, word_handed, limit_handed};
 

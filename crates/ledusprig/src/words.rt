@@ -1,4 +1,4 @@
-// One word: reading, comparing and negating it, writing a value as one, and moving it to another width.
+// One word: reading, comparing and negating it, writing a value as one, and moving it to another width: one function for each call that C has.
 ghost use Rattle.order.specs.Orders.{Compares, Negates};
 ghost use Rattle.word.specs.Reads.{Reads};
 ghost use Rattle.write.specs.Sayings.{WritesAndSays, MovesAndSays};

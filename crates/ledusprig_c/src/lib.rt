@@ -1,5 +1,5 @@
 // The calls of crate ledusprig, exported for C under the names of include/ledusprig.h: each hands its arguments on as they came, and promises what the call
-// promises. Nothing is decided here.
+// promises. Nothing is decided here. Each call stands here once more, because a crate is a library or a static library, and C's names have no generic form.
 #![tactic(auto)]
 
 ghost use Rattle.std.specs.Prelude.{length};

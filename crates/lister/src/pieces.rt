@@ -15,13 +15,14 @@ use std::io::ErrorKind;
 use std::ops::ControlFlow;
 
 // The bytes of 16 blocks. They are filled round and round: byte number n of the input goes to place n % PIECE, so no byte is moved.
+// The buffers are arrays, since the program asks for no memory.
 const PIECE: usize = 16 * 512;
 
 // Room for their text: each has at most 496 lines of up to 96 bytes.
 const TEXT: usize = 16 * 496 * 96;
 
 // How the listing ends: the input has ended, and all its blocks are listed; a read or a write failed, which is told on standard error; nobody reads the
-// listing any more; or more bytes came than an input has.
+// listing any more; or more bytes came than an input has. The bytes are for the contract alone.
 #[derive(Clone, Copy)]
 pub(crate) enum Ending {
     Complete { bytes: u64, blocks: u64 },
@@ -47,7 +48,8 @@ pub(crate) fn list_all(rt: HostRuntime, counts: &mut Counts) -> Ending
 }
 
 // One read behind the `total` bytes that came before, and what it makes whole goes out. A piece of a block waits for its rest, until none comes. It goes
-// on with the bytes that have come now, or ends. The buffers are lent as slices: a part that is cut from an array leaves goals that have no lasting names.
+// on with the bytes that have come now, or ends. The buffers are lent as slices: tried as arrays, what is cut from one leaves goals open, under the checker's
+// own names. They are no struct: beside what is lent to write it can't hold that the lengths are these.
 fn list_piece(
     rt: HostRuntime,
     piece: &mut [u8],

@@ -4,10 +4,11 @@ ghost use Rattle.lister.specs.Counts.{number_or_0, with_one_more};
 
 use bounds::refusal::Refusal;
 
-// Room for a count of each refusal number, and at 0 for one of the blocks that were read.
+// Room for a count of each refusal number, and at 0 for one of the blocks that were read. An array by number and no map: no memory is asked for, and the report
+// has the numbers.
 const NUMBERS: usize = 16;
 
-// Where the report goes.
+// Where the report goes. It is written by `io`, to the descriptor itself: std would have to open it once more, which fails at a socket.
 const REPORT_FILENO: i32 = 3;
 
 // How many blocks there are of each refusal number.

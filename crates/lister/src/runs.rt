@@ -17,7 +17,7 @@ pub(crate) struct Run {
 }
 
 // The text of all blocks of a piece, the first of them at this place, and their counts. The last one may be short, and is refused then. The place is
-// counted beside the blocks, since the last one is answered.
+// counted by hand: what is answered is the place behind the last block, which `enumerate` doesn't give.
 pub(crate) fn put_blocks(out: &mut [u8], piece: &[u8], place: u64, counts: &mut Counts) -> Run
     requires { (47616 * blocks (length piece.now) ≤ length out.old) × (place + blocks (length piece.now) < 2 ^ 64) }
     ensures { PutsSome (ListsBlocks piece.now place) out.old 0 out.new result.length × (result.place ≡ place + blocks (length piece.now)) × CountsBlocks piece.now counts.old.by_number counts.new.by_number }
@@ -34,8 +34,8 @@ pub(crate) fn put_blocks(out: &mut [u8], piece: &[u8], place: u64, counts: &mut 
     }
 }
 
-// The text of one block behind what stands, and its count. There is room for it, so it is never refused. `list_block` fills the start of a slice, so the
-// place where it begins is a number beside the whole.
+// The text of one block behind what stands, and its count. There is room for it, so it is never refused. `list_block` fills the start of a slice. That is
+// cut here and not by the caller: it would be the same cut there, and the length would have to be added to the place beside it.
 fn put_block(out: &mut [u8], at: usize, block: &[u8], place: u64, counts: &mut Counts) -> usize
     requires { at + text_room ≤ length out.old }
     ensures { PutsSome (ListsBlock block.now place) out.old at out.new result × (result ≤ at + text_room) × (counts.new.by_number ≡ with_one_more (refusal_number (block_test block.now most)) counts.old.by_number) }

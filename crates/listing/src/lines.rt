@@ -1,4 +1,6 @@
 // A line of the listing: block number, position, the word in hex, its whole number, its own fraction bits, and ` old` of an old block.
+// `Block` and `Width` are what the calls give and take, and hold any number: so `width ≤ 64` is asked where it is needed, and a width and its word go side by
+// side, as the calls take them.
 ghost use Rattle.std.specs.Prelude.{◌≡◌, ◌≤◌};
 ghost use Rattle.listing.specs.Adds.{AddsSome, HasRoom};
 ghost use Rattle.listing.specs.Text.{hex_of, refusal_text, old_text, IsShown, IsField, IsWholeText, IsOwnText, IsLine};

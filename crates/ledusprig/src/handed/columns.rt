@@ -1,4 +1,4 @@
-// What the calls over lent slices hand over: of a moved column, of a block that was written, and of one that was read.
+// What the calls over lent slices hand over to C: of a moved column, of a block that was written, and of one that was read.
 ghost use Rattle.std.specs.Prelude.{◌≡◌};
 
 use bounds::refusal::{ListRefusal, Refusal};
@@ -20,6 +20,7 @@ impl From<Result<MovedColumn, ListRefusal>> for HandedColumn {
 
     ghost from_gives = { λ answer handed. handed ≡ column_handed answer };
 
+    // Where a word was refused, its position is all that is handed over beside the refusal: the words before it were not moved either, so none is counted.
     fn from(answer: Result<MovedColumn, ListRefusal>) -> HandedColumn {
         match answer {
             Ok(column) => HandedColumn {

@@ -1,4 +1,4 @@
-// What is taken out of a word: a whole number, or a binary64 number.
+// What is taken out of a word, as C has it: a whole number, or a binary64 number.
 ghost use Rattle.std.specs.Prelude.{◌≡◌};
 
 use binary64::taking::Binary64;

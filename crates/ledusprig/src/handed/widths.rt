@@ -1,4 +1,4 @@
-// What the calls about widths hand over beside words: the exact-count limit, and a width.
+// What the calls about widths hand over to C beside words: the exact-count limit, and a width.
 ghost use Rattle.std.specs.Prelude.{◌≡◌};
 
 use bounds::refusal::Refusal;

@@ -1,5 +1,5 @@
-// What one word's calls hand over: a word, alone or with its saying, a reading, an order. Calls of widths and numbers that give a word hand it over by
-// the same structs.
+// What one word's calls hand over to C: a word, alone or with its saying, a reading, an order. Calls of widths and numbers that give a word hand it over
+// by the same structs.
 ghost use Rattle.std.specs.Prelude.{◌≡◌};
 ghost use Rattle.ledusprig.specs.Handed.{kind_handed};
 

@@ -9,7 +9,7 @@ pub trait Taken {
     fn take_into(self, digest: &mut Digest);
 }
 
-// A number stands for itself, also a word and a limit.
+// A number stands for itself, also a word and a limit. Each type has an impl of its own, since `rt ci` refuses one that a macro writes.
 impl Taken for u64 {
     fn take_into(self, digest: &mut Digest) {
         digest.take_number(self);

@@ -1,4 +1,5 @@
-// The pieces of a line: text as it stands, and numbers.
+// The pieces of a line: text as it stands, and numbers. Not those of census, which have a space before each number; figures doesn't stand on it.
+
 // Standard output.
 const STDOUT_FILENO: i32 = 1;
 

@@ -66,8 +66,8 @@ fn take_four_out(digest: &mut Digest, good: GoodWidth, x: u64) {
     }
 }
 
-// Part 17: below the word of value 2^(c+1), from c = -255 on. There is none for c = 254: past the largest word comes NaR. Around the words that lie a
-// power of two below it.
+// Part 17: below the word of value 2^(c+1), from c = -255 on. There is none for c = 254: past the largest word comes NaR. Words
+// are taken around those that lie a power of two from 1 to 64 below it. The check doesn't know that a place is below 510, so it is cut.
 pub(crate) fn print_out_full(good: GoodWidth) {
     let n = good.bits as u64;
     print_runs("outfull", &[n], 0..510, 64, |digest, place| {

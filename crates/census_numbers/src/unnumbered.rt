@@ -27,7 +27,7 @@ pub(crate) fn take_unnumbered(digest: &mut Digest, width: Width) {
     }
 }
 
-// Part 27. At width 64 no word is stray.
+// Part 27. At width 64 no word is stray. Not the function of parts 6 and 12: their lines have one word less.
 pub(crate) fn print_strays(good: GoodWidth) {
     let bits = good.bits;
     if bits < Width::GREATEST {

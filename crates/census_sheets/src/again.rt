@@ -9,7 +9,7 @@ use census::digest::Digest;
 use census::runs::print_runs;
 use census::sequence::Sequence;
 
-// The place is a block's count.
+// The place is a block's count. It is at most 496, but the check doesn't know it, so it is cut.
 pub(crate) fn print_again(w: Layout) {
     let mut sequence = Sequence::of(51_000 + w.number());
     let end = w.full as u64 + 1;
@@ -20,7 +20,7 @@ pub(crate) fn print_again(w: Layout) {
     });
 }
 
-// No block of this part is refused.
+// No block of this part is refused. Its count is at most 496 too.
 fn take_again(digest: &mut Digest, leaf: Leaf, room: Room) {
     let mut row = number_row();
     let answer = take_reading_into(digest, leaf.block(), &mut row[..room.words + 2 * BESIDE]);

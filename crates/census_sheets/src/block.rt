@@ -9,6 +9,7 @@ pub(crate) const MARK: u8 = 0x54;
 // The bytes of a block.
 pub(crate) const SIZE: usize = 512;
 
+// An array, since no program here asks for memory. Part 39 lends the eight more bytes.
 #[derive(Clone, Copy)]
 pub(crate) struct Leaf {
     pub(crate) bytes: [u8; 520],
@@ -74,7 +75,7 @@ impl Leaf {
         self.put(4 * place, &number.to_le_bytes());
     }
 
-    // Stores paper 01's sums A and B of the 126 numbers.
+    // Stores paper 01's sums A and B of the 126 numbers. By itself: with the library's own sums an error of theirs wouldn't show.
     pub(crate) fn seal(&mut self) {
         let mut a = 0u32;
         let mut b = 0u32;

@@ -8,7 +8,7 @@ use census::line::print_line;
 use census::runs::print_runs;
 use census::sequence::Sequence;
 
-// Part 33: read as it is changed, and then sealed.
+// Part 33: read as it is changed, and then sealed. The check doesn't know that a place is below 512, so it is cut.
 pub(crate) fn print_bytes(w: Layout) {
     let mut sequence = Sequence::of(41_000 + w.number());
     let leaf = Leaf::draw(w, w.full as u16 / 2, &mut sequence);

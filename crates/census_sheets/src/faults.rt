@@ -9,6 +9,7 @@ use census::digest::Digest;
 use census::runs::print_runs;
 use census::sequence::Sequence;
 
+// Numbers and no enum: docs/CENSUS.md numbers the faults so, and a place, which is a set of them, is their sum.
 const OF_SIZE: u64 = 1;
 
 const OF_MARK: u64 = 2;

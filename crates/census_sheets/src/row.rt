@@ -4,7 +4,8 @@ ghost use Rattle.std.specs.Prelude.{◌≤◌};
 // How many sentinels lie before the results, and how many after them.
 pub(crate) const BESIDE: usize = 8;
 
-// Rows are arrays, since no program here asks for memory. They are as long as the longest ones that a part needs.
+// Rows are arrays, since no program here asks for memory. They are as long as the longest ones that a part needs. One function for both would be
+// longer than these two lines.
 pub(crate) fn number_row() -> [u64; 1024] {
     std::array::from_fn(|i| u64::MAX - i as u64)
 }

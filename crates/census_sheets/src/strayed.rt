@@ -25,6 +25,7 @@ pub(crate) fn print_strayed(w: Layout) {
     }
 }
 
+// The bound on the words stands in two contracts here: as a ghost field of Content it would cost the `..content` below.
 // The 12 ways to set bits at the first place, the middle one and the last one, and at each two of them.
 fn take_strayed(digest: &mut Digest, content: Content)
     requires { (1 ≤ length content.words.now) × (length content.words.now ≤ 1000) }

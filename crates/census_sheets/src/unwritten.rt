@@ -9,6 +9,7 @@ use census::digest::Digest;
 use census::line::print_line;
 use census::sequence::Sequence;
 
+// Numbers and no enum, as in part 35; here they are others.
 const OF_WIDTH: u64 = 1;
 
 const OF_COUNT: u64 = 2;

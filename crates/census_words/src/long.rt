@@ -27,7 +27,7 @@ impl Long {
             return Long {
                 high: self.high.wrapping_sub(1),
                 low: u64::MAX,
-                k: self.k,
+                ..self
             };
         }
         Long {

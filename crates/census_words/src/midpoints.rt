@@ -41,10 +41,7 @@ fn take_midpoint(digest: &mut Digest, width: Width, low: Size, high: Size) {
         take_around(digest, width, middle.odd());
     } else {
         // Below width 12 two powers of two can be 64 apart, and no more: the sum is 2^64 + 1, which is no significand.
-        let below = Size {
-            m: TOP_BIT,
-            k: low.k,
-        };
+        let below = Size { m: TOP_BIT, ..low };
         take_writings(digest, width, below);
         take_writings(digest, width, below.just_above());
     }

@@ -61,7 +61,7 @@ impl Size {
         }
         Size {
             m: self.m - 1,
-            k: self.k,
+            ..self
         }
     }
 
@@ -70,7 +70,7 @@ impl Size {
         if self.m < u64::MAX {
             return Size {
                 m: self.m + 1,
-                k: self.k,
+                ..self
             };
         }
         Size {

@@ -3,23 +3,21 @@ use census::widths::TOP_BIT;
 
 // x - 1, x and x + 1.
 pub(crate) fn three(x: u64) -> [u64; 3] {
-    [x.wrapping_sub(1), x, x.wrapping_add(1)]
+    in_a_row(x.wrapping_sub(1))
 }
 
 // x - 2 to x + 1.
 pub(crate) fn four(x: u64) -> [u64; 4] {
-    [x.wrapping_sub(2), x.wrapping_sub(1), x, x.wrapping_add(1)]
+    in_a_row(x.wrapping_sub(2))
 }
 
 // x - 2 to x + 2.
 pub(crate) fn five(x: u64) -> [u64; 5] {
-    [
-        x.wrapping_sub(2),
-        x.wrapping_sub(1),
-        x,
-        x.wrapping_add(1),
-        x.wrapping_add(2),
-    ]
+    in_a_row(x.wrapping_sub(2))
+}
+
+fn in_a_row<const N: usize>(first: u64) -> [u64; N] {
+    std::array::from_fn(|i| first.wrapping_add(i as u64))
 }
 
 // x with its negation.

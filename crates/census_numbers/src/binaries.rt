@@ -41,7 +41,7 @@ pub(crate) fn print_twos(good: GoodWidth) {
     print_line("twos", &[good.bits as u64], digest);
 }
 
-// Part 25: the extreme numbers, and those of the smallest positive word and of the largest. Where the library refuses it, 0 has to show it.
+// Part 25: the extreme numbers, and those of the smallest positive word and of the largest.
 pub(crate) fn print_extreme(good: GoodWidth) {
     let width = Width { bits: good.bits };
     let mut digest = Digest::EMPTY;
@@ -58,7 +58,7 @@ pub(crate) fn print_extreme(good: GoodWidth) {
         }
     }
     take_binary64_in(&mut digest, width, NAN);
-    for word in [1, width.largest().unwrap_or(0)] {
+    for word in [1, good.largest()] {
         take_three(&mut digest, good, pattern_out(width, word));
     }
     print_line("extreme", &[good.bits as u64], digest);

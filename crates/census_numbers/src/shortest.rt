@@ -5,7 +5,7 @@ use crate::wholes::{IN_ORDER, ends, number_at};
 use bounds::good::GoodWidth;
 use bounds::width::Width;
 use census::digest::Digest;
-use census::line::{print_digest, print_line, print_numbers, print_text};
+use census::line::print_line;
 use census::runs::print_runs;
 use census::sequence::Sequence;
 use census::widths::words_of;
@@ -83,7 +83,5 @@ pub(crate) fn print_of_words(good: GoodWidth) {
             count += 1;
         }
     }
-    print_text("shortword");
-    print_numbers(&[good.bits as u64, count]);
-    print_digest(digest);
+    print_line("shortword", &[good.bits as u64, count], digest);
 }

@@ -56,11 +56,7 @@ impl Move {
     fn word(self, word: u64) -> Result<Written, Refusal>
         ensures { MovesAndSays self.from.bits self.to.bits self.rule word result }
     {
-        let from = Width {
-            bits: self.from.bits,
-        };
-        let to = Width { bits: self.to.bits };
-        move_word(from, to, self.rule, word)
+        move_word(self.from.into(), self.to.into(), self.rule, word)
     }
 
     // Whether the word can be moved. Rounding gives every word of the width a word, so only a stray bit is refused there.

@@ -11,7 +11,7 @@ use bounds::refusal::Refusal;
 use bounds::room::test_room;
 use sheet::block::{Block, read_block};
 
-// The most words that a block has: 496 of width 8.
+// The most words that a block has: 496 of width 8. They go to an array of that length, since no memory is asked for.
 const WORDS: usize = 496;
 
 // Room for the text of any block: a line of up to 96 bytes for each word.

@@ -62,7 +62,8 @@ impl Text<'_> {
 }
 
 // As many of the last digits of a number as there are places, from the last one to the first. They are put by hand: `io::hex` puts more where the number
-// has more, and `write!` answers an error for each piece, which can't come here.
+// has more, and `write!` answers an error for each piece, which can't come here. They go by index: Rattle's guide
+// (LIBRARY.md) says that of what is written through an adapter of `iter_mut`, as `rev` is, nothing is known afterwards.
 fn fill_with_digits(places: &mut [u8], n: u64, base: u64)
     requires { (1 < base) × (base ≤ 16) }
     ensures { places.new ≡ last_digits base (length places.old) n }

@@ -42,7 +42,7 @@ impl Sequence {
     }
 }
 
-// One of the words from 1 to the last one, by a drawn number; where there is none, 0.
+// One of the words from 1 to the last one, by a drawn number. No caller has none; the test keeps the remainder defined, and 0 is no word of those.
 pub fn drawn_up_to(last: u64, x: u64) -> u64
     ensures { result ≤ last }
 {

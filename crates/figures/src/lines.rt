@@ -67,6 +67,7 @@ pub(crate) fn print_made(n: u32) {
     print_answer(" is made", Width::new(n), |_| {});
 }
 
+// Two short functions: in the cases `plus(3, 0)` reads as the value does.
 pub(crate) fn plus(m: u64, k: i32) -> Value {
     Value {
         negative: false,

@@ -14,7 +14,7 @@ use census::widths::TOP_BIT;
 // Part 23. A draw takes three numbers from the sequence: the first chooses the kind and the sign, the others make the number.
 pub(crate) fn print_numbers(good: GoodWidth) {
     let n = good.bits as u64;
-    let width = Width { bits: good.bits };
+    let width = Width::from(good);
     let mut sequence = Sequence::of(7000 + n);
     print_runs("binary", &[n], 0..4096, 256, |digest, _| {
         let x1 = sequence.next_number();
@@ -43,7 +43,7 @@ pub(crate) fn print_twos(good: GoodWidth) {
 
 // Part 25: the extreme numbers, and those of the smallest positive word and of the largest.
 pub(crate) fn print_extreme(good: GoodWidth) {
-    let width = Width { bits: good.bits };
+    let width = Width::from(good);
     let mut digest = Digest::EMPTY;
     for x in [
         0,
@@ -68,7 +68,7 @@ pub(crate) fn print_extreme(good: GoodWidth) {
 fn take_three(digest: &mut Digest, good: GoodWidth, middle: u64) {
     for x in three(middle) {
         for pattern in both_signs(x) {
-            take_binary64_in(digest, Width { bits: good.bits }, pattern);
+            take_binary64_in(digest, Width::from(good), pattern);
         }
     }
 }

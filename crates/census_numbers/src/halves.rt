@@ -25,7 +25,7 @@ pub(crate) fn print_halves(good: GoodWidth) {
 
 // Around the word of i and a half, or the nearest one where the width has none. Where the library refuses it, the word 0 has to show it.
 fn take_half(digest: &mut Digest, good: GoodWidth, i: u64) {
-    let width = Width { bits: good.bits };
+    let width = Width::from(good);
     let half = Value {
         negative: false,
         m: (i << 1) | 1,

@@ -16,7 +16,7 @@ use write::writing::write;
 // Parts 13 and 14. At a place the word is the place's own number where every word is taken, and else a drawn one.
 pub(crate) fn print_outs(good: GoodWidth) {
     let n = good.bits as u64;
-    let width = Width { bits: good.bits };
+    let width = Width::from(good);
     let mut sequence = Sequence::of(5000 + n);
     print_runs("out", &[n], 0..words_of(good), 256, |digest, place| {
         let word = if good.bits <= WIDEST_WHOLE {
@@ -61,7 +61,7 @@ pub(crate) fn print_out_power(good: GoodWidth) {
 fn take_four_out(digest: &mut Digest, good: GoodWidth, x: u64) {
     for neighbour in four(x) {
         for word in both(neighbour) {
-            take_out(digest, Width { bits: good.bits }, word & good.ones());
+            take_out(digest, Width::from(good), word & good.ones());
         }
     }
 }
@@ -75,7 +75,7 @@ pub(crate) fn print_out_full(good: GoodWidth) {
         for below in [1, 2, 4, 8, 16, 32, 64] {
             for x in three(next.wrapping_sub(below)) {
                 for word in both(x) {
-                    take_out_as_binary64(digest, Width { bits: good.bits }, word & good.ones());
+                    take_out_as_binary64(digest, Width::from(good), word & good.ones());
                 }
             }
         }
@@ -89,7 +89,7 @@ fn word_of_power(good: GoodWidth, c: i32) -> Option<u64> {
         m: 1,
         k: c,
     };
-    let width = Width { bits: good.bits };
+    let width = Width::from(good);
     let written = write(width, Rule::Strict, power).ok()?;
     Some(written.word)
 }

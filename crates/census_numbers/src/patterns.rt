@@ -27,7 +27,7 @@ pub(crate) fn drawn_pattern(kind: u64, x2: u64, x3: u64) -> u64 {
 
 // The kinds 20 to 31: q, the number of a drawn word or the midpoint between two. At width 2 there is one positive word alone.
 pub(crate) fn drawn_of_words(kind: u64, good: GoodWidth, x2: u64) -> u64 {
-    let width = Width { bits: good.bits };
+    let width = Width::from(good);
     let largest = good.largest();
     let itself = pattern_out(width, drawn_up_to(largest, x2));
     if kind < 24 || largest < 2 {

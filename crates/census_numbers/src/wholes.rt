@@ -21,7 +21,7 @@ pub(crate) fn number_at(place: u64) -> u64 {
 // Part 18.
 pub(crate) fn print_wholes(good: GoodWidth) {
     let n = good.bits as u64;
-    let width = Width { bits: good.bits };
+    let width = Width::from(good);
     print_runs("whole", &[n], 0..IN_ORDER, 4096, |digest, place| {
         take_whole_in(digest, width, number_at(place));
     });
@@ -29,7 +29,7 @@ pub(crate) fn print_wholes(good: GoodWidth) {
 
 // Part 19. Where the library refuses the width, the limit 0 has to show it.
 pub(crate) fn print_limit(good: GoodWidth) {
-    let width = Width { bits: good.bits };
+    let width = Width::from(good);
     let mut digest = Digest::EMPTY;
     for x in five(width.limit().unwrap_or(0)) {
         for z in both(x) {
@@ -41,7 +41,7 @@ pub(crate) fn print_limit(good: GoodWidth) {
 
 // Part 20: the ends, and the words around that of value 2^63. Below width 4 there is none.
 pub(crate) fn print_brink(good: GoodWidth) {
-    let width = Width { bits: good.bits };
+    let width = Width::from(good);
     let mut digest = Digest::EMPTY;
     for z in ends() {
         take_round(&mut digest, width, z);
@@ -72,7 +72,7 @@ pub(crate) fn ends() -> [u64; 8] {
 
 // Part 21: around 2^k and 2^63 - 2^k.
 pub(crate) fn print_power(good: GoodWidth) {
-    let width = Width { bits: good.bits };
+    let width = Width::from(good);
     let mut digest = Digest::EMPTY;
     for k in 1..63u32 {
         let power = 1 << k;
@@ -93,7 +93,7 @@ pub(crate) fn print_power(good: GoodWidth) {
 // Part 22.
 pub(crate) fn print_tally(good: GoodWidth) {
     let n = good.bits as u64;
-    let width = Width { bits: good.bits };
+    let width = Width::from(good);
     let mut sequence = Sequence::of(6000 + n);
     print_runs("tally", &[n], 0..512, 256, |digest, _| {
         for z in three(drawn_whole(&mut sequence)) {

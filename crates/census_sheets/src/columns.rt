@@ -48,8 +48,8 @@ impl<'a> Move<'a> {
         requires { length column.now ≤ 1000 }
     {
         Move {
-            from: Width { bits: from.bits },
-            to: Width { bits: to.bits },
+            from: Width::from(from),
+            to: Width::from(to),
             column,
         }
     }

@@ -23,9 +23,7 @@ impl Layout {
 
     // The width as the calls take it.
     pub(crate) fn plain(self) -> Width {
-        Width {
-            bits: self.width.bits,
-        }
+        Width::from(self.width)
     }
 
     // The width as a line has it.

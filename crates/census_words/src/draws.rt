@@ -10,7 +10,7 @@ use census::sequence::Sequence;
 // A draw takes five numbers from the sequence. Exponents run from -352 to 287.
 pub(crate) fn print_draws(good: GoodWidth) {
     let n = good.bits as u64;
-    let width = Width { bits: good.bits };
+    let width = Width::from(good);
     let mut sequence = Sequence::of(1000 + n);
     print_runs("draw", &[n], 0..4096, 256, |digest, _| {
         let bits = sequence.next_number();

@@ -10,7 +10,7 @@ use census::widths::TOP_BIT;
 
 // The smallest positive word and the largest: the size itself and those around it, also as a long value.
 pub(crate) fn print_ends(good: GoodWidth) {
-    let width = Width { bits: good.bits };
+    let width = Width::from(good);
     let mut digest = Digest::EMPTY;
     for word in [1, good.largest()] {
         let size = Size::of_word(width, word);

@@ -8,7 +8,7 @@ use word::reading::{Kind, Reading, read};
 
 // The facts of the words a and b.
 pub(crate) fn take_facts(digest: &mut Digest, good: GoodWidth, a: u64, b: u64) {
-    let width = Width { bits: good.bits };
+    let width = Width::from(good);
     take_itself(digest, width, a);
     digest.take(compare(width, a, a.wrapping_add(1) & good.ones()));
     digest.take(compare(width, a, b));

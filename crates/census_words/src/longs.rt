@@ -8,7 +8,7 @@ use census::sequence::Sequence;
 // A draw takes four numbers from the sequence. About every second value has nothing in its low number. Exponents run from -416 to 223.
 pub(crate) fn print_longs(good: GoodWidth) {
     let n = good.bits as u64;
-    let width = Width { bits: good.bits };
+    let width = Width::from(good);
     let mut sequence = Sequence::of(8000 + n);
     print_runs("long", &[n], 0..1024, 256, |digest, _| {
         let bits = sequence.next_number();

@@ -25,7 +25,7 @@ const EXPONENTS: [i32; 15] = [
 ];
 
 pub(crate) fn print_past(good: GoodWidth) {
-    let width = Width { bits: good.bits };
+    let width = Width::from(good);
     let mut digest = Digest::EMPTY;
     for m in [0, 1, u64::MAX] {
         for k in EXPONENTS {

@@ -44,7 +44,7 @@ pub(crate) fn print_drawn_ways(good: GoodWidth) {
         let w = sequence.next_word(good);
         let x = sequence.next_word(good);
         let way = Way {
-            a: Width { bits: good.bits },
+            a: Width::from(good),
             b: drawn_width(sequence.next_number()),
             c: drawn_width(sequence.next_number()),
         };

@@ -5,7 +5,7 @@ use census::line::{print_end, print_number, print_text};
 
 // A width of this part is never refused; where the library refuses it all the same, the line has to show it.
 pub(crate) fn print_width(good: GoodWidth) {
-    let width = Width { bits: good.bits };
+    let width = Width::from(good);
     print_text("width");
     print_number(good.bits as u64);
     for answer in [

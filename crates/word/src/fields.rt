@@ -4,7 +4,7 @@ ghost use Rattle.word.specs.Takum as Takum;
 ghost use Rattle.word.specs.Takum.{regime_of, characteristic_of};
 ghost use Rattle.word.specs.Cuts.{Cuts};
 
-use crate::bits::low_bits;
+use crate::bits::{low_bits, power_of_two};
 
 // The characteristic c, and the fraction as f * 2^-64.
 #[derive(Clone, Copy)]
@@ -56,7 +56,7 @@ fn characteristic(direction: u64, r: u32, bits: u64) -> i32
     ensures { result ≡ characteristic_of direction r bits }
 {
     if direction == 1 {
-        return (1 << r) - 1 + bits as i32;
+        return power_of_two(r) as i32 - 1 + bits as i32;
     }
-    bits as i32 + 1 - (1 << (r + 1))
+    bits as i32 + 1 - power_of_two(r + 1) as i32
 }

@@ -11,7 +11,6 @@ use mir.Syntax.{w32}
 use mir.Val.{SFits, to_z, of_z}
 use mir.Facts.{to_z_pos, to_z-of_z}
 use Rattle.word.specs.Takum.{characteristic_of}
-use Rattle.bounds.proofs.Powers.{one_shl}
 use Rattle.word.proofs.Signed.{difference, sub_mag}
 use Rattle.word.proofs.fields.characteristic.Goals as goal
 
@@ -68,7 +67,7 @@ module _ (r b : ℕ) (seven : r ≤ 7) (fits : b < 2 ^ r) where
     below d f = to_z-of_z below_fits ∙ less ∙ sym (rw (ne_eqb d 1 f) (ap (λ (n : ℕ). pos (b + 1) -ℤ pos n) (sym is)))
 
 pub returns-then-direction-eq1 : goal.returns-then-direction-eq1
-returns-then-direction-eq1 c = above _ _ c.requires.0 c.requires.1 _ (one_shl 32 _ (omega (arith, c.requires.0))) _ c.if-direction-eq1.true
+returns-then-direction-eq1 c = above _ _ c.requires.0 c.requires.1 _ c.power_of_two.ensures _ c.if-direction-eq1.true
 
 pub returns : goal.returns
-returns c = below _ _ c.requires.0 c.requires.1 _ (one_shl 32 _ (omega (arith, c.requires.0))) _ c.if-direction-eq1.false
+returns c = below _ _ c.requires.0 c.requires.1 _ c.power_of_two-2.ensures _ c.if-direction-eq1.false

@@ -46,6 +46,10 @@ Makes n a = Decided (width_test n) (λ q. a ≡ Err q) (a ≡ Ok (record { bits 
 unfoldable pub IsGood : ℕ → Answer GoodWidth → Type 0
 IsGood n a = Decided (width_test n) (λ q. a ≡ Err q) ((width : GoodWidth) × (a ≡ Ok width) × (width.bits ≡ n))
 
+-- the way back
+abbrev pub HasBitsOf : GoodWidth → Width → Type 0
+HasBitsOf good width = width.bits ≡ good.bits
+
 -- the word f n of the width n
 unfoldable pub GivesWord : (ℕ → ℕ) → ℕ → Answer ℕ → Type 0
 GivesWord f n a = Decided (width_test n) (λ q. a ≡ Err q) (a ≡ Ok (f n))

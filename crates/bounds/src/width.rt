@@ -1,7 +1,7 @@
 // The width of a word: its bounds, the tests of a width and of a word, its end words, NaR word and exact-count limit.
 ghost use Rattle.std.specs.Prelude.{◌≡◌};
 ghost use Rattle.bounds.specs.Refusals.{width_test, word_test};
-ghost use Rattle.bounds.specs.Widths.{Greatest, largest, smallest, nar_word, IsGood, Makes, GivesWord, GivesLimit};
+ghost use Rattle.bounds.specs.Widths.{Greatest, largest, smallest, nar_word, IsGood, HasBitsOf, Makes, GivesWord, GivesLimit};
 
 use crate::good::GoodWidth;
 use crate::refusal::Refusal;
@@ -88,7 +88,7 @@ impl Width {
 
 // The way back, for the calls that take any width.
 impl From<GoodWidth> for Width {
-    ghost from_gives = { λ good width. width.bits ≡ good.bits };
+    ghost from_gives = { λ good width. HasBitsOf good width };
 
     fn from(good: GoodWidth) -> Width {
         Width { bits: good.bits }

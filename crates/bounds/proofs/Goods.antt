@@ -1,12 +1,13 @@
 -- What is known of a width that was tested, and of one that was refused. Assumes nothing.
-use mathlib.Core.Path.{◌≡◌, sym, ◌∙◌, subst}
+use mathlib.Core.Path.{◌≡◌, sym, ap, ◌∙◌, subst}
 use Prim.Native.Nat.{ℕ, ◌≤◌}
 use Rattle.std.proofs.Math.Bridge.{le_prop}
 use Rattle.std.specs.Prelude.{Ok, Err}
 use Rattle.bounds.specs.declared.good.GoodWidth.{GoodWidth}
 use Rattle.bounds.specs.declared.refusal.Refusal.{Refusal}
+use Rattle.bounds.specs.declared.width.Width.{Width}
 use Rattle.bounds.specs.Refusals.{Answer, passed, width_test, stray_test, word_test, IsWord}
-use Rattle.bounds.specs.Widths.{IsGood}
+use Rattle.bounds.specs.Widths.{IsGood, HasBitsOf}
 use Rattle.bounds.proofs.Verdicts.{stray_through, ok_tells, err_tells, value_of_one}
 
 pub good_through : (n : ℕ) (g : GoodWidth) → IsGood n (Ok g) → (width_test n ≡ passed) × (g.bits ≡ n)
@@ -34,3 +35,10 @@ good_one n = value_of_one (λ (g : GoodWidth). g.bits ≡ n) (λ x y p q. same x
   where
     same : (x y : GoodWidth) → x.bits ≡ y.bits → x ≡ y
     same x y p = subst (λ (b : ℕ). (l : 2 ≤ b) (m : b ≤ 64) → ◌≡◌ {A = GoodWidth} x (record { bits = b; least = l; most = m })) p (λ l m. λ i. record { bits = x.bits; least = le_prop x.least l i; most = le_prop x.most m i }) y.least y.most
+
+-- two plain widths of one good one are equal
+pub has_bits_one : (good : GoodWidth) (a b : Width) → HasBitsOf good a → HasBitsOf good b → a ≡ b
+has_bits_one good a b p q = ap width_of (p ∙ sym q)
+  where
+    width_of : ℕ → Width
+    width_of n = record { bits = n }

@@ -22,9 +22,9 @@ pub fn print_runs<F: FnMut(&mut Digest, u64)>(
         for place in first..stop {
             take(&mut digest, place);
         }
-        print_text(name);
+        print_text(name.as_bytes());
         print_numbers(numbers);
         print_numbers(&[first, stop - first]);
-        print_digest(digest);
+        print_digest(digest.number());
     }
 }

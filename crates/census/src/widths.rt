@@ -12,12 +12,15 @@ pub const TOP_BIT: u64 = 1 << 63;
 // The widest width of which every word is taken.
 pub const WIDEST_WHOLE: u32 = 16;
 
+// How many places there are where words or values are drawn.
+pub const DRAWN: u64 = 4096;
+
 // How many words are taken at a width: all of them, or as many as are drawn.
-pub fn words_of(width: GoodWidth) -> u64 {
-    if width.bits <= WIDEST_WHOLE {
-        return 1 << width.bits;
+pub fn words_of(n: u32) -> u64 {
+    if n <= WIDEST_WHOLE {
+        return 1 << n;
     }
-    4096
+    DRAWN
 }
 
 // Prints a part at each width from the first one to the last one.

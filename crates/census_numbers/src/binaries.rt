@@ -9,14 +9,14 @@ use census::digest::Digest;
 use census::line::print_line;
 use census::runs::print_runs;
 use census::sequence::Sequence;
-use census::widths::TOP_BIT;
+use census::widths::{DRAWN, TOP_BIT};
 
 // Part 23. A draw takes three numbers from the sequence: the first chooses the kind and the sign, the others make the number.
 pub(crate) fn print_numbers(good: GoodWidth) {
     let n = good.bits as u64;
     let width = Width::from(good);
     let mut sequence = Sequence::of(7000 + n);
-    print_runs("binary", &[n], 0..4096, 256, |digest, _| {
+    print_runs("binary", &[n], 0..DRAWN, 256, |digest, _| {
         let x1 = sequence.next_number();
         let x2 = sequence.next_number();
         let x3 = sequence.next_number();

@@ -18,7 +18,7 @@ pub(crate) fn print_outs(good: GoodWidth) {
     let n = good.bits as u64;
     let width = Width::from(good);
     let mut sequence = Sequence::of(5000 + n);
-    print_runs("out", &[n], 0..words_of(good), 256, |digest, place| {
+    print_runs("out", &[n], 0..words_of(good.bits), 256, |digest, place| {
         let word = if good.bits <= WIDEST_WHOLE {
             place
         } else {

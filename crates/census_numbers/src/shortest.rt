@@ -77,7 +77,7 @@ pub(crate) fn print_drawn() {
 pub(crate) fn print_of_words(good: GoodWidth) {
     let mut digest = Digest::EMPTY;
     let mut count = 0u64;
-    for word in 0..words_of(good) {
+    for word in 0..words_of(good.bits) {
         if let Ok(z) = take_whole(Width::from(good), Taking::Strict, word) {
             digest.take(shortest_width(z));
             count += 1;

@@ -6,13 +6,14 @@ use bounds::good::GoodWidth;
 use bounds::width::Width;
 use census::runs::print_runs;
 use census::sequence::Sequence;
+use census::widths::DRAWN;
 
 // A draw takes five numbers from the sequence. Exponents run from -352 to 287.
 pub(crate) fn print_draws(good: GoodWidth) {
     let n = good.bits as u64;
     let width = Width::from(good);
     let mut sequence = Sequence::of(1000 + n);
-    print_runs("draw", &[n], 0..4096, 256, |digest, _| {
+    print_runs("draw", &[n], 0..DRAWN, 256, |digest, _| {
         let bits = sequence.next_number();
         let m = bits >> (sequence.next_number() % 64);
         let k = (sequence.next_number() % 640) as i32 - 352;

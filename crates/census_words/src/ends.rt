@@ -1,4 +1,6 @@
 // Part 52: the writings and the roundings at both ends of a width, and just inside and outside of them.
+ghost use Rattle.std.specs.Prelude.{◌≤ℤ◌};
+
 use crate::long::{Long, take_roundings};
 use crate::midpoints::take_around;
 use crate::size::Size;
@@ -29,7 +31,9 @@ pub(crate) fn print_ends(good: GoodWidth) {
 }
 
 // Below a power of two the significand has its top bit only one place lower.
-fn just_below(long: Long) -> Long {
+fn just_below(long: Long) -> Long
+    ensures { result.k ≤ℤ long.k }
+{
     if long.high <= TOP_BIT {
         return Long {
             high: u64::MAX,

@@ -1,4 +1,6 @@
 // Long sizes (high * 2^64 + low) * 2^k, and their four roundings. No exponent of theirs comes near the ends of i32, but for those that part 44 names.
+ghost use Rattle.std.specs.Prelude.{◌≡◌, pos, ◌+ℤ◌, ◌≤ℤ◌};
+
 use crate::size::Size;
 use crate::writings::take_four;
 use bounds::width::Width;
@@ -15,14 +17,18 @@ pub(crate) struct Long {
 
 impl Long {
     // The lowest bit of a word's size in 128 bits, and that of a midpoint, is 0, so one more changes nothing else.
-    pub(crate) fn one_more(self) -> Long {
+    pub(crate) fn one_more(self) -> Long
+        ensures { result.k ≡ self.k }
+    {
         Long {
             low: self.low | 1,
             ..self
         }
     }
 
-    pub(crate) fn one_less(self) -> Long {
+    pub(crate) fn one_less(self) -> Long
+        ensures { result.k ≡ self.k }
+    {
         if self.low == 0 {
             return Long {
                 high: self.high.wrapping_sub(1),
@@ -37,7 +43,9 @@ impl Long {
     }
 
     // The same size without its factors two.
-    pub(crate) fn odd(self) -> Long {
+    pub(crate) fn odd(self) -> Long
+        ensures { (self.k ≤ℤ result.k) × (result.k ≤ℤ (self.k +ℤ pos 128)) }
+    {
         let twos = self.low.trailing_zeros();
         if twos < 64 {
             return Long {

@@ -1,4 +1,6 @@
 // Parts 41 and 42: the roundings of long values at and beside the midpoint between a word and the next one.
+ghost use Rattle.std.specs.Prelude.{◌≤ℤ◌};
+
 use crate::long::{Long, take_roundings};
 use crate::size::Size;
 use bounds::good::GoodWidth;
@@ -44,7 +46,9 @@ fn take_midway(digest: &mut Digest, width: Width, word: u64) {
 }
 
 // Half the sum of the sizes of two neighbours, both full, the higher one at most 64 above. Nothing of it is lost: words have so few digits.
-fn midpoint(low: Size, high: Size) -> Long {
+fn midpoint(low: Size, high: Size) -> Long
+    ensures { result.k ≤ℤ high.k }
+{
     let gap = high.k.abs_diff(low.k).min(64);
     if gap == 0 {
         // The sum has a bit more than they have, at the top.

@@ -13,22 +13,16 @@ const WIDEST_TO_ALL: u32 = 12;
 pub(crate) fn print_moves(good: GoodWidth) {
     let n = good.bits;
     let width = Width { bits: n };
-    print_runs(
-        "move",
-        &[n as u64],
-        0..words_of(good),
-        256,
-        |digest, word| {
-            if n <= WIDEST_TO_ALL {
-                take_moves_up_to(digest, width, Width::GREATEST, word);
-            } else {
-                take_moves_up_to(digest, width, 20, word);
-                for bits in [24, 32, 48, 57, 58, 63, 64] {
-                    take_moves(digest, width, Width { bits }, word);
-                }
+    print_runs("move", &[n as u64], 0..words_of(n), 256, |digest, word| {
+        if n <= WIDEST_TO_ALL {
+            take_moves_up_to(digest, width, Width::GREATEST, word);
+        } else {
+            take_moves_up_to(digest, width, 20, word);
+            for bits in [24, 32, 48, 57, 58, 63, 64] {
+                take_moves(digest, width, Width { bits }, word);
             }
-        },
-    );
+        }
+    });
 }
 
 fn take_moves_up_to(digest: &mut Digest, from: Width, last: u32, word: u64) {

@@ -1,4 +1,6 @@
 // Sizes m * 2^k: the size of a word, and the sizes that lie just below and just above a size. No exponent of theirs comes near the ends of i32.
+ghost use Rattle.std.specs.Prelude.{pos, negsuc, ◌+ℤ◌, ◌≤ℤ◌};
+
 use bounds::width::Width;
 use census::widths::TOP_BIT;
 use word::reading::{Kind, Reading, read};
@@ -11,7 +13,9 @@ pub(crate) struct Size {
 
 impl Size {
     // The size of a positive word, with an odd significand. Where the library reads no number, the size 0 has to show it.
-    pub(crate) fn of_word(width: Width, word: u64) -> Size {
+    pub(crate) fn of_word(width: Width, word: u64) -> Size
+        ensures { (negsuc 599 ≤ℤ result.k) × (result.k ≤ℤ pos 400) }
+    {
         match read(width, word) {
             Ok(
                 Reading {
@@ -28,7 +32,9 @@ impl Size {
     }
 
     // The same size without its factors two. Only zero has 64 of them.
-    pub(crate) fn odd(self) -> Size {
+    pub(crate) fn odd(self) -> Size
+        ensures { (self.k ≤ℤ result.k) × (result.k ≤ℤ (self.k +ℤ pos 64)) }
+    {
         let twos = self.m.trailing_zeros();
         if twos < 64 {
             return Size {
@@ -40,7 +46,9 @@ impl Size {
     }
 
     // The same size with the top bit of its significand set. Only zero has none to set.
-    pub(crate) fn full(self) -> Size {
+    pub(crate) fn full(self) -> Size
+        ensures { (self.k ≤ℤ (result.k +ℤ pos 64)) × (result.k ≤ℤ self.k) }
+    {
         let zeros = self.m.leading_zeros();
         if zeros < 64 {
             return Size {
@@ -52,7 +60,9 @@ impl Size {
     }
 
     // The next full size below a full size.
-    pub(crate) fn just_below(self) -> Size {
+    pub(crate) fn just_below(self) -> Size
+        ensures { result.k ≤ℤ self.k }
+    {
         if self.m <= TOP_BIT {
             return Size {
                 m: u64::MAX,
@@ -66,7 +76,9 @@ impl Size {
     }
 
     // The next full size above a full size.
-    pub(crate) fn just_above(self) -> Size {
+    pub(crate) fn just_above(self) -> Size
+        ensures { result.k ≤ℤ (self.k +ℤ pos 1) }
+    {
         if self.m < u64::MAX {
             return Size {
                 m: self.m + 1,

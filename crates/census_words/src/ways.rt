@@ -23,7 +23,7 @@ struct Way {
 // Part 57: by every b up to 16, and a c that changes with the word and with b, beside the next word.
 pub(crate) fn print_ways(good: GoodWidth) {
     let n = good.bits;
-    print_runs("way", &[n as u64], 0..words_of(good), 256, |digest, w| {
+    print_runs("way", &[n as u64], 0..words_of(n), 256, |digest, w| {
         let next = w.wrapping_add(1) & good.ones();
         for b in Width::LEAST..=WIDEST_WHOLE {
             let way = Way {

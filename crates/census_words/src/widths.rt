@@ -6,7 +6,7 @@ use census::line::{print_end, print_number, print_text};
 // A width of this part is never refused; where the library refuses it all the same, the line has to show it.
 pub(crate) fn print_width(good: GoodWidth) {
     let width = Width::from(good);
-    print_text("width");
+    print_text(b"width");
     print_number(good.bits as u64);
     for answer in [
         width.largest(),
@@ -16,7 +16,7 @@ pub(crate) fn print_width(good: GoodWidth) {
     ] {
         match answer {
             Ok(number) => print_number(number),
-            Err(_) => print_text(" refused"),
+            Err(_) => print_text(b" refused"),
         }
     }
     print_end();

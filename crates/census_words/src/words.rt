@@ -12,20 +12,14 @@ use census::widths::{WIDEST_WHOLE, words_of};
 pub(crate) fn print_words(width: GoodWidth) {
     let n = width.bits;
     let mut sequence = Sequence::of(n as u64);
-    print_runs(
-        "word",
-        &[n as u64],
-        0..words_of(width),
-        256,
-        |digest, place| {
-            let word = if n <= WIDEST_WHOLE {
-                place
-            } else {
-                sequence.next_word(width)
-            };
-            take_facts(digest, width, word, sequence.next_word(width));
-        },
-    );
+    print_runs("word", &[n as u64], 0..words_of(n), 256, |digest, place| {
+        let word = if n <= WIDEST_WHOLE {
+            place
+        } else {
+            sequence.next_word(width)
+        };
+        take_facts(digest, width, word, sequence.next_word(width));
+    });
 }
 
 // Part 4: each power of two and the word just below it.

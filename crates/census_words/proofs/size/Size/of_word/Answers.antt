@@ -29,11 +29,13 @@ module _ (n w : ℕ) (i : IsWord n w) (s : Bool) (h : ℤ) (m l : ℕ) (x : IsNu
       holds n w i (λ q. number_not_zero (takum n w) (fraction_bits n w) s h m l x (ap (takum n) q ∙ takum_zero n))
       (λ q. number_not_NaR (takum n w) (fraction_bits n w) s h m l x (takum_NaR n w i.least i.most q))
 
+  same : Kind.Number held.sign held.h held.m (fraction_bits n w) ≡ Kind.Number s h m l
+  unfolding IsKind
+  same = kind_one (takum n w) (fraction_bits n w) (Kind.Number held.sign held.h held.m (fraction_bits n w)) (Kind.Number s h m l) held.number x
+
   small : mag h ≤ 255
-  unfolding IsKind exponent
-  small =
-      subst (λ (z : ℤ). mag z ≤ 255)
-      (ap exponent (kind_one (takum n w) (fraction_bits n w) (Kind.Number held.sign held.h held.m (fraction_bits n w)) (Kind.Number s h m l) held.number x)) held.small
+  unfolding exponent
+  small = subst (λ (z : ℤ). mag z ≤ 255) (ap exponent same) held.small
 
   few : l ≤ 59
   unfolding fraction_bits p N

@@ -31,6 +31,13 @@ pub(crate) enum Ending {
     TooLong { bytes: u64 },
 }
 
+// Where the listing goes on: how many bytes have come, and how many blocks are listed, all that are whole. The blocks are for the contract alone.
+#[derive(Clone, Copy)]
+struct SoFar {
+    bytes: u64,
+    blocks: u64,
+}
+
 // Lists all blocks of the input. A proved loop has to end, and nothing says that an input does: it ends after 2^60 bytes, which no run has.
 pub(crate) fn list_all(rt: HostRuntime, counts: &mut Counts) -> Ending
     ensures { IsEnding result }
@@ -40,7 +47,7 @@ pub(crate) fn list_all(rt: HostRuntime, counts: &mut Counts) -> Ending
     let mut total = 0;
     while total < 1 << 60 {
         match list_piece(rt, &mut piece, &mut text, total, counts) {
-            ControlFlow::Continue(so_far) => total = so_far,
+            ControlFlow::Continue(so_far) => total = so_far.bytes,
             ControlFlow::Break(ending) => return ending,
         }
     }
@@ -48,7 +55,7 @@ pub(crate) fn list_all(rt: HostRuntime, counts: &mut Counts) -> Ending
 }
 
 // One read behind the `total` bytes that came before, and what it makes whole goes out. A piece of a block waits for its rest, until none comes. It goes
-// on with the bytes that have come now, or ends. The buffers are lent as slices: tried as arrays, what is cut from one leaves goals open, under the checker's
+// on with what came and is listed now, or ends. The buffers are lent as slices: tried as arrays, what is cut from one leaves goals open, under the checker's
 // own names. They are no struct: beside what is lent to write it can't hold that the lengths are these.
 fn list_piece(
     rt: HostRuntime,
@@ -56,7 +63,7 @@ fn list_piece(
     text: &mut [u8],
     total: u64,
     counts: &mut Counts,
-) -> ControlFlow<Ending, u64>
+) -> ControlFlow<Ending, SoFar>
     requires { (length piece.old ≡ 8192) × (length text.old ≡ 761856) × (total < 2 ^ 60) }
     ensures { GoesOn total result }
 {
@@ -71,7 +78,10 @@ fn list_piece(
             bytes: total,
             blocks: run.place,
         }),
-        Some(count) => ControlFlow::Continue(total + count as u64),
+        Some(count) => ControlFlow::Continue(SoFar {
+            bytes: total + count as u64,
+            blocks: run.place,
+        }),
     }
 }
 

@@ -10,7 +10,7 @@ loop-total-init c = (length-replicate {A = â„•} 8192 0, length-replicate {A = â„
 pub loop-total-smaller : goal.loop-total-smaller
 unfolding GoesOn
 loop-total-smaller c =
-    let more : c.loop-total.total < c.in-Continue.so_far = c.in-Continue.ensures in
+    let more : c.loop-total.total < c.in-Continue.so_far.bytes = c.in-Continue.ensures.0 in
     omega (arith, more, c.loop-total-test.true)
 
 pub returns-in-Break : goal.returns-in-Break

@@ -1,5 +1,5 @@
 -- `list_piece` meets its contract: it goes on only where bytes came, and is complete only where none did and the text is written. Assumes nothing.
-use Rattle.std.proofs.Common.{ℕ, ◌≤◌, length, Option, sym, ap, ◌∙◌, arith, length-take-le}
+use Rattle.std.proofs.Common.{◌≡◌, ℕ, ◌+◌, ◌/◌, ◌≤◌, length, Option, sym, ap, ◌∙◌, arith, length-take-le}
 use Rattle.std.specs.Option.{unwrap_or}
 use Rattle.listing.specs.Puts.{PutsSome}
 use Rattle.listing.proofs.Placed as Placed
@@ -35,5 +35,9 @@ returns-in-Some-eq0 c =
 
 pub returns-in-Some : goal.returns-in-Some
 unfolding GoesOn IsEnding
-returns-in-Some c = let not_0 = rw c.in-Some.is at c.in-Some.count-test.1 in
-    omega (arith, not_0)
+returns-in-Some c =
+    let some = c.in-Some in
+    let not_0 = rw some.is at some.count-test.1 in
+    let got : c.unwrap_or.result ≡ some.count = c.unwrap_or.ensures ∙ ap (λ (o : Option ℕ). unwrap_or o 0) some.is in
+    let place = c.put_arrived-run.ensures.3 (omega (arith, not_0, got)) ∙ ap (λ (n : ℕ). (c.args.total + n) / 512) got in
+    omega (arith, not_0, place)

@@ -14,9 +14,14 @@ pub fn move_word(from: Width, to: Width, rule: Rule, word: u64) -> Result<Writte
 {
     // Both widths are refused alike, so the target's may be tested first.
     let good = to.good()?;
-    match read_size(from, word)? {
-        WordSize::Zero => Ok(Written::exactly(0)),
-        WordSize::Nar => Ok(Written::exactly(good.nar())),
-        WordSize::Number(size) => write_size(to, rule, size),
-    }
+    let written = match read_size(from, word)? {
+        WordSize::Zero => Written::exactly(0),
+        WordSize::Nar => Written::exactly(good.nar()),
+        WordSize::Number(size) => write_size(to, rule, size)?,
+    };
+    // Made anew of its fields: handed on whole, the compiler sends it through the stack twice, for the bytes that pad it, and a move waits for that.
+    Ok(Written {
+        word: written.word,
+        saying: written.saying,
+    })
 }
